@@ -1,0 +1,147 @@
+//! A growable sequence that contracts see as a plain list.
+ghost use Rattle.std.specs.Prelude.{◌≡◌, ℕ, ◌+◌, ◌<◌, [], ◌∷◌, ◌++◌, length, OnOk, OnErr, slice_set, slice_get, slice_index_or, MatchResult};
+ghost use Rattle.std.specs.List.{AllZip};
+ghost use Rattle.std.specs.Cmp.{on_equiv, on_total, on_po, on_per};
+ghost use Rattle.std.specs.Cmp.Lexicographic.{pointwise, slice_cmp, slice_partial_cmp, lists_per, lists_equiv, lists_po, lists_total, lists_agrees, lists_ties};
+ghost use Rattle.std.specs.Borrow.{sem};
+ghost use Rattle.std.specs.Hash as fed;
+ghost use Rattle.std.specs.Hash.{on_Alike, items_Alike};
+
+use std::alloc::{AllocError, Global};
+use std::cmp::Ordering;
+use std::fmt;
+use std::hash::{Hash, Hasher};
+use std::marker::Model;
+
+/// A sequence in memory. Two are equal where their items are, whatever room they keep.
+#[derive(Drop)]
+pub struct Seq<T> {
+    items: Vec<T>,
+}
+
+impl<T> Model for Seq<T> {
+    ghost use Rattle.std.specs.Prelude.{List};
+
+    ghost Value = { List T };
+
+    ghost view = { λ s. s.items.items };
+}
+
+impl<T> Seq<T> {
+    ghost use Rattle.tso_list.specs.Lending.{LendsItems, LendsItem};
+
+    pub fn new(alloc: Global) -> Self
+        ensures { result ≡ [] }
+    {
+        Seq {
+            items: Vec::new(alloc),
+        }
+    }
+
+    pub fn from_vec(items: Vec<T>) -> Self
+        ensures { result ≡ items.items }
+    {
+        Seq { items }
+    }
+
+    pub fn len(&self) -> usize
+        ensures { result ≡ length self.now }
+    {
+        self.items.len()
+    }
+
+    pub fn as_slice(&self) -> &[T]
+        ensures { result.now ≡ self.now }
+    {
+        self.items.as_slice()
+    }
+
+    pub fn as_mut_slice(&mut self) -> &mut [T]
+        ensures* writes_back { sem 𝓛 (LendsItems T.row self.entry result) }
+        ensures value { result.now ≡ self.old }
+    {
+        self.items.as_mut_slice()
+    }
+
+    /// The item at `index`, to be written.
+    pub fn at_mut(&mut self, index: usize) -> &mut T
+        requires { index < length self.old }
+        ensures* writes_back { sem 𝓛 (LendsItem T.row self.entry index result) }
+        ensures value { result.now ≡ slice_index_or self.old index result.now }
+    {
+        &mut self.items[index]
+    }
+
+    pub fn push(&mut self, item: T) -> Result<(), AllocError>
+    where
+        T: Drop,
+        ensures ok { OnOk result (self.new ≡ self.old ++ item ∷ []) }
+        ensures err { OnErr result (self.new ≡ self.old) }
+    {
+        self.items.push(item)?;
+        Ok(())
+    }
+}
+
+impl<T: Clone> Clone for Seq<T> {
+    ghost is_clone = { λ v w. AllZip T.is_clone v w };
+
+    fn clone(&self) -> Result<Self, AllocError> {
+        let items = self.items.clone()?;
+        Ok(Seq { items })
+    }
+}
+
+impl<T: PartialEq> PartialEq for Seq<T> {
+    ghost eq = { λ v w. pointwise T.eq v w };
+
+    ghost laws = { lists_per T.laws };
+
+    fn eq(&self, other: &Self) -> bool {
+        self.as_slice() == other.as_slice()
+    }
+}
+
+impl<T: Eq> Eq for Seq<T> {
+    ghost laws = { lists_equiv T.Eq.laws };
+}
+
+impl<T: PartialOrd> PartialOrd for Seq<T> {
+    ghost partial_cmp = { λ v w. slice_partial_cmp T.partial_cmp v w };
+
+    ghost laws = { lists_po T.PartialOrd.laws };
+
+    fn partial_cmp(&self, other: &Self) -> Option<Ordering> {
+        self.as_slice().partial_cmp(&other.as_slice())
+    }
+}
+
+impl<T: Ord> Ord for Seq<T> {
+    ghost cmp = { λ v w. slice_cmp T.cmp v w };
+
+    ghost total = { lists_total T.total };
+
+    ghost matches_partial_cmp = { λ v w. lists_agrees T.matches_partial_cmp v w };
+
+    ghost matches_eq = { λ v w. lists_ties T.cmp T.matches_eq v w };
+
+    fn cmp(&self, other: &Self) -> Ordering {
+        self.as_slice().cmp(&other.as_slice())
+    }
+}
+
+impl<T: Hash> Hash for Seq<T> {
+    ghost hash_input = { λ v. fed.slice T.hash_input v };
+
+    ghost respects_eq = { (items_Alike (record { fed = T.respects_eq })).fed };
+
+    fn hash<H: Hasher>(&self, state: &mut H) {
+        self.as_slice().hash(state);
+    }
+}
+
+impl<T: fmt::Debug> fmt::Debug for Seq<T> {
+    fn fmt<W: fmt::Write>(&self, f: &mut fmt::Formatter<W>) -> fmt::Result {
+        f.debug_list().entries(self.as_slice()).finish()
+    }
+}

@@ -1,0 +1,2 @@
+pub mod LexFaults
+pub mod Limits

@@ -1,0 +1,48 @@
+//! What a program text denotes.
+
+ghost use Rattle.std.specs.Prelude.{◌≡◌, ◌+◌, ◌<◌, ◌≤◌, length, sum_by, IsTrue};
+ghost use Rattle.tso_prog.specs.Limits.{are_bounds_small, are_targets_within};
+
+use tso_line::{CallKind, Instruction, Mode};
+use tso_list::Seq;
+
+/// An array of words, with its name and what it holds at first.
+#[derive(Debug, Drop)]
+pub struct Array {
+    pub name: Seq<u8>,
+    pub words: Seq<u64>,
+}
+
+/// An instruction whose array is its number in the list of arrays, and whose label is the position of an instruction.
+pub type Step = Instruction<usize, usize>;
+
+/// The instructions of push or of pop, each with the line that it stands on.
+#[derive(Debug, Drop)]
+pub struct Procedure {
+    pub instructions: Seq<Step>,
+    pub lines: Seq<u32>,
+    ghost each_has_line: { length lines ≡ length instructions },
+    ghost small_bounds: { IsTrue (are_bounds_small instructions) },
+    ghost targets_within: { IsTrue (are_targets_within (length instructions) instructions) },
+}
+
+/// A program: the queue's capacity and mode, its arrays and procedures, and the calls of each thread.
+#[derive(Debug, Drop)]
+pub struct Client {
+    /// From 1 to 16.
+    pub capacity: u8,
+    pub mode: Mode,
+    /// At most 16, of at most 256 words in all.
+    pub arrays: Seq<Array>,
+    pub push: Procedure,
+    pub pop: Procedure,
+    /// The calls that run alone, and are drained, before any thread starts; empty where the text has none.
+    pub prologue: Seq<CallKind>,
+    /// From 1 to 4 threads.
+    pub threads: Seq<Seq<CallKind>>,
+    ghost few_arrays: { length arrays ≤ 16 },
+    ghost few_words: { sum_by (λ a. length a.words) arrays ≤ 256 },
+    ghost few_instructions: { length push.instructions + length pop.instructions ≤ 256 },
+    ghost few_threads: { length threads ≤ 4 },
+    ghost few_calls: { length prologue + sum_by (λ calls. length calls) threads ≤ 12 },
+}

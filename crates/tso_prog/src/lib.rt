@@ -1,0 +1,11 @@
+//! Programs: two procedures of a queue in assembly, with the arrays that they use and the calls of each thread.
+#![tactic(auto)]
+
+mod client;
+mod fault;
+
+pub use client::{Array, Client, Procedure, Step};
+pub use fault::{Code, Fault, ReadError};
+pub use tso_line::{
+    Address, CallKind, Comparison, Instruction, LockedOperation, Mode, Operation, Register, Source,
+};
