@@ -1,2 +1,3 @@
 pub mod LexFaults
 pub mod Limits
+pub mod Views

@@ -1,9 +1,11 @@
 //! Programs: two procedures of a queue in assembly, with the arrays that they use and the calls of each thread.
 #![tactic(auto)]
 
+mod answer;
 mod client;
 mod fault;
 
+pub use answer::Answer;
 pub use client::{Array, Client, Procedure, Step};
 pub use fault::{Code, Fault, ReadError};
 pub use tso_line::{
