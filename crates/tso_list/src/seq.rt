@@ -1,6 +1,8 @@
 //! A growable sequence that contracts see as a plain list.
-ghost use Rattle.std.specs.Prelude.{◌≡◌, ℕ, ◌+◌, ◌<◌, [], ◌∷◌, ◌++◌, length, OnOk, OnErr, slice_set, slice_get, slice_index_or, MatchResult};
+
+ghost use Rattle.std.specs.Prelude.{◌≡◌, ℕ, ◌+◌, ◌<◌, [], ◌∷◌, ◌++◌, length, OnOk, OnErr, slice_get, slice_index_or, option_to_list, ◌==◌, ◌-◌, take};
 ghost use Rattle.std.specs.List.{AllZip};
+ghost use Rattle.std.specs.Option.{option_copied};
 ghost use Rattle.std.specs.Cmp.{on_equiv, on_total, on_po, on_per};
 ghost use Rattle.std.specs.Cmp.Lexicographic.{pointwise, slice_cmp, slice_partial_cmp, lists_per, lists_equiv, lists_po, lists_total, lists_agrees, lists_ties};
 ghost use Rattle.std.specs.Borrow.{sem};
@@ -30,6 +32,7 @@ impl<T> Model for Seq<T> {
 impl<T> Seq<T> {
     ghost use Rattle.tso_list.specs.Lending.{LendsItems, LendsItem};
 
+    /// An empty sequence.
     pub fn new(alloc: Global) -> Self
         ensures { result ≡ [] }
     {
@@ -38,24 +41,28 @@ impl<T> Seq<T> {
         }
     }
 
+    /// The sequence of a vector's items.
     pub fn from_vec(items: Vec<T>) -> Self
         ensures { result ≡ items.items }
     {
         Seq { items }
     }
 
+    /// How many items there are.
     pub fn len(&self) -> usize
         ensures { result ≡ length self.now }
     {
         self.items.len()
     }
 
+    /// The items.
     pub fn as_slice(&self) -> &[T]
         ensures { result.now ≡ self.now }
     {
         self.items.as_slice()
     }
 
+    /// The items, to be written; their number stays.
     pub fn as_mut_slice(&mut self) -> &mut [T]
         ensures* writes_back { sem 𝓛 (LendsItems T.row self.entry result) }
         ensures value { result.now ≡ self.old }
@@ -72,6 +79,29 @@ impl<T> Seq<T> {
         &mut self.items[index]
     }
 
+    /// Whether there are no items.
+    pub fn is_empty(&self) -> bool
+        ensures { result ≡ (length self.now == 0) }
+    {
+        self.items.is_empty()
+    }
+
+    /// The item at `index`, if there are so many.
+    pub fn get(&self, index: usize) -> Option<&T>
+        ensures { option_copied result ≡ slice_get self.now index }
+    {
+        self.items.as_slice().get(index)
+    }
+
+    /// Takes the last item.
+    pub fn pop(&mut self) -> Option<T>
+        ensures last { self.old ≡ self.new ++ option_to_list result }
+        ensures rest { self.new ≡ take (length self.old - 1) self.old }
+    {
+        self.items.pop()
+    }
+
+    /// Adds an item at the end. Want of memory leaves the sequence as it was.
     pub fn push(&mut self, item: T) -> Result<(), AllocError>
     where
         T: Drop,

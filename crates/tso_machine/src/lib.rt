@@ -1,11 +1,16 @@
 //! The label machine of x86-TSO: memory, a lock, and for each thread a core and a store buffer.
 #![tactic(auto)]
 
-
 mod action;
+mod change;
 mod frame;
+mod label;
+mod machine;
 mod place;
 
-
 pub use action::{Action, FaultKind, next_action, procedure_of};
+pub use change::{Change, ChangeBack};
 pub use frame::{Frame, Patch, ProcedureName};
+pub use label::{Label, LabelKind};
+pub use machine::{Buffer, Core, Entry, Machine, Running, Stage, Thread};
+pub use place::place_at;
