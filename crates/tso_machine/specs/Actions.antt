@@ -8,7 +8,7 @@ use Rattle.tso_machine.specs.declared.action.FaultKind.TheVariants as faults
 use Rattle.tso_machine.specs.declared.frame.Frame.{Frame}
 use Rattle.tso_machine.specs.declared.frame.ProcedureName.{ProcedureName}
 use Rattle.tso_machine.specs.Activations.{Activation, activation}
-use Rattle.tso_machine.specs.Frames.{patched}
+use Rattle.tso_machine.specs.Frames.{patched, FitsFrame}
 use Rattle.tso_machine.specs.Instructions.{at_position, with_register, exchanged, new_word}
 use Rattle.tso_model.specs.Programs as model
 
@@ -27,3 +27,8 @@ meaning name f (code.Locked place operation r next) = model.Locked place (new_wo
 meaning name f (code.Return answer) = model.Ret (answer_view answer)
 meaning name f (code.Fault kind) = model.Fail (fault_view kind)
 meaning name f code.Cut = model.Cut
+
+-- the counts that it changes are there
+abbrev pub FitsAction : Frame → Action → Type 0
+FitsAction f (code.Silent patch) = FitsFrame f patch
+FitsAction f _ = Unit {0}

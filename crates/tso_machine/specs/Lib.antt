@@ -4,5 +4,7 @@ pub mod Changes
 pub mod Frames
 pub mod Instructions
 pub mod Machines
+pub mod Offers
 pub mod Places
+pub mod Programs
 pub mod Registers

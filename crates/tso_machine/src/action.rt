@@ -2,7 +2,7 @@
 
 ghost use Rattle.std.specs.Prelude.{◌≡◌, ◌<◌, ◌≤◌, length, take, None};
 ghost use Rattle.tso_machine.specs.Activations.{activation};
-ghost use Rattle.tso_machine.specs.Actions.{meaning};
+ghost use Rattle.tso_machine.specs.Actions.{meaning, FitsAction};
 ghost use Rattle.tso_machine.specs.Frames.{patched, register_of};
 ghost use Rattle.tso_word.specs.Word.{sum, difference, sum_flags, difference_flags, with_carry};
 ghost use Rattle.tso_machine.specs.Instructions.{advanced, with_register, with_flags, back_jumps, is_back_jump, is_taken, instruction_action, next_action, instructions_of, jump, returned, computed, computed_flags, compared_flags};
@@ -73,7 +73,8 @@ pub fn procedure_of(client: &Client, name: ProcedureName) -> &Procedure
 /// What the next instruction of a call of this procedure does in this frame.
 #[tactic(auto, unfolding(crate::specs::Instructions::next_action))]
 pub fn next_action(client: &Client, name: ProcedureName, frame: &Frame) -> Action
-    ensures { meaning name frame.now result ≡ next_action client.now (activation name frame.now) }
+    ensures is { meaning name frame.now result ≡ next_action client.now (activation name frame.now) }
+    ensures fits { FitsAction frame.now result }
 {
     let instructions = procedure_of(client, name).instructions.as_slice();
     match instructions.get(frame.pc) {
@@ -85,7 +86,8 @@ pub fn next_action(client: &Client, name: ProcedureName, frame: &Frame) -> Actio
 fn action_of(client: &Client, name: ProcedureName, frame: &Frame, step: Step) -> Action
     requires there { frame.now.pc < length (instructions_of client.now name) }
     requires few { length (instructions_of client.now name) ≤ 256 }
-    ensures { meaning name frame.now result ≡ instruction_action client.now name frame.now step }
+    ensures is { meaning name frame.now result ≡ instruction_action client.now name frame.now step }
+    ensures fits { FitsAction frame.now result }
 {
     let next = frame.pc + 1;
     match step {
@@ -168,7 +170,8 @@ fn unchanged(frame: &Frame) -> Patch
 // The frame at the next instruction, with a word in a register.
 fn written(frame: &Frame, to: Register, word: u64) -> Patch
     requires { frame.now.pc < 256 }
-    ensures { patched frame.now result ≡ advanced (with_register to word frame.now) }
+    ensures taken { result.taken ≡ None }
+    ensures after { patched frame.now result ≡ advanced (with_register to word frame.now) }
 {
     Patch {
         register: Some((to, word)),
@@ -179,7 +182,8 @@ fn written(frame: &Frame, to: Register, word: u64) -> Patch
 // What is computed of a register and a word, in the register.
 fn computed(frame: &Frame, operation: Operation, to: Register, word: u64) -> Patch
     requires { frame.now.pc < 256 }
-    ensures { patched frame.now result ≡ advanced (with_flags (computed_flags operation (register_of frame.now to) word) (with_register to (computed operation (register_of frame.now to) word) frame.now)) }
+    ensures taken { result.taken ≡ None }
+    ensures after { patched frame.now result ≡ advanced (with_flags (computed_flags operation (register_of frame.now to) word) (with_register to (computed operation (register_of frame.now to) word) frame.now)) }
 {
     let old = frame.register(to);
     let (word, flags) = match operation {
@@ -196,7 +200,8 @@ fn computed(frame: &Frame, operation: Operation, to: Register, word: u64) -> Pat
 // The flags of a comparison.
 fn compared(frame: &Frame, comparison: Comparison, left: Register, right: u64) -> Patch
     requires { frame.now.pc < 256 }
-    ensures { patched frame.now result ≡ advanced (with_flags (compared_flags comparison (register_of frame.now left) right) frame.now) }
+    ensures taken { result.taken ≡ None }
+    ensures after { patched frame.now result ≡ advanced (with_flags (compared_flags comparison (register_of frame.now left) right) frame.now) }
 {
     let left = frame.register(left);
     let (_, flags) = match comparison {
@@ -211,7 +216,8 @@ fn compared(frame: &Frame, comparison: Comparison, left: Register, right: u64) -
 
 fn counted_up(frame: &Frame, register: Register) -> Patch
     requires { frame.now.pc < 256 }
-    ensures { patched frame.now result ≡ advanced (with_flags (with_carry frame.now.flags.cf (sum_flags (register_of frame.now register) 1)) (with_register register (sum (register_of frame.now register) 1) frame.now)) }
+    ensures taken { result.taken ≡ None }
+    ensures after { patched frame.now result ≡ advanced (with_flags (with_carry frame.now.flags.cf (sum_flags (register_of frame.now register) 1)) (with_register register (sum (register_of frame.now register) 1) frame.now)) }
 {
     let (word, flags) = tso_word::inc(frame.register(register), frame.flags);
     Patch {
@@ -222,7 +228,8 @@ fn counted_up(frame: &Frame, register: Register) -> Patch
 
 fn counted_down(frame: &Frame, register: Register) -> Patch
     requires { frame.now.pc < 256 }
-    ensures { patched frame.now result ≡ advanced (with_flags (with_carry frame.now.flags.cf (difference_flags (register_of frame.now register) 1)) (with_register register (difference (register_of frame.now register) 1) frame.now)) }
+    ensures taken { result.taken ≡ None }
+    ensures after { patched frame.now result ≡ advanced (with_flags (with_carry frame.now.flags.cf (difference_flags (register_of frame.now register) 1)) (with_register register (difference (register_of frame.now register) 1) frame.now)) }
 {
     let (word, flags) = tso_word::dec(frame.register(register), frame.flags);
     Patch {
@@ -241,7 +248,7 @@ fn is_taken(when: Option<Condition>, flags: Flags) -> bool
 }
 
 // How many of these first steps of a procedure are back jumps.
-fn back_jumps(steps: &[Step]) -> usize
+pub fn back_jumps(steps: &[Step]) -> usize
     ensures { result ≡ back_jumps 0 steps.now }
 {
     let mut count = 0;
@@ -271,7 +278,8 @@ fn jump(
     bound: Option<u8>,
 ) -> Action
     requires { frame.now.pc < length (instructions_of client.now name) }
-    ensures { meaning name frame.now result ≡ jump name frame.now (back_jumps 0 (take frame.now.pc (instructions_of client.now name))) target bound }
+    ensures is { meaning name frame.now result ≡ jump name frame.now (back_jumps 0 (take frame.now.pc (instructions_of client.now name))) target bound }
+    ensures fits { FitsAction frame.now result }
 {
     if target > frame.pc {
         return Action::Silent(Patch {
@@ -294,7 +302,8 @@ fn jump(
 }
 
 fn return_of(name: ProcedureName, frame: &Frame) -> Action
-    ensures { meaning name frame.now result ≡ returned name frame.now }
+    ensures is { meaning name frame.now result ≡ returned name frame.now }
+    ensures fits { FitsAction frame.now result }
 {
     match frame.register(Register::Rax) {
         0 => Action::Return(Answer::Refused),

@@ -2,15 +2,19 @@
 #![tactic(auto)]
 
 mod action;
+mod calls;
 mod change;
 mod frame;
 mod label;
 mod machine;
+mod offer;
 mod place;
 
 pub use action::{Action, FaultKind, next_action, procedure_of};
+pub use calls::{calls_of, next_call};
 pub use change::{Change, ChangeBack};
 pub use frame::{Frame, Patch, ProcedureName};
 pub use label::{Label, LabelKind};
 pub use machine::{Buffer, Core, Entry, Machine, Running, Stage, Thread};
+pub use offer::{Offer, word_seen};
 pub use place::place_at;
