@@ -1,2 +1,4 @@
 pub mod CallLists
 pub mod Outside
+pub mod QueueLemmas
+pub mod Views

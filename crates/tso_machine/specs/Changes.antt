@@ -7,14 +7,14 @@ use Rattle.tso_machine.specs.declared.change.ChangeBack.{ChangeBack}
 use Rattle.tso_machine.specs.declared.change.ChangeBack.TheVariants as backs
 use Rattle.tso_machine.specs.declared.frame.Frame.{Frame}
 use Rattle.tso_machine.specs.declared.frame.ProcedureName.{ProcedureName}
-use Rattle.tso_machine.specs.declared.machine.Buffer.{Buffer}
 use Rattle.tso_machine.specs.declared.machine.Core.{Core}
 use Rattle.tso_machine.specs.declared.machine.Core.TheVariants.{Idle, Running, Stopped}
-use Rattle.tso_machine.specs.declared.machine.Entry.{Entry}
+use Rattle.tso_machine.specs.declared.buffer.Entry.{Entry}
 use Rattle.tso_machine.specs.declared.machine.Running.{Running as Call}
 use Rattle.tso_machine.specs.declared.machine.Stage.TheVariants.{Outside, HasRead, HasWritten}
 use Rattle.tso_machine.specs.declared.machine.Thread.{Thread}
 use Rattle.tso_machine.specs.Frames.{patched, FitsFrame}
+use Rattle.tso_machine.specs.Queue.{pushed, popped, drained, undrained}
 
 -- all registers and flags 0 but RDI, and no back jump taken
 abbrev pub first_frame : ℕ → ℕ → Frame
@@ -34,35 +34,28 @@ running_after Idle f = Idle
 running_after (Running r) f = Running (f r)
 running_after Stopped f = Stopped
 
-abbrev pub appended : Buffer → Entry → Buffer
-appended b e = record b { entries = b.entries ++ e ∷ [] }
-
--- the last entry taken back
-abbrev pub shortened : Buffer → Buffer
-shortened b = record b { entries = take (length b.entries - 1) b.entries }
-
 -- the thread after a change
 abbrev pub thread_after : Thread → Change → Thread
 thread_after t (changes.Begin name argument jumps) = record t { begun = t.begun + 1; core = Running (first_running name argument jumps) }
 thread_after t (changes.Run patch) = record t { core = running_after t.core (λ r. record r { frame = patched r.frame patch }) }
-thread_after t (changes.Store entry next) = record t { core = running_after t.core (λ r. record r { frame = record r.frame { pc = next } }); buffer = appended t.buffer entry }
+thread_after t (changes.Store entry next) = record t { core = running_after t.core (λ r. record r { frame = record r.frame { pc = next } }); buffer = pushed t.buffer entry }
 thread_after t (changes.Go stage) = record t { core = running_after t.core (λ r. record r { stage = stage }) }
-thread_after t (changes.WriteLocked old entry) = record t { core = running_after t.core (λ r. record r { stage = HasWritten old }); buffer = appended t.buffer entry }
+thread_after t (changes.WriteLocked old entry) = record t { core = running_after t.core (λ r. record r { stage = HasWritten old }); buffer = pushed t.buffer entry }
 thread_after t (changes.Unlock patch) = record t { core = running_after t.core (λ r. record r { frame = patched r.frame patch; stage = Outside }) }
 thread_after t changes.Return = record t { core = Idle }
 thread_after t changes.Stop = record t { core = Stopped }
-thread_after t changes.Drain = record t { buffer = record t.buffer { drained = t.buffer.drained + 1 } }
+thread_after t changes.Drain = record t { buffer = drained t.buffer }
 
 -- the thread before it
 abbrev pub thread_before : Thread → ChangeBack → Thread
 thread_before t backs.Begin = record t { begun = t.begun - 1; core = Idle }
 thread_before t (backs.Run patch) = record t { core = running_after t.core (λ r. record r { frame = patched r.frame patch }) }
-thread_before t (backs.Store next) = record t { core = running_after t.core (λ r. record r { frame = record r.frame { pc = next } }); buffer = shortened t.buffer }
+thread_before t (backs.Store next) = record t { core = running_after t.core (λ r. record r { frame = record r.frame { pc = next } }); buffer = popped t.buffer }
 thread_before t (backs.Go stage) = record t { core = running_after t.core (λ r. record r { stage = stage }) }
-thread_before t (backs.WriteLocked old) = record t { core = running_after t.core (λ r. record r { stage = HasRead old }); buffer = shortened t.buffer }
+thread_before t (backs.WriteLocked old) = record t { core = running_after t.core (λ r. record r { stage = HasRead old }); buffer = popped t.buffer }
 thread_before t (backs.Unlock patch stage) = record t { core = running_after t.core (λ r. record r { frame = patched r.frame patch; stage = stage }) }
 thread_before t (backs.Leave core) = record t { core = core }
-thread_before t backs.Drain = record t { buffer = record t.buffer { drained = t.buffer.drained - 1 } }
+thread_before t backs.Drain = record t { buffer = undrained t.buffer }
 
 -- the core runs a call, and the fact holds of it
 abbrev pub IsRunningWith : Core → (Call → Type 0) → Type 0
@@ -80,7 +73,7 @@ IsIdle Stopped = ⊥
 
 -- the change can be made of this thread
 abbrev pub FitsChange : Thread → Change → Type 0
-FitsChange t (changes.Begin name argument jumps) = IsIdle t.core × (t.begun < 2 ^ 32)
+FitsChange t (changes.Begin name argument jumps) = IsIdle t.core × (t.begun + 1 < 2 ^ 64)
 FitsChange t (changes.Run patch) = IsRunningWith t.core (λ r. FitsFrame r.frame patch)
 FitsChange t (changes.Store entry next) = IsRunning t.core
 FitsChange t (changes.Go stage) = IsRunning t.core
@@ -88,15 +81,15 @@ FitsChange t (changes.WriteLocked old entry) = IsRunningWith t.core (λ r. r.sta
 FitsChange t (changes.Unlock patch) = IsRunningWith t.core (λ r. FitsFrame r.frame patch)
 FitsChange t changes.Return = Unit {0}
 FitsChange t changes.Stop = Unit {0}
-FitsChange t changes.Drain = t.buffer.drained < length t.buffer.entries
+FitsChange t changes.Drain = 0 < length t.buffer.live
 
 -- the change can be taken back of this thread
 abbrev pub FitsBack : Thread → ChangeBack → Type 0
 FitsBack t backs.Begin = 0 < t.begun
 FitsBack t (backs.Run patch) = IsRunningWith t.core (λ r. FitsFrame r.frame patch)
-FitsBack t (backs.Store next) = IsRunning t.core × (0 < length t.buffer.entries)
+FitsBack t (backs.Store next) = IsRunning t.core × (0 < length t.buffer.live)
 FitsBack t (backs.Go stage) = IsRunning t.core
-FitsBack t (backs.WriteLocked old) = IsRunning t.core × (0 < length t.buffer.entries)
+FitsBack t (backs.WriteLocked old) = IsRunning t.core × (0 < length t.buffer.live)
 FitsBack t (backs.Unlock patch stage) = IsRunningWith t.core (λ r. FitsFrame r.frame patch)
 FitsBack t (backs.Leave core) = Unit {0}
-FitsBack t backs.Drain = 0 < t.buffer.drained
+FitsBack t backs.Drain = 0 < length t.buffer.past

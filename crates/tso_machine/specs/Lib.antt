@@ -7,4 +7,5 @@ pub mod Machines
 pub mod Offers
 pub mod Places
 pub mod Programs
+pub mod Queue
 pub mod Registers

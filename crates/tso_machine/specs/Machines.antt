@@ -1,15 +1,15 @@
 -- The code's machines and labels as those of the model.
-use Rattle.std.specs.Prelude.{ℕ, List, map, drop, slice_index_or}
+use Rattle.std.specs.Prelude.{ℕ, map}
 use Rattle.tso_prog.specs.Views.{call_view, answer_view}
 use Rattle.tso_machine.specs.Actions.{fault_view}
+use Rattle.tso_machine.specs.Queue.{Queue}
 use Rattle.tso_machine.specs.Activations.{Activation, activation}
 use Rattle.tso_machine.specs.declared.label.Label.{Label}
 use Rattle.tso_machine.specs.declared.label.LabelKind.{LabelKind}
 use Rattle.tso_machine.specs.declared.label.LabelKind.TheVariants as kinds
-use Rattle.tso_machine.specs.declared.machine.Buffer.{Buffer}
 use Rattle.tso_machine.specs.declared.machine.Core.{Core}
 use Rattle.tso_machine.specs.declared.machine.Core.TheVariants as cores
-use Rattle.tso_machine.specs.declared.machine.Entry.{Entry}
+use Rattle.tso_machine.specs.declared.buffer.Entry.{Entry}
 use Rattle.tso_machine.specs.declared.machine.Machine.{Machine}
 use Rattle.tso_machine.specs.declared.machine.Stage.{Stage}
 use Rattle.tso_machine.specs.declared.machine.Stage.TheVariants as stages
@@ -32,8 +32,8 @@ abbrev pub entry_view : Entry → ℕ × ℕ
 entry_view e = (e.place, e.word)
 
 -- the entries that are not drained
-abbrev pub buffer_view : Buffer → states.Buffer
-buffer_view b = map entry_view (drop b.drained b.entries)
+abbrev pub buffer_view : Queue → states.Buffer
+buffer_view q = map entry_view q.live
 
 abbrev pub thread_view : Thread → model.Thread Activation
 thread_view t = record { begun = t.begun; core = core_view t.core; buffer = buffer_view t.buffer }

@@ -9,7 +9,6 @@ ghost use Rattle.tso_model.specs.Labels.{next_call_in, is_over_in, is_idle};
 ghost use Rattle.tso_model.specs.Prologue.{may_begin};
 
 use crate::machine::{Core, Machine, Thread};
-use crate::offer::live;
 use tso_prog::{CallKind, Client};
 
 /// The calls of a thread, the prologue's thread being the one after the client's own.
@@ -51,7 +50,7 @@ fn is_over(client: &Client, number: usize, thread: &Thread) -> bool
 {
     is_idle(&thread.core)
         && call_at(client, number, thread.begun).is_none()
-        && live(&thread.buffer).is_empty()
+        && thread.buffer.live().is_empty()
 }
 
 fn is_idle(core: &Core) -> bool

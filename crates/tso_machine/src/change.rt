@@ -1,13 +1,14 @@
 //! Changes of a thread, and back.
 
 ghost use Rattle.std.specs.Prelude.{◌≡◌, ◌<◌, ◌≤◌, length, replicate, slice_set, OnOk, OnErr, IfOk};
-ghost use Rattle.tso_machine.specs.Changes.{first_frame, running_after, thread_after, thread_before, FitsChange, FitsBack, IsRunningWith, appended, shortened};
+ghost use Rattle.tso_machine.specs.Changes.{first_frame, running_after, thread_after, thread_before, FitsChange, FitsBack, IsRunningWith};
 ghost use Rattle.tso_machine.specs.Frames.{patched, FitsFrame};
 ghost use Rattle.tso_machine.specs.declared.change.Change.TheVariants as changes;
 ghost use Rattle.tso_machine.specs.declared.change.ChangeBack.TheVariants as backs;
 
+use crate::buffer::Entry;
 use crate::frame::{Frame, Patch, ProcedureName};
-use crate::machine::{Core, Entry, Running, Stage, Thread};
+use crate::machine::{Core, Running, Stage, Thread};
 use std::alloc::{AllocError, Global};
 use tso_list::Seq;
 use tso_word::Flags;
@@ -132,7 +133,7 @@ impl Thread {
     {
         match &mut self.core {
             Core::Running(running) => {
-                self.buffer.entries.push(entry)?;
+                self.buffer.push(entry)?;
                 let back = ChangeBack::Store {
                     next: running.frame.pc,
                 };
@@ -168,7 +169,7 @@ impl Thread {
     {
         match &mut self.core {
             Core::Running(running) => {
-                self.buffer.entries.push(entry)?;
+                self.buffer.push(entry)?;
                 running.stage = Stage::HasWritten(old);
                 Ok(ChangeBack::WriteLocked { old })
             }
@@ -207,9 +208,7 @@ impl Thread {
         ensures back { thread_before self.new result ≡ self.old }
         ensures fits { FitsBack self.new result }
     {
-        let buffered = self.buffer.entries.len();
-        prove!(self.buffer.drained < buffered);
-        self.buffer.drained += 1;
+        self.buffer.drain();
         ChangeBack::Drain
     }
 
@@ -256,7 +255,7 @@ impl Thread {
     {
         match &mut self.core {
             Core::Running(running) => {
-                let _ = self.buffer.entries.pop();
+                self.buffer.pop();
                 running.frame.pc = next;
             }
             _ => unreachable!(),
@@ -279,7 +278,7 @@ impl Thread {
     {
         match &mut self.core {
             Core::Running(running) => {
-                let _ = self.buffer.entries.pop();
+                self.buffer.pop();
                 running.stage = Stage::HasRead(old);
             }
             _ => unreachable!(),
@@ -315,7 +314,7 @@ impl Thread {
             ChangeBack::WriteLocked { old } => self.write_locked_back(old),
             ChangeBack::Unlock { patch, stage } => self.unlock_back(patch, stage),
             ChangeBack::Leave(core) => self.core = core,
-            ChangeBack::Drain => self.buffer.drained -= 1,
+            ChangeBack::Drain => self.buffer.undrain(),
         }
     }
 }

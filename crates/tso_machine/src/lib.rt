@@ -2,6 +2,7 @@
 #![tactic(auto)]
 
 mod action;
+mod buffer;
 mod calls;
 mod change;
 mod frame;
@@ -11,10 +12,11 @@ mod offer;
 mod place;
 
 pub use action::{Action, FaultKind, next_action, procedure_of};
+pub use buffer::{Buffer, Entry};
 pub use calls::{calls_of, next_call};
 pub use change::{Change, ChangeBack};
 pub use frame::{Frame, Patch, ProcedureName};
 pub use label::{Label, LabelKind};
-pub use machine::{Buffer, Core, Entry, Machine, Running, Stage, Thread};
+pub use machine::{Core, Machine, Running, Stage, Thread};
 pub use offer::{Offer, word_seen};
 pub use place::place_at;

@@ -1,5 +1,6 @@
 //! The state of the label machine: memory, the lock, and for each thread a core and a store buffer.
 
+use crate::buffer::Buffer;
 use crate::frame::{Frame, ProcedureName};
 use tso_list::Seq;
 
@@ -35,23 +36,8 @@ pub enum Core {
     Stopped,
 }
 
-/// A store that is not yet in memory.
-#[derive(Clone, Copy, Debug, PartialEq, Eq)]
-pub struct Entry {
-    pub place: usize,
-    pub word: u64,
-}
-
-/// A store buffer: the entries, the oldest first, of which the first so many have been drained. A drained entry is kept,
-/// so that going back takes no memory.
-#[derive(Debug, PartialEq, Eq, Drop)]
-pub struct Buffer {
-    pub entries: Seq<Entry>,
-    pub drained: usize,
-}
-
 /// A thread: how many of its calls have begun, its core and its store buffer.
-#[derive(Debug, PartialEq, Eq, Drop)]
+#[derive(Debug, Drop)]
 pub struct Thread {
     pub begun: usize,
     pub core: Core,
@@ -59,7 +45,7 @@ pub struct Thread {
 }
 
 /// A state of the machine.
-#[derive(Debug, PartialEq, Eq, Drop)]
+#[derive(Debug, Drop)]
 pub struct Machine {
     /// The words of all arrays, one array after another.
     pub memory: Seq<u64>,

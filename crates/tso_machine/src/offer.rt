@@ -6,19 +6,23 @@ ghost use Rattle.tso_prog.specs.Views.{call_view};
 ghost use Rattle.tso_machine.specs.Activations.{Activation, activation};
 ghost use Rattle.tso_machine.specs.Actions.{meaning, FitsAction};
 ghost use Rattle.tso_machine.specs.Changes.{FitsChange};
-ghost use Rattle.tso_machine.specs.Instructions.{next_action};
+ghost use Rattle.tso_machine.specs.Instructions.{next_action, at_position, with_register, exchanged, new_word};
+ghost use Rattle.tso_machine.specs.Frames.{patched};
 ghost use Rattle.tso_machine.specs.Machines.{buffer_view, core_view, entry_view, machine_of, stage_view, thread_view};
 ghost use Rattle.tso_machine.specs.Offers.{next_of};
 ghost use Rattle.tso_machine.specs.Programs.{calls_of, jump_count, program_of};
 ghost use Rattle.tso_model.specs.Labels.{next_call_in, is_over_in};
+ghost use Rattle.tso_machine.specs.declared.machine.Core.TheVariants as cores;
+ghost use Rattle.tso_machine.specs.declared.machine.Stage.TheVariants as stages;
 ghost use Rattle.tso_model.specs.Offers as model;
 ghost use Rattle.tso_model.specs.States.{word_seen, latest};
 
+use crate::buffer::{Buffer, Entry};
 use crate::action::{Action, back_jumps, next_action, procedure_of};
 use crate::change::Change;
 use crate::frame::{Patch, ProcedureName};
 use crate::label::LabelKind;
-use crate::machine::{Buffer, Core, Entry, Machine, Running, Stage, Thread};
+use crate::machine::{Core, Machine, Running, Stage, Thread};
 use tso_line::{LockedOperation, Register};
 use tso_prog::{CallKind, Client};
 
@@ -27,14 +31,6 @@ use tso_prog::{CallKind, Client};
 pub struct Offer {
     pub kind: LabelKind,
     pub change: Change,
-}
-
-/// The entries that are not drained, the oldest first.
-pub fn live(buffer: &Buffer) -> &[Entry]
-    ensures { result.now ≡ drop buffer.now.drained buffer.now.entries }
-{
-    let entries = buffer.entries.as_slice();
-    &entries[buffer.drained.min(entries.len())..]
 }
 
 // The newest word for a place among these entries, the oldest first, else this word.
@@ -54,5 +50,281 @@ fn latest(entries: &[Entry], place: usize, word: u64) -> u64
 pub fn word_seen(buffer: &Buffer, memory: &[u64], place: usize) -> u64
     ensures { result ≡ word_seen (buffer_view buffer.now) memory.now place }
 {
-    latest(live(buffer), place, memory.get(place).copied().unwrap_or(0))
+    latest(buffer.live(), place, memory.get(place).copied().unwrap_or(0))
+}
+
+// The offer, if no other thread holds the lock.
+fn if_unblocked(lock: Option<usize>, thread: usize, offer: Offer) -> Option<Offer>
+    ensures is { (f : Offer → model.Next Activation) → option_map f result ≡ model.if_unblocked lock thread (f offer) }
+    ensures same { IfSome result (λ o. o ≡ offer) }
+{
+    match lock {
+        Some(holder) if holder != thread => None,
+        _ => Some(offer),
+    }
+}
+
+// The offer, if nothing is buffered.
+fn if_empty(buffer: &Buffer, offer: Offer) -> Option<Offer>
+    ensures is { (f : Offer → model.Next Activation) → option_map f result ≡ model.if_empty (buffer_view buffer.now) (Some (f offer)) }
+    ensures same { IfSome result (λ o. o ≡ offer) }
+{
+    if buffer.live().is_empty() {
+        Some(offer)
+    } else {
+        None
+    }
+}
+
+// The position of the next instruction, and a word in a register.
+fn loaded(running: &Running, to: Register, word: u64, next: usize) -> Patch
+    ensures after { patched running.now.frame result ≡ at_position next (with_register to word running.now.frame) }
+    ensures taken { result.taken ≡ None }
+{
+    Patch {
+        pc: next,
+        register: Some((to, word)),
+        flags: running.frame.flags,
+        taken: None,
+    }
+}
+
+fn moved(running: &Running, next: usize) -> Patch
+    ensures after { patched running.now.frame result ≡ at_position next running.now.frame }
+    ensures taken { result.taken ≡ None }
+{
+    Patch {
+        pc: next,
+        register: None,
+        flags: running.frame.flags,
+        taken: None,
+    }
+}
+
+// What a locked instruction that has read the word makes of the frame.
+fn exchanged(
+    running: &Running,
+    operation: LockedOperation,
+    register: Register,
+    old: u64,
+    next: usize,
+) -> Patch
+    ensures after { patched running.now.frame result ≡ at_position next (exchanged operation register running.now.frame old) }
+    ensures taken { result.taken ≡ None }
+{
+    let frame = &running.frame;
+    let plain = loaded(running, register, old, next);
+    match operation {
+        LockedOperation::Exchange => plain,
+        LockedOperation::CompareExchange => {
+            let expected = frame.register(Register::Rax);
+            let (_, flags) = tso_word::sub(expected, old);
+            Patch {
+                pc: next,
+                register: if expected == old {
+                    None
+                } else {
+                    Some((Register::Rax, old))
+                },
+                flags,
+                taken: None,
+            }
+        }
+        LockedOperation::ExchangeAdd => {
+            let (_, flags) = tso_word::add(old, frame.register(register));
+            Patch { flags, ..plain }
+        }
+    }
+}
+
+// The word that a locked instruction writes where it has read the old one.
+fn new_word(running: &Running, operation: LockedOperation, register: Register, old: u64) -> u64
+    ensures { result ≡ new_word operation register running.now.frame old }
+{
+    let word = running.frame.register(register);
+    match operation {
+        LockedOperation::Exchange => word,
+        LockedOperation::CompareExchange => {
+            if running.frame.register(Register::Rax) == old {
+                word
+            } else {
+                old
+            }
+        }
+        LockedOperation::ExchangeAdd => tso_word::add(old, word).0,
+    }
+}
+
+// What follows where the thread is in no locked instruction.
+#[tactic(auto, using(crate::proofs::Views::threads_view, crate::proofs::Views::entries_view))]
+fn outside_offer(
+    machine: &Machine,
+    number: usize,
+    thread: &Thread,
+    running: &Running,
+    action: Action,
+) -> Option<Offer>
+    requires core { thread.now.core ≡ cores.Running running.now }
+    requires stage { running.now.stage ≡ stages.Outside }
+    requires fits { FitsAction running.now.frame action }
+    ensures is { option_map (next_of machine.now number thread.now) result ≡ model.offer_outside (machine_of machine.now) number (thread_view thread.now) (activation running.now.procedure running.now.frame) (meaning running.now.procedure running.now.frame action) }
+    ensures fits { IfSome result (λ o. FitsChange thread.now o.change) }
+{
+    match action {
+        Action::Silent(patch) => Some(Offer {
+            kind: LabelKind::Reg,
+            change: Change::Run(patch),
+        }),
+        Action::Store { place, word, next } => Some(Offer {
+            kind: LabelKind::Write { place, word },
+            change: Change::Store {
+                entry: Entry { place, word },
+                next,
+            },
+        }),
+        Action::Return(answer) => Some(Offer {
+            kind: LabelKind::Return(answer),
+            change: Change::Return,
+        }),
+        Action::Fault(kind) => Some(Offer {
+            kind: LabelKind::Fault(kind),
+            change: Change::Stop,
+        }),
+        Action::Load { place, to, next } => {
+            let word = word_seen(&thread.buffer, machine.memory.as_slice(), place);
+            let offer = Offer {
+                kind: LabelKind::Read { place, word },
+                change: Change::Run(loaded(running, to, word, next)),
+            };
+            if_unblocked(machine.lock, number, offer)
+        }
+        Action::Barrier { next } => {
+            let offer = Offer {
+                kind: LabelKind::Fence,
+                change: Change::Run(moved(running, next)),
+            };
+            if_empty(&thread.buffer, offer)
+        }
+        Action::Locked { .. } => {
+            let offer = Offer {
+                kind: LabelKind::Lock,
+                change: Change::Go(Stage::HasLock),
+            };
+            match machine.lock {
+                Some(_) => None,
+                None => if_empty(&thread.buffer, offer),
+            }
+        }
+        Action::Cut => None,
+    }
+}
+
+// The offer, if nothing is buffered and this thread holds the lock.
+fn if_drained_holder(
+    buffer: &Buffer,
+    lock: Option<usize>,
+    thread: usize,
+    offer: Offer,
+) -> Option<Offer>
+    ensures is { (f : Offer → model.Next Activation) → option_map f result ≡ model.if_empty (buffer_view buffer.now) (model.if_held lock thread (f offer)) }
+    ensures same { IfSome result (λ o. o ≡ offer) }
+{
+    match lock {
+        Some(holder) if holder == thread => if_empty(buffer, offer),
+        _ => None,
+    }
+}
+
+/// An instruction that locks: its place, what it does with it, and the position of the next instruction.
+#[derive(Clone, Copy, Debug, PartialEq, Eq)]
+struct LockedAction {
+    place: usize,
+    operation: LockedOperation,
+    register: Register,
+    next: usize,
+}
+
+// What follows where the thread is in a locked instruction.
+#[tactic(auto, using(crate::proofs::Views::threads_view, crate::proofs::Views::entries_view))]
+fn locked_offer(
+    machine: &Machine,
+    number: usize,
+    thread: &Thread,
+    running: &Running,
+    action: LockedAction,
+) -> Option<Offer>
+    requires { thread.now.core ≡ cores.Running running.now }
+    ensures is { option_map (next_of machine.now number thread.now) result ≡ model.offer_locked (machine_of machine.now) number (thread_view thread.now) (activation running.now.procedure running.now.frame) (new_word action.operation action.register running.now.frame) action.place (λ old. activation running.now.procedure (at_position action.next (exchanged action.operation action.register running.now.frame old))) (stage_view running.now.stage) }
+    ensures fits { IfSome result (λ o. FitsChange thread.now o.change) }
+{
+    match running.stage {
+        Stage::Outside => None,
+        Stage::HasLock => {
+            let word = word_seen(&thread.buffer, machine.memory.as_slice(), action.place);
+            let offer = Offer {
+                kind: LabelKind::Read {
+                    place: action.place,
+                    word,
+                },
+                change: Change::Go(Stage::HasRead(word)),
+            };
+            if_unblocked(machine.lock, number, offer)
+        }
+        Stage::HasRead(old) => {
+            let entry = Entry {
+                place: action.place,
+                word: new_word(running, action.operation, action.register, old),
+            };
+            Some(Offer {
+                kind: LabelKind::Write {
+                    place: entry.place,
+                    word: entry.word,
+                },
+                change: Change::WriteLocked { old, entry },
+            })
+        }
+        Stage::HasWritten(old) => {
+            let patch = exchanged(running, action.operation, action.register, old, action.next);
+            let offer = Offer {
+                kind: LabelKind::Unlock,
+                change: Change::Unlock(patch),
+            };
+            if_drained_holder(&thread.buffer, machine.lock, number, offer)
+        }
+    }
+}
+
+// What follows where the thread runs a call.
+fn running_offer(
+    client: &Client,
+    machine: &Machine,
+    number: usize,
+    thread: &Thread,
+    running: &Running,
+) -> Option<Offer>
+    requires { thread.now.core ≡ cores.Running running.now }
+    ensures is { option_map (next_of machine.now number thread.now) result ≡ model.offer_running (program_of client.now) (machine_of machine.now) number (thread_view thread.now) (activation running.now.procedure running.now.frame) (stage_view running.now.stage) }
+    ensures fits { IfSome result (λ o. FitsChange thread.now o.change) }
+{
+    let action = next_action(client, running.procedure, &running.frame);
+    if let Stage::Outside = running.stage {
+        return outside_offer(machine, number, thread, running, action);
+    }
+    match action {
+        Action::Locked {
+            place,
+            operation,
+            register,
+            next,
+        } => {
+            let action = LockedAction {
+                place,
+                operation,
+                register,
+                next,
+            };
+            locked_offer(machine, number, thread, running, action)
+        }
+        _ => None,
+    }
 }
