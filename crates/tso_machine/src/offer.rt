@@ -9,7 +9,8 @@ ghost use Rattle.tso_machine.specs.Changes.{FitsChange};
 ghost use Rattle.tso_machine.specs.Instructions.{next_action, at_position, with_register, exchanged, new_word};
 ghost use Rattle.tso_machine.specs.Frames.{patched};
 ghost use Rattle.tso_machine.specs.Machines.{buffer_view, core_view, entry_view, machine_of, stage_view, thread_view};
-ghost use Rattle.tso_machine.specs.Offers.{next_of};
+ghost use Rattle.tso_machine.specs.Offers.{begin_of, next_of};
+ghost use Rattle.tso_machine.specs.declared.label.LabelKind.TheVariants as kinds;
 ghost use Rattle.tso_machine.specs.Programs.{calls_of, jump_count, program_of};
 ghost use Rattle.tso_model.specs.Labels.{next_call_in, is_over_in};
 ghost use Rattle.tso_machine.specs.declared.machine.Core.TheVariants as cores;
@@ -19,6 +20,7 @@ ghost use Rattle.tso_model.specs.States.{word_seen, latest};
 
 use crate::buffer::{Buffer, Entry};
 use crate::action::{Action, back_jumps, next_action, procedure_of};
+use crate::calls::next_call;
 use crate::change::Change;
 use crate::frame::{Patch, ProcedureName};
 use crate::label::LabelKind;
@@ -327,4 +329,71 @@ fn running_offer(
         }
         _ => None,
     }
+}
+
+// A call of this kind.
+fn begin(client: &Client, kind: CallKind) -> Offer
+    ensures kind { result.kind ≡ kinds.Call kind }
+    ensures change { result.change ≡ begin_of client.now kind }
+{
+    let (procedure, argument) = match kind {
+        CallKind::Push(argument) => (ProcedureName::Push, argument),
+        CallKind::Pop => (ProcedureName::Pop, 0),
+    };
+    let jumps = back_jumps(procedure_of(client, procedure).instructions.as_slice());
+    Offer {
+        kind: LabelKind::Call(kind),
+        change: Change::Begin {
+            procedure,
+            argument,
+            jumps,
+        },
+    }
+}
+
+// What follows where the thread is idle.
+#[tactic(auto, using(crate::proofs::Views::begun_view))]
+fn idle_offer(client: &Client, machine: &Machine, number: usize, thread: &Thread) -> Option<Offer>
+    requires { thread.now.core ≡ cores.Idle }
+    ensures is { option_map (next_of machine.now number thread.now) result ≡ model.offer_call (program_of client.now) (machine_of machine.now) number (thread_view thread.now) (next_call_in (program_of client.now) (machine_of machine.now) number thread.now.begun) }
+    ensures fits { IfSome result (λ o. FitsChange thread.now o.change) }
+{
+    match next_call(client, machine, number, thread.begun) {
+        Some(kind) => Some(begin(client, kind)),
+        None => None,
+    }
+}
+
+/// The label that a thread's core has next.
+pub fn core_offer(
+    client: &Client,
+    machine: &Machine,
+    number: usize,
+    thread: &Thread,
+) -> Option<Offer>
+    ensures is { option_map (next_of machine.now number thread.now) result ≡ model.offer_core (program_of client.now) (machine_of machine.now) number (thread_view thread.now) (core_view thread.now.core) }
+    ensures fits { IfSome result (λ o. FitsChange thread.now o.change) }
+{
+    match &thread.core {
+        Core::Idle => idle_offer(client, machine, number, thread),
+        Core::Running(running) => running_offer(client, machine, number, thread, running),
+        Core::Stopped => None,
+    }
+}
+
+/// The label that a thread's buffer has next: the drain of its oldest entry.
+#[tactic(auto, using(crate::proofs::Views::threads_view, crate::proofs::Views::drained_view))]
+pub fn buffer_offer(machine: &Machine, number: usize, thread: &Thread) -> Option<Offer>
+    ensures is { option_map (next_of machine.now number thread.now) result ≡ model.offer_entry (machine_of machine.now) number (thread_view thread.now) (buffer_view thread.now.buffer) }
+    ensures fits { IfSome result (λ o. FitsChange thread.now o.change) }
+{
+    let entry = thread.buffer.live().first()?;
+    let offer = Offer {
+        kind: LabelKind::Drain {
+            place: entry.place,
+            word: entry.word,
+        },
+        change: Change::Drain,
+    };
+    if_unblocked(machine.lock, number, offer)
 }
