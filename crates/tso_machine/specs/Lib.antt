@@ -9,3 +9,5 @@ pub mod Places
 pub mod Programs
 pub mod Queue
 pub mod Registers
+pub mod Stepping
+pub mod Undone

@@ -2,6 +2,7 @@
 #![tactic(auto)]
 
 mod action;
+mod apply;
 mod buffer;
 mod calls;
 mod change;
@@ -12,6 +13,7 @@ mod offer;
 mod place;
 
 pub use action::{Action, FaultKind, next_action, procedure_of};
+pub use apply::Undo;
 pub use buffer::{Buffer, Entry};
 pub use calls::{calls_of, next_call};
 pub use change::{Change, ChangeBack};
