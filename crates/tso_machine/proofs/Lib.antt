@@ -1,5 +1,6 @@
 pub mod CallLists
 pub mod Outside
 pub mod QueueLemmas
+pub mod StepLemmas
 pub mod UndoLemmas
 pub mod Views

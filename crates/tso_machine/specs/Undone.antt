@@ -1,7 +1,7 @@
 -- A machine brought back by one step.
 use Rattle.std.specs.Prelude.{◌≡◌, ℕ, ◌<◌, List, length, Option, Some, None, slice_get, slice_set}
 use Rattle.tso_machine.specs.Changes.{thread_before, FitsBack}
-use Rattle.tso_machine.specs.declared.apply.Undo.{Undo}
+use Rattle.tso_machine.specs.declared.back.Undo.{Undo}
 use Rattle.tso_machine.specs.declared.change.ChangeBack.{ChangeBack}
 use Rattle.tso_machine.specs.declared.machine.Machine.{Machine}
 use Rattle.tso_machine.specs.declared.machine.Thread.{Thread}

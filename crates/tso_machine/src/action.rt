@@ -43,7 +43,9 @@ pub enum Action {
         next: usize,
     },
     /// It waits until the store buffer is empty.
-    Barrier { next: usize },
+    Barrier {
+        next: usize,
+    },
     /// It reads and writes a place under the lock.
     Locked {
         place: usize,

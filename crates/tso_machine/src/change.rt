@@ -25,11 +25,17 @@ pub enum Change {
     /// The frame changes.
     Run(Patch),
     /// An entry is buffered, and the instruction at this position follows.
-    Store { entry: Entry, next: usize },
+    Store {
+        entry: Entry,
+        next: usize,
+    },
     /// A locked instruction goes on.
     Go(Stage),
     /// A locked instruction that has read a word buffers its entry.
-    WriteLocked { old: u64, entry: Entry },
+    WriteLocked {
+        old: u64,
+        entry: Entry,
+    },
     /// A locked instruction ends.
     Unlock(Patch),
     /// The call returns.

@@ -1,6 +1,9 @@
 //! Labels: what the machine does in one step.
 
+ghost use Rattle.std.proofs.Common.{rules};
+
 use crate::action::FaultKind;
+use tso_list::Exact;
 use tso_prog::{Answer, CallKind};
 
 /// The kind of a step, with what it moves. A place is the position of a word in memory.
@@ -33,4 +36,8 @@ pub enum LabelKind {
 pub struct Label {
     pub thread: usize,
     pub kind: LabelKind,
+}
+
+impl Exact for LabelKind {
+    ghost exact = { λ a b. Prim.search rules };
 }

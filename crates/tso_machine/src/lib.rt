@@ -2,7 +2,7 @@
 #![tactic(auto)]
 
 mod action;
-mod apply;
+mod back;
 mod buffer;
 mod calls;
 mod change;
@@ -11,9 +11,10 @@ mod label;
 mod machine;
 mod offer;
 mod place;
+mod step;
 
 pub use action::{Action, FaultKind, next_action, procedure_of};
-pub use apply::Undo;
+pub use back::Undo;
 pub use buffer::{Buffer, Entry};
 pub use calls::{calls_of, next_call};
 pub use change::{Change, ChangeBack};
@@ -22,3 +23,4 @@ pub use label::{Label, LabelKind};
 pub use machine::{Core, Machine, Running, Stage, Thread};
 pub use offer::{Offer, word_seen};
 pub use place::place_at;
+pub use step::{ApplyError, apply, undo};

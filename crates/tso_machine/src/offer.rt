@@ -18,8 +18,8 @@ ghost use Rattle.tso_machine.specs.declared.machine.Stage.TheVariants as stages;
 ghost use Rattle.tso_model.specs.Offers as model;
 ghost use Rattle.tso_model.specs.States.{word_seen, latest};
 
-use crate::buffer::{Buffer, Entry};
 use crate::action::{Action, back_jumps, next_action, procedure_of};
+use crate::buffer::{Buffer, Entry};
 use crate::calls::next_call;
 use crate::change::Change;
 use crate::frame::{Patch, ProcedureName};
@@ -52,7 +52,11 @@ fn latest(entries: &[Entry], place: usize, word: u64) -> u64
 pub fn word_seen(buffer: &Buffer, memory: &[u64], place: usize) -> u64
     ensures { result ≡ word_seen (buffer_view buffer.now) memory.now place }
 {
-    latest(buffer.live(), place, memory.get(place).copied().unwrap_or(0))
+    latest(
+        buffer.live(),
+        place,
+        memory.get(place).copied().unwrap_or(0),
+    )
 }
 
 // The offer, if no other thread holds the lock.

@@ -5,7 +5,7 @@ use Rattle.tso_machine.specs.Undone.{memory_before, threads_before}
 use Rattle.tso_machine.specs.declared.machine.Machine.{Machine}
 use Rattle.tso_machine.specs.declared.machine.Thread.{Thread}
 use Rattle.tso_machine.proofs.UndoLemmas.{changed_back, get_changed}
-use Rattle.tso_machine.proofs.apply.perform.Goals as goal
+use Rattle.tso_machine.proofs.step.perform.Goals as goal
 
 pub returns-clause-back : goal.returns-clause-back
 returns-clause-back c =
@@ -13,7 +13,7 @@ returns-clause-back c =
     let new = c.change.new.self in
     let back = c.in_ok-back.back in
     let fits : (t : Thread) → slice_get (slice_set threads c.args.number new) c.args.number ≡ Some t → FitsBack t back =
-        λ t e. let Q : Thread → Type 0 = λ u. FitsBack u back in subst Q (sym (get_changed threads c.args.number new t e)) c.in_ok-back.ensures.fits in
+    λ t e. let Q : Thread → Type 0 = λ u. FitsBack u back in subst Q (sym (get_changed threads c.args.number new t e)) c.in_ok-back.ensures.fits in
     let same = changed_back threads c.args.number c.at_mut.result.now new back c.requires.there (sym c.at_mut.ensures.value) c.in_ok-back.ensures.back in
     record {
       fits = record {
