@@ -1,4 +1,5 @@
 pub mod CallLists
+pub mod FirstThreads
 pub mod Outside
 pub mod QueueLemmas
 pub mod StepLemmas
