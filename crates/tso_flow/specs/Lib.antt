@@ -1,0 +1,6 @@
+pub mod Accesses
+pub mod Calls
+pub mod Faults
+pub mod First
+pub mod Marks
+pub mod Paths

@@ -1,10 +1,15 @@
-//! Control flow (to come): a client that passed the flow check.
+//! Control flow of a client's procedures: a client is refused where control can run past a procedure's end, where a
+//! jump back has no bound or a jump forward has one, and where some path reads a register or a flag before it writes it.
 #![tactic(auto)]
 
-use tso_prog::Client;
+mod access;
+mod fault;
+mod flow;
+mod limit;
+mod location;
+mod path;
+#[cfg(test)]
+mod tests;
 
-/// A client without a fault of its control flow.
-#[derive(Debug, Drop)]
-pub struct Checked {
-    pub client: Client,
-}
+pub use flow::{Checked, FlowError, check};
+pub use location::{Flag, Location, ProcedureKind};

@@ -6,7 +6,7 @@ use Rattle.std.proofs.Math.Decide.{ℕ_discrete}
 use Rattle.tso_model.specs.Labels.{Running, Idle, By, Ended, Stopped, HasLock, HasRead, HasWritten, Kind, Label, Core, Thread, Machine, Outside, Rule, Run, Stage, Step, call, drain, fault, fence, first_machine, lock, read, read_locked, reg, return, unlock, write, write_locked}
 use Rattle.tso_model.specs.Measure.{AllSound, IsRanked, IsSound, calls_cost, labels_left, step_limit, thread_cost, threads_cost}
 use Rattle.tso_model.specs.Programs.{CallKind, Program, calls_of}
-use Rattle.tso_model.specs.Simulation.{RunsAreShort, RunsEnd}
+use Rattle.tso_model.specs.Bounds.{RunsAreBounded, RunsAreShort, RunsEnd}
 use Rattle.tso_model.specs.States.{word_seen}
 use Rattle.tso_model.proofs.Begin.{next_in_calls}
 use Rattle.tso_model.proofs.Offered.{decide}
@@ -100,7 +100,7 @@ module _ {F : Type 0} where
   kept_at P sound rank m m' i j t u f st s at h e running (no n) =
       s j u f st (sym (get_set_other m.threads i j h.thread n) ∙ (rw h.threads at e)) running
 
-  sound_step : (P : Program F) (size : ℕ) (sound : CallKind → F → Bool) (rank : F → ℕ) → IsRanked P size sound rank → (m : Machine F) (l : Label) (m' : Machine F) → AllSound sound m → Step P m l m' → AllSound sound m'
+  pub sound_step : (P : Program F) (size : ℕ) (sound : CallKind → F → Bool) (rank : F → ℕ) → IsRanked P size sound rank → (m : Machine F) (l : Label) (m' : Machine F) → AllSound sound m → Step P m l m' → AllSound sound m'
   sound_step P size sound rank r m (By i k) m' s x =
       λ j u f st e running. kept_at P sound rank m m' i j x.0 u f st s x.1 (lower_step P size sound rank r m i k m' s x) e running (ℕ_discrete i j)
 
@@ -121,7 +121,7 @@ module _ {F : Type 0} where
   pub runs_end : RunsEnd F
   runs_end P size sound rank r m s = ending P size sound rank r (labels_left P rank m) m s (omega arith) (decide P m)
 
-  pub runs_are_bounded : (P : Program F) (size : ℕ) (sound : CallKind → F → Bool) (rank : F → ℕ) → IsRanked P size sound rank → (m m' : Machine F) (ls : List Label) → AllSound sound m → Run P m ls m' → length ls ≤ labels_left P rank m
+  pub runs_are_bounded : RunsAreBounded F
   runs_are_bounded P size sound rank r m m' [] s x = omega arith
   runs_are_bounded P size sound rank r m m' (l ∷ ls) s x =
       let h = falls P size sound rank r m l x.0 s x.1 in

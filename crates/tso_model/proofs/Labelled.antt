@@ -6,7 +6,8 @@ use Rattle.tso_model.specs.Labels.{Running, By, Drain, Ended, Kind, Label, Lock,
 use Rattle.tso_model.specs.Programs.{Action, Barrier, CallKind, Cut, Fail, Load, Locked, Program, Ret, Silent, Store}
 use Rattle.tso_model.specs.Prologue.{next_call}
 use Rattle.tso_model.specs.Relation.{DidDrain, DidRead, DidWrite, Fits, Free, IsOpen, IsShaped, Open, Part, Phase, Section, TookLock, in_phase, inside}
-use Rattle.tso_model.specs.Simulation.{EndsAreEnds, StepsAreRuns, labels_of, labels_of_action, labels_of_call, labels_of_core, labels_of_drain, labels_of_entry, labels_of_exec}
+use Rattle.tso_model.specs.Simulation.{EndsAreEnds}
+use Rattle.tso_model.specs.StepLabels.{StepsAreRuns, labels_of, labels_of_action, labels_of_call, labels_of_core, labels_of_drain, labels_of_entry, labels_of_exec}
 use Rattle.tso_model.specs.States.{Buffer, Called, CompactCore, Resting, Executing, State, Halted, CompactThread, answered, begun_call, calls_in, word_seen}
 use Rattle.tso_model.specs.Steps.{Actor, Drains, Exec, Move, action_move, call_move, core_move, drain_move, perform, step, when_empty}
 use Rattle.tso_model.proofs.Begin.{next_same}
@@ -50,22 +51,22 @@ module _ {F : Type 0} where
       let Q : List (Thread F) → Type 0 = λ ts. Rule P m s.holder t k (record { memory = (inside c (with_part s part)).memory; lock = Some s.holder; threads = ts }) in
       (t, at, subst Q e r)
 
-  took_lock : (P : Program F) (c : State F) (s : Section F) → IsOpen P c s → Step P (machine_of c) (By s.holder Lock) (inside c (with_part s TookLock))
+  pub took_lock : (P : Program F) (c : State F) (s : Section F) → IsOpen P c s → Step P (machine_of c) (By s.holder Lock) (inside c (with_part s TookLock))
   took_lock P c s o =
       into_part P c s (machine_of c) (thread_view s.calls s.thread) _ Lock TookLock (threads_get c.history c.threads s.holder s.calls s.thread o.begun o.at) (rw o.empty refl)
       (lock s.frame s.place s.new s.after (ap core_of o.running) o.locked refl o.empty)
 
-  did_read : (P : Program F) (c : State F) (s : Section F) → IsOpen P c s → Step P (inside c (with_part s TookLock)) (By s.holder (Read s.place (slice_index c.memory s.place))) (inside c (with_part s DidRead))
+  pub did_read : (P : Program F) (c : State F) (s : Section F) → IsOpen P c s → Step P (inside c (with_part s TookLock)) (By s.holder (Read s.place (slice_index c.memory s.place))) (inside c (with_part s DidRead))
   did_read P c s o =
       into_part P c s (inside c (with_part s TookLock)) (thread_in c (with_part s TookLock)) _ _ DidRead (at_holder P c s TookLock o) (rw set_set_same refl)
       (read_locked s.frame s.place s.new s.after refl o.locked (inr refl))
 
-  did_write : (P : Program F) (c : State F) (s : Section F) → IsOpen P c s → Step P (inside c (with_part s DidRead)) (By s.holder (Write s.place (s.new (slice_index c.memory s.place)))) (inside c (with_part s DidWrite))
+  pub did_write : (P : Program F) (c : State F) (s : Section F) → IsOpen P c s → Step P (inside c (with_part s DidRead)) (By s.holder (Write s.place (s.new (slice_index c.memory s.place)))) (inside c (with_part s DidWrite))
   did_write P c s o =
       into_part P c s (inside c (with_part s DidRead)) (thread_in c (with_part s DidRead)) _ _ DidWrite (at_holder P c s DidRead o) (rw set_set_same refl)
       (write_locked s.frame s.place s.new s.after (slice_index c.memory s.place) refl o.locked)
 
-  did_drain : (P : Program F) (c : State F) (s : Section F) → IsOpen P c s → Step P (inside c (with_part s DidWrite)) (By s.holder (Drain s.place (s.new (slice_index c.memory s.place)))) (inside c (with_part s DidDrain))
+  pub did_drain : (P : Program F) (c : State F) (s : Section F) → IsOpen P c s → Step P (inside c (with_part s DidWrite)) (By s.holder (Drain s.place (s.new (slice_index c.memory s.place)))) (inside c (with_part s DidDrain))
   did_drain P c s o =
       into_part P c s (inside c (with_part s DidWrite)) (thread_in c (with_part s DidWrite)) _ _ DidDrain (at_holder P c s DidWrite o) (rw set_set_same refl)
       (drain s.place (s.new (slice_index c.memory s.place)) [] refl (inr refl))

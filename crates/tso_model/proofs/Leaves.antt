@@ -6,7 +6,7 @@ use Rattle.tso_model.specs.Labels.{By, Call, Drain, Fault, Fence, Label, Read, R
 use Rattle.tso_model.specs.Programs.{Action, Barrier, CallKind, Cut, Fail, Load, Locked, Program, Ret, Silent, Store}
 use Rattle.tso_model.specs.Prologue.{next_call}
 use Rattle.tso_model.specs.Relation.{IsShaped}
-use Rattle.tso_model.specs.Simulation.{StepsGiveRuns, labels_of, labels_of_action, labels_of_call, labels_of_core, labels_of_drain, labels_of_entry, labels_of_exec}
+use Rattle.tso_model.specs.StepLabels.{StepsGiveRuns, labels_of, labels_of_action, labels_of_call, labels_of_core, labels_of_drain, labels_of_entry, labels_of_exec}
 use Rattle.tso_model.specs.States.{Called, CompactCore, Resting, Executing, State, Halted, CompactThread, word_seen}
 use Rattle.tso_model.specs.Steps.{Actor, Drains, Exec, step}
 use Rattle.tso_model.proofs.Labelled.{do_action, do_call, do_core, do_drain, do_drains, do_exec, run_append, steps_are_runs, when_empty_some}

@@ -4,13 +4,14 @@ use Rattle.std.proofs.lemmas.Option.{none-some, same_Some}
 use Rattle.std.proofs.Math.Decide.{ℕ_discrete}
 use Rattle.std.proofs.Common.{◌⊎◌, ◌<◌, eqb, eq-eqb, eqb-true}
 use Rattle.std.proofs.lemmas.Option.{cond_some, slice_get_within}
-use Rattle.tso_model.specs.Labels.{Running, Idle, By, Call, Drain, Ended, Fault, Fence, Stopped, HasLock, HasRead, HasWritten, Kind, Label, Lock, Core, Thread, Machine, Outside, Read, Reg, Return, Rule, Stage, Step, Unlock, Write, call, drain, fault, fence, lock, next_call_in, read, read_locked, reg, return, unlock, write, write_locked}
+use Rattle.tso_model.specs.Bounds.{Follows}
+use Rattle.tso_model.specs.Labels.{Running, Idle, By, Call, Drain, Ended, Fault, Fence, Stopped, HasLock, HasRead, HasWritten, Kind, Lock, Core, Thread, Machine, Outside, Read, Reg, Return, Rule, Stage, Step, Unlock, Write, call, drain, fault, fence, lock, next_call_in, read, read_locked, reg, return, unlock, write, write_locked}
 use Rattle.tso_model.specs.Offers.{Next, StepsAreOffers, actor_of, if_empty, if_free, if_held, if_unblocked, offer, offer_call, offer_core, offer_drain, offer_entry, offer_exec, offer_locked, offer_outside, offer_running, offer_within}
 use Rattle.tso_model.specs.Programs.{Action, Barrier, CallKind, Cut, Fail, Load, Locked, Program, Ret, Silent, Store}
 use Rattle.tso_model.specs.Steps.{Actor, Drains, Exec, thread_of}
 use Rattle.tso_model.proofs.WellFormed.{free}
 
-whose : (i : ℕ) (k : Kind) → thread_of (actor_of (By i k)) ≡ i
+pub whose : (i : ℕ) (k : Kind) → thread_of (actor_of (By i k)) ≡ i
 whose i (Drain p v) = refl
 whose i (Call c) = refl
 whose i Reg = refl
@@ -131,9 +132,6 @@ module _ {F : Type 0} where
   -- neither of the thread's actors has a label
   abbrev Quiet : Program F → Machine F → ℕ → Type 0
   Quiet P m i = (offer P m (Exec i) ≡ None) × (offer P m (Drains i) ≡ None)
-
-  abbrev Follows : Program F → Machine F → Type 0
-  Follows P m = (l : Label) × (m' : Machine F) × Step P m l m'
 
   look : (P : Program F) (m : Machine F) (a : Actor) → (o : Option (Next F)) → offer P m a ≡ o → (offer P m a ≡ None) ⊎ Follows P m
   look P m a None e = inl e

@@ -14,12 +14,12 @@ use Rattle.tso_model.specs.Persistence.{AllEnabledIsValid, BeginningsAreLineariz
 use Rattle.tso_model.specs.Programs.{CallKind, Program}
 use Rattle.tso_model.specs.Reasons.{Inside}
 use Rattle.tso_model.specs.Reduce.{Has, Over, Steps}
-use Rattle.tso_model.specs.Simulation.{IsStoppedIn}
+use Rattle.tso_model.specs.Faults.{IsStoppedIn}
 use Rattle.tso_model.specs.States.{Executing, State, CompactThread, calls_in, first_history, first_state}
 use Rattle.tso_model.specs.Steps.{Actor, Drains, Exec, Move, move, perform, step, thread_of}
 use Rattle.tso_model.specs.Strictness.{AtLeast}
 use Rattle.tso_model.specs.Table.{Table, table_future}
-use Rattle.tso_model.specs.Violations.{PathsAreShown}
+use Rattle.tso_model.specs.Violations.{BadPathsAreErrors, PathsAreShown}
 use Rattle.tso_model.specs.WellFormed.{CallsFit, IsWellFormed}
 use Rattle.tso_model.proofs.Answered.{histories_tell}
 use Rattle.tso_model.proofs.Beginnings.{beginning}
@@ -146,3 +146,15 @@ module _ {F : Type 0} (p : Program F) (memory : List ℕ) (sound : CallKind → 
 
 pub every_run_is_good : (F : Type 0) → EveryRunIsGood F
 every_run_is_good F p memory sound rank t object kept r c ls m run = good_run p memory sound rank t object kept r c ls m run
+
+-- a path to a state with a stopped thread or without an order is shown by a run that is not good
+pub bad_paths_are_errors : (F : Type 0) → BadPathsAreErrors F
+bad_paths_are_errors F P memory object actors d steps bad =
+    let x = paths_are_shown F P memory object actors d steps in (
+      x.labels,
+      x.run,
+      λ good. elim bad [
+        | inl stopped ↦ good.0 stopped.0 (x.faults stopped.0 stopped.1)
+        | inr none ↦ none good.1.0 (x.orders good.1.0 good.1.1)
+      ],
+    )

@@ -3,12 +3,14 @@ use Rattle.std.specs.Prelude.{◌≡◌, ℕ}
 use Rattle.tso_model.specs.States.{Answered, Began, Log}
 use Rattle.tso_model.specs.Steps.{Access, Nothing, Read, Update, Write}
 
+-- the access reads the place
 abbrev pub Reads : Access → ℕ → Type 0
 Reads Nothing q = ⊥
 Reads (Read p) q = p ≡ q
 Reads (Write p v) q = ⊥
 Reads (Update p f) q = p ≡ q
 
+-- the access writes the place
 abbrev pub Writes : Access → ℕ → Type 0
 Writes Nothing q = ⊥
 Writes (Read p) q = ⊥

@@ -8,13 +8,13 @@ use Rattle.tso_model.specs.Objects.{Object}
 use Rattle.tso_model.specs.Programs.{CallKind, Program}
 use Rattle.tso_model.specs.Reasons.{Valid}
 use Rattle.tso_model.specs.Reduce.{Has, Over}
-use Rattle.tso_model.specs.Simulation.{HasFaultOf, IsStoppedIn}
+use Rattle.tso_model.specs.Faults.{HasFaultOf, IsStoppedIn}
 use Rattle.tso_model.specs.States.{State, first_state}
 use Rattle.tso_model.specs.Steps.{Actor, step}
 use Rattle.tso_model.specs.Table.{IsTableClosed, Table, table_future}
 use Rattle.tso_model.specs.WellFormed.{IsWellFormed}
 
--- no fault, and the history has a linearization
+-- a good run: no fault, and the history has a linearization
 abbrev pub IsGood : Object → List Label → Type 0
 IsGood object ls = ((i : ℕ) → HasFaultOf ls i → ⊥) × IsLinearizable object (events_of ls)
 

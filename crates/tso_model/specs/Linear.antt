@@ -1,4 +1,5 @@
--- Orders of a history's calls: linearizations of its events, and of a history with counts.
+-- Linearizations of a run's history, after Herlihy, Wing, TOPLAS 12(3), 1990; and the same of a counted history, which a
+-- checker can test.
 use Rattle.std.specs.Prelude.{◌≡◌, ℕ, ◌<◌, List, [], ◌∷◌, map, Option, Some, None, ◌⊎◌, slice_get, slice_index_or}
 use Rattle.tso_model.specs.Events.{Event, IsBefore, answers_of, kinds_of}
 use Rattle.tso_model.specs.Objects.{Allows, Object}
@@ -18,9 +19,11 @@ abbrev pub EachTwo : (Placed → Placed → Type 0) → List Placed → Type 0
 EachTwo R [] = Unit {0}
 EachTwo R (x ∷ xs) = ((y : Placed) → Has xs y → R x y) × EachTwo R xs
 
+-- they are not the same call
 abbrev pub IsOtherCall : Placed → Placed → Type 0
 IsOtherCall x y = x.thread ≡ y.thread → x.number ≡ y.number → ⊥
 
+-- the calls with their answers, as the object sees them
 abbrev pub placed_calls : List Placed → List (CallKind × Answer)
 placed_calls order = map (λ o. (o.kind, o.answer)) order
 
@@ -35,11 +38,13 @@ pub record IsLinearization (object : Object) (es : List Event) (order : List Pla
   pub in_order : EachTwo (λ x y. IsBefore es y.thread y.number x.thread x.number → ⊥) order
   pub allowed : Allows object (placed_calls order)
 
+-- some order is a linearization
 abbrev pub IsLinearizable : Object → List Event → Type 0
 IsLinearizable object es = (order : List Placed) × IsLinearization object es order
 
--- THE SAME OF A HISTORY WITH COUNTS
+-- THE SAME OF A COUNTED HISTORY
 
+-- call `number` of the thread
 abbrev pub call_at : List (List Called) → ℕ → ℕ → Option Called
 call_at h thread number = slice_get (calls_in h thread) number
 
@@ -47,6 +52,8 @@ call_at h thread number = slice_get (calls_in h thread) number
 abbrev pub Precedes : List (List Called) → ℕ → ℕ → ℕ → ℕ → Type 0
 Precedes h t k u j = (c : Called) × (call_at h u j ≡ Some c) × (k < slice_index_or c.seen t 0)
 
+-- the order has begun calls with answers, none twice, each returned call with its own answer, no call before one that it
+-- had seen return, and the object allows its calls and answers
 pub record IsOrder (object : Object) (h : List (List Called)) (order : List Placed) : Type 0 where
   pub once : EachTwo IsOtherCall order
   pub begun : (o : Placed) → Has order o → (c : Called) × (call_at h o.thread o.number ≡ Some c) × (c.kind ≡ o.kind) × ((c.answer ≡ None) ⊎ (c.answer ≡ Some o.answer))

@@ -1,4 +1,5 @@
--- Sequential objects: which lists of calls with answers, one after another, they allow.
+-- Sequential objects: which lists of calls with answers, one after another, they allow. (The sequential specification of
+-- Herlihy and Wing, TOPLAS 12(3), 1990.)
 use Rattle.std.specs.Prelude.{◌≡◌, ℕ, ◌<◌, List, [], ◌∷◌, ◌++◌, length, Bool, IsTrue}
 use Rattle.tso_model.specs.Programs.{Answer, CallKind, Done, Pop, Push, Refused, Value}
 
@@ -6,6 +7,7 @@ use Rattle.tso_model.specs.Programs.{Answer, CallKind, Done, Pop, Push, Refused,
 pub data Mode : Type 0 where
   Strict Weak : Mode
 
+-- a queue of this capacity that holds these items may refuse the call
 abbrev pub MayRefuse : Mode → ℕ → List ℕ → CallKind → Type 0
 MayRefuse Strict capacity items (Push v) = length items ≡ capacity
 MayRefuse Strict capacity items Pop = items ≡ []
@@ -20,6 +22,7 @@ QueueStep mode capacity before Pop Refused after = MayRefuse mode capacity befor
 QueueStep mode capacity before (Push v) (Value w) after = ⊥
 QueueStep mode capacity before Pop Done after = ⊥
 
+-- and so on with the calls of a list
 abbrev pub QueueSteps : Mode → ℕ → List ℕ → List (CallKind × Answer) → List ℕ → Type 0
 QueueSteps mode capacity before [] after = after ≡ before
 QueueSteps mode capacity before (c ∷ cs) after = (mid : List ℕ) × QueueStep mode capacity before c.0 c.1 mid × QueueSteps mode capacity mid cs after

@@ -41,15 +41,17 @@ abbrev pub BeginningsAreLinearizable : Type 0 → Type 0
 BeginningsAreLinearizable F = (P : Program F) (memory : List ℕ) (ls : List Label) (m : Machine F) (object : Object) (more : List Label) → Run P (first_machine P memory) ls m
     → IsLinearizable object (events_of (ls ++ more)) → IsLinearizable object (events_of ls)
 
--- each step of a well-formed state, reached or not, leads to a well-formed one, and the initial state is well-formed
+-- each step of a well-formed state, reached or not, leads to a well-formed one
 abbrev pub StepsStayWellFormed : Type 0 → Type 0
 StepsStayWellFormed F =
     (p : Program F) (size : ℕ) (sound : CallKind → F → Bool) (rank : F → ℕ) → IsRanked p size sound rank
     → (s s' : State F) (a : Actor) → IsWellFormed p size sound s → step p s a ≡ Some s' → IsWellFormed p size sound s'
 
+-- the initial state is well-formed
 abbrev pub FirstIsWellFormed : Type 0 → Type 0
 FirstIsWellFormed F = (p : Program F) (sound : CallKind → F → Bool) (memory : List ℕ) → IsWellFormed p (length memory) sound (first_state p memory)
 
+-- thread j is idle, with no call left and nothing buffered
 abbrev pub IsOverAt : {F : Type 0} → Program F → State F → ℕ → Type 0
 IsOverAt p s j = is_thread_over p j (begun_by s j) (slice_get s.threads j) ≡ true
 
@@ -59,6 +61,7 @@ pub record ComesFirst {F : Type 0} (p : Program F) (size : ℕ) (sound : CallKin
   pub stays : (s s' : State F) (b : Actor) → IsOverAt p s j → step p s b ≡ Some s' → IsOverAt p s' j
   pub still : (s : State F) (a : Actor) → IsOverAt p s j → thread_of a ≡ j → step p s a ≡ None
 
+-- the prologue's thread comes first
 abbrev pub ThePrologueComesFirst : Type 0 → Type 0
 ThePrologueComesFirst F = (p : Program F) (size : ℕ) (sound : CallKind → F → Bool) (j : ℕ) → p.prologue ≡ Some j → ComesFirst p size sound j
 

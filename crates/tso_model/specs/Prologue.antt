@@ -10,11 +10,13 @@ is_over true (Some k) buffer = false
 is_over true None (e ∷ rest) = false
 is_over true None [] = true
 
+-- the thread is between calls
 abbrev pub is_resting : {F : Type 0} → CompactCore F → Bool
 is_resting Resting = true
 is_resting (Executing f) = false
 is_resting Halted = false
 
+-- thread i, of which so many calls have begun, is idle, with no call left and nothing buffered
 abbrev pub is_thread_over : {F : Type 0} → Program F → ℕ → ℕ → Option (CompactThread F) → Bool
 is_thread_over p i begun None = true
 is_thread_over p i begun (Some t) = is_over (is_resting t.core) (slice_get (calls_of p i) begun) t.buffer
@@ -24,6 +26,7 @@ abbrev pub may_begin : Option ℕ → ℕ → (ℕ → Bool) → Bool
 may_begin None i over = true
 may_begin (Some j) i over = if i == j then true else over j
 
+-- the call, if it may begin
 abbrev pub call_if : Bool → Option CallKind → Option CallKind
 call_if true call = call
 call_if false call = None

@@ -18,6 +18,8 @@ pub record IsFuture {F : Type 0} (p : Program F) (W : State F → Type 0) (f : F
   pub reads_shrink : (s s' : State F) (a : Actor) (thread place : ℕ) → W s → step p s a ≡ Some s' → IsTrue (f.reads s' thread place) → IsTrue (f.reads s thread place)
   pub writes_shrink : (s s' : State F) (a : Actor) (thread place : ℕ) → W s → step p s a ≡ Some s' → IsTrue (f.writes s' thread place) → IsTrue (f.writes s thread place)
 
+-- why: the step is the thread's own business; the other thread's future is far from its access; all that the other thread can do
+-- is chosen; its core is chosen and its buffer is elsewhere; the step is a return; it is a call, and the other thread returns no more
 pub data Reason : Type 0 where
   Own Far Inside Buffered Returns NoReturn : Reason
 
@@ -27,6 +29,7 @@ IsDone p calls begun Resting = slice_get calls begun ≡ None
 IsDone p calls begun Halted = Unit {0}
 IsDone p calls begun (Executing f) = p.next f ≡ Cut
 
+-- an entry of the buffer is for the place
 abbrev pub InBuffer : Buffer → ℕ → Type 0
 InBuffer [] place = ⊥
 InBuffer (e ∷ rest) place = (e.0 ≡ place) ⊎ InBuffer rest place

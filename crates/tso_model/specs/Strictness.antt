@@ -3,14 +3,17 @@ use Rattle.std.specs.Prelude.{◌≡◌, ℕ, ◌≤◌, List, slice_index_or}
 use Rattle.std.specs.List.{AllZip}
 use Rattle.tso_model.specs.States.{Called, State}
 
+-- each count is at least as large
 abbrev pub SeenAtLeast : List ℕ → List ℕ → Type 0
 SeenAtLeast xs ys = (k : ℕ) → slice_index_or ys k 0 ≤ slice_index_or xs k 0
 
+-- the same call with the same answer, after at least as many returns
 pub record CalledAtLeast (x y : Called) : Type 0 where
   pub kind : x.kind ≡ y.kind
   pub answer : x.answer ≡ y.answer
   pub seen : SeenAtLeast x.seen y.seen
 
+-- call by call
 abbrev pub HistoryAtLeast : List (List Called) → List (List Called) → Type 0
 HistoryAtLeast = AllZip (AllZip CalledAtLeast)
 

@@ -13,6 +13,7 @@ Within size (e ∷ rest) = (e.0 < size) × Within size rest
 abbrev pub HasReturned : Called → Type 0
 HasReturned c = (a : Answer) × (c.answer ≡ Some a) × IsAnswerOf c.kind a
 
+-- each has
 abbrev pub AllReturned : List Called → Type 0
 AllReturned [] = Unit {0}
 AllReturned (c ∷ cs) = HasReturned c × AllReturned cs
@@ -40,7 +41,9 @@ pub record IsCallOf {F : Type 0} (p : Program F) (h : List (List Called)) (i num
 abbrev pub HasStarted : {F : Type 0} → State F → ℕ → Type 0
 HasStarted {F} s i = (0 < begun_by s i) ⊎ ((t : CompactThread F) × (slice_get s.threads i ≡ Some t) × (0 < length t.buffer))
 
--- with a memory of this size, and frames that can occur
+-- a well-formed state of the program, with a memory of this size, and a test of the frames that can occur in each call: as many threads and
+-- histories as the program has, buffered places in memory, calls that are the program's and fit what their thread does, and nothing begun or
+-- buffered elsewhere before the prologue is over
 pub record IsWellFormed {F : Type 0} (p : Program F) (size : ℕ) (sound : CallKind → F → Bool) (s : State F) : Type 0 where
   pub memory : length s.memory ≡ size
   pub threads : length s.threads ≡ length p.calls

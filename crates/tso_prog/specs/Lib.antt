@@ -1,3 +1,15 @@
+pub mod After
+pub mod Client
+pub mod Clients
+pub mod Content
+pub mod Contents
+pub mod Faults
+pub mod Finish
 pub mod LexFaults
+pub mod Limited
 pub mod Limits
+pub mod Parts
+pub mod Program
+pub mod Start
+pub mod Text
 pub mod Views

@@ -1,17 +1,13 @@
 -- The limits of a program that its values keep.
-use Rattle.std.specs.Prelude.{ℕ, Bool, true, nat_le, List, Option, Some, None}
+use Rattle.std.specs.Prelude.{ℕ, Bool, true, nat_le, List}
 use Rattle.std.specs.List.{list_all}
 use Rattle.tso_line.specs.declared.instruction.Instruction.{Instruction}
 use Rattle.tso_line.specs.declared.instruction.Instruction.TheVariants.{Jump}
-
-abbrev pub is_bound_small : Option ℕ → Bool
-is_bound_small None = true
-is_bound_small (Some n) = nat_le n 15
+use Rattle.tso_line.specs.Proper.{has_small_bound as is_bound_small}
 
 -- a jump is taken at most 15 times in one call
-abbrev pub has_small_bound : Instruction ℕ ℕ → Bool
-has_small_bound (Jump when target bound) = is_bound_small bound
-has_small_bound _ = true
+abbrev pub has_small_bound : {A L : Type 0} → Instruction A L → Bool
+has_small_bound i = is_bound_small i
 
 abbrev pub are_bounds_small : List (Instruction ℕ ℕ) → Bool
 are_bounds_small instructions = list_all has_small_bound instructions

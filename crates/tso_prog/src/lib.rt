@@ -3,11 +3,18 @@
 
 mod answer;
 mod client;
+mod draft;
 mod fault;
+mod finish;
+mod text;
 
 pub use answer::Answer;
 pub use client::{Array, Client, Procedure, Step};
 pub use fault::{Code, Fault, ReadError};
+pub use text::read;
 pub use tso_line::{
     Address, CallKind, Comparison, Instruction, LockedOperation, Mode, Operation, Register, Source,
 };
+
+#[cfg(test)]
+mod tests;

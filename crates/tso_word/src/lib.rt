@@ -1,4 +1,7 @@
 //! Words of 64 bits: sums, differences and logic with their flags, and the conditions that read them.
+//!
+//! Results and flags are those of the Intel 64 and IA-32 Architectures Software Developer's Manual, volume 2,
+//! for 64-bit operands; the flags PF and AF are not modelled.
 #![tactic(auto)]
 
 ghost use Rattle.std.specs.Prelude.{◌≡◌, ◌==◌, ◌^◌, nat_le};
@@ -7,27 +10,41 @@ ghost use Rattle.tso_word.specs.Word.{sum, difference, bitwise, sum_flags, diffe
 #[cfg(test)]
 mod tests;
 
-/// What an instruction leaves for a condition to read.
+/// What an instruction leaves for a condition to read. Flags are ordered as the number ZF + 2 CF + 4 SF + 8 OF.
 #[derive(Clone, Copy, Debug, PartialEq, Eq, PartialOrd, Ord, Hash)]
 pub struct Flags {
+    /// The signed result leaves the range from -2^63 to 2^63-1.
     pub of: bool,
+    /// The result is at least 2^63.
     pub sf: bool,
+    /// The unsigned sum reaches 2^64, or the first of two words is below the second.
     pub cf: bool,
+    /// The result is zero.
     pub zf: bool,
 }
 
 /// A condition of a jump or an assertion.
 #[derive(Clone, Copy, Debug, PartialEq, Eq, PartialOrd, Ord, Hash)]
 pub enum Condition {
+    /// `e`: ZF
     E,
+    /// `ne`: not ZF
     Ne,
+    /// `b`: CF
     B,
+    /// `ae`: not CF
     Ae,
+    /// `be`: CF or ZF
     Be,
+    /// `a`: neither CF nor ZF
     A,
+    /// `l`: SF differs from OF
     L,
+    /// `ge`: SF is OF
     Ge,
+    /// `le`: ZF, or SF differs from OF
     Le,
+    /// `g`: not ZF, and SF is OF
     G,
 }
 
@@ -51,7 +68,7 @@ fn flags_of(word: u64, cf: bool, of: bool) -> Flags
     }
 }
 
-/// The sum modulo 2^64, and its flags.
+/// The sum modulo 2^64, and its flags: CF where `a + b` reaches 2^64, OF where the signed sum leaves -2^63 to 2^63-1.
 #[tactic(auto, unfolding(crate::specs::Word::sum_flags))]
 pub fn add(a: u64, b: u64) -> (u64, Flags)
     ensures word { result.0 ≡ sum a b }
@@ -62,7 +79,7 @@ pub fn add(a: u64, b: u64) -> (u64, Flags)
     (word, flags_of(word, carry, overflow))
 }
 
-/// The difference modulo 2^64, and its flags.
+/// The difference modulo 2^64, and its flags: CF where `a` is below `b`, OF where the signed difference leaves -2^63 to 2^63-1.
 #[tactic(auto, unfolding(crate::specs::Word::difference_flags))]
 pub fn sub(a: u64, b: u64) -> (u64, Flags)
     ensures word { result.0 ≡ difference a b }
@@ -73,7 +90,7 @@ pub fn sub(a: u64, b: u64) -> (u64, Flags)
     (word, flags_of(word, borrow, overflow))
 }
 
-/// One more, modulo 2^64. The carry stays.
+/// One more, modulo 2^64, with the flags of the sum but for CF, which stays as it was.
 pub fn inc(a: u64, flags: Flags) -> (u64, Flags)
     ensures word { result.0 ≡ sum a 1 }
     ensures flags { result.1 ≡ with_carry flags.cf (sum_flags a 1) }
@@ -88,7 +105,7 @@ pub fn inc(a: u64, flags: Flags) -> (u64, Flags)
     )
 }
 
-/// One less, modulo 2^64. The carry stays.
+/// One less, modulo 2^64, with the flags of the difference but for CF, which stays as it was.
 pub fn dec(a: u64, flags: Flags) -> (u64, Flags)
     ensures word { result.0 ≡ difference a 1 }
     ensures flags { result.1 ≡ with_carry flags.cf (difference_flags a 1) }
@@ -103,7 +120,7 @@ pub fn dec(a: u64, flags: Flags) -> (u64, Flags)
     )
 }
 
-/// The operation on each bit. Carry and overflow are clear.
+/// The operation on each bit, with ZF and SF of its result. CF and OF are clear.
 #[tactic(auto, unfolding(crate::specs::Word::bitwise_flags))]
 pub fn logic(operation: BitOperation, a: u64, b: u64) -> (u64, Flags)
     ensures word { result.0 ≡ bitwise operation a b }

@@ -1,0 +1,32 @@
+-- The litmus tests, each by its schedule.
+use Rattle.std.proofs.Common.{List, [], ◌∷◌, refl, arith}
+use Rattle.std.proofs.lemmas.Option.{none-some}
+use Rattle.tso_example.specs.Litmus.{BothReadZero, FencesWaitHere, ReturnsAreNoDrains, both_zero, buffering, fencing, late_drain, publishing}
+use Rattle.tso_model.specs.Events.{CallOf, ReturnOf}
+use Rattle.tso_model.specs.Labels.{By, Call, Drain, Fence, Label, Write, first_machine}
+use Rattle.tso_model.specs.Programs.{Done, Pop, Push}
+use Rattle.tso_model.proofs.Scheduled.{schedules_are_runs}
+
+pub both_read_zero : BothReadZero
+both_read_zero = (_, (schedules_are_runs buffering (first_machine buffering (0 ∷ 0 ∷ [])) _ both_zero).1 refl)
+
+abbrev early : List Label
+early = By 0 (Call (Push 7)) ∷ By 0 (Write 0 1) ∷ By 0 Fence ∷ []
+
+abbrev late : List Label
+late = By 0 (Call (Push 7)) ∷ By 0 (Write 0 1) ∷ By 0 (Drain 0 1) ∷ By 0 Fence ∷ []
+
+pub fences_wait_here : FencesWaitHere
+fences_wait_here = record {
+  early = λ m run. none-some _ ((schedules_are_runs fencing (first_machine fencing (0 ∷ 0 ∷ [])) m early).0 run);
+  machine = _;
+  late = (schedules_are_runs fencing (first_machine fencing (0 ∷ 0 ∷ [])) _ late).1 refl;
+}
+
+pub returns_are_no_drains : ReturnsAreNoDrains
+returns_are_no_drains = record {
+  machine = _;
+  run = (schedules_are_runs publishing (first_machine publishing (0 ∷ [])) _ late_drain).1 refl;
+  history = refl;
+  before = record { earlier = CallOf 0 (Push 7) ∷ ReturnOf 0 Done ∷ []; kind = Pop; later = _; split = refl; number = refl; done = omega arith };
+}

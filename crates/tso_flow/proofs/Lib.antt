@@ -1,0 +1,6 @@
+pub mod Closing
+pub mod Firsts
+pub mod Limits
+pub mod Locations
+pub mod Marking
+pub mod Shapes

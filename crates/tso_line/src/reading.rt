@@ -1,0 +1,255 @@
+//! A line of tokens, read by itself.
+
+ghost use Rattle.std.specs.Prelude.{◌≡◌, ◌≤◌, length, IfOk, IfSome, IsTrue};
+ghost use Rattle.tso_line.specs.Proper.{is_proper};
+ghost use Rattle.std.specs.Option.{option_map};
+ghost use Rattle.tso_line.specs.Lexemes.{pieces};
+ghost use Rattle.tso_line.specs.Forms.{text_at};
+ghost use Rattle.tso_line.specs.declared.line.Kind.TheVariants.{Before, Thread};
+ghost use Rattle.tso_line.specs.Lines.{view, before, thread};
+ghost use Rattle.tso_line.specs.Reading.{value_of, call_of, each, all_some, calls_of, calls_line, array_line, values_line, instruction_line, directive_line, line_of};
+
+use crate::instruction::{CallKind, Mode};
+use crate::form::{form_of, instruction_of, lacks_lock, named, text_at, word_of};
+use crate::lexeme::{Directive, Lexeme, Meaning};
+use crate::line::{Kind, Line, Slip};
+use crate::shape::{cut, signed_of, statement_of};
+use std::alloc::{AllocError, Global};
+use tso_list::Seq;
+
+// A value, from -2^63 to 2^64-1: its word, or none where it is out of range.
+fn value_of(lexemes: &[Lexeme]) -> Option<Option<u64>>
+    ensures { result ≡ value_of lexemes.now }
+{
+    Some(word_of(signed_of(lexemes)?, 1 << 63, u64::MAX))
+}
+
+// `push V` or `pop`.
+fn call_of(lexemes: &[Lexeme]) -> Option<Option<CallKind>>
+    ensures { result ≡ call_of lexemes.now }
+{
+    match lexemes {
+        [Lexeme::Word(_, Meaning::Pop)] => Some(Some(CallKind::Pop)),
+        [Lexeme::Word(_, Meaning::Push), value @ ..] => match value_of(value)? {
+            Some(word) => Some(Some(CallKind::Push(word))),
+            None => Some(None),
+        },
+        _ => None,
+    }
+}
+
+// The values between commas.
+fn values_of(alloc: Global, lexemes: &[Lexeme]) -> Result<Option<Vec<Option<u64>>>, AllocError>
+    ensures nonempty { IfOk result (λ r. IfSome r (λ v. 1 ≤ length v.items)) }
+    ensures exact { IfOk result (λ r. option_map (λ v. v.items) r ≡ each value_of (pieces lexemes.now)) }
+{
+    let mut values = Vec::new(alloc);
+    let mut rest = lexemes;
+    while let Some((piece, after)) = cut(rest) {
+        let Some(value) = value_of(piece) else {
+            return Ok(None);
+        };
+        values.push(value)?;
+        rest = after;
+    }
+    let Some(value) = value_of(rest) else {
+        return Ok(None);
+    };
+    values.push(value)?;
+    Ok(Some(values))
+}
+
+// The calls between commas.
+fn calls_between(alloc: Global, lexemes: &[Lexeme]) -> Result<Option<Vec<Option<CallKind>>>, AllocError>
+    ensures nonempty { IfOk result (λ r. IfSome r (λ v. 1 ≤ length v.items)) }
+    ensures exact { IfOk result (λ r. option_map (λ v. v.items) r ≡ each call_of (pieces lexemes.now)) }
+{
+    let mut calls = Vec::new(alloc);
+    let mut rest = lexemes;
+    while let Some((piece, after)) = cut(rest) {
+        let Some(call) = call_of(piece) else {
+            return Ok(None);
+        };
+        calls.push(call)?;
+        rest = after;
+    }
+    let Some(call) = call_of(rest) else {
+        return Ok(None);
+    };
+    calls.push(call)?;
+    Ok(Some(calls))
+}
+
+// All of the values, if each is in range.
+fn all_some<T: Copy + Drop>(
+    alloc: Global,
+    values: &[Option<T>],
+) -> Result<Option<Seq<T>>, AllocError>
+    ensures len { IfOk result (λ r. IfSome r (λ v. length v ≡ length values.now)) }
+    ensures exact { IfOk result (λ r. r ≡ all_some values.now) }
+{
+    let mut found = Vec::new(alloc);
+    for value in values {
+        let Some(value) = *value else {
+            return Ok(None);
+        };
+        found.push(value)?;
+    }
+    Ok(Some(Seq::from_vec(found)))
+}
+
+// An array of zeros.
+fn array_line<'a>(alloc: Global, name: &'a [u8], len: Option<u64>) -> Result<Line<'a>, AllocError>
+    ensures proper { IfOk result (λ line. IsTrue (is_proper (view line))) }
+    ensures exact { IfOk result (λ line. view line ≡ array_line name.now len) }
+{
+    match len {
+        Some(len) if 1 <= len && len <= 256 => Ok(Line::Array {
+            name,
+            words: Seq::from_vec(vec![in alloc; 0; len as usize]?),
+        }),
+        _ => Ok(Line::Wrong(Kind::Array, Slip::Number)),
+    }
+}
+
+// An array with its values.
+fn values_line<'a>(
+    alloc: Global,
+    name: &'a [u8],
+    len: Option<u64>,
+    values: &[Option<u64>],
+) -> Result<Line<'a>, AllocError>
+    requires { 1 ≤ length values.now }
+    ensures proper { IfOk result (λ line. IsTrue (is_proper (view line))) }
+    ensures exact { IfOk result (λ line. view line ≡ values_line name.now len values.now) }
+{
+    if len != Some(values.len() as u64) {
+        return Ok(Line::Wrong(Kind::Array, Slip::Count));
+    }
+    if values.len() > 256 {
+        return Ok(Line::Wrong(Kind::Array, Slip::Number));
+    }
+    match all_some(alloc, values)? {
+        Some(words) => Ok(Line::Array { name, words }),
+        None => Ok(Line::Wrong(Kind::Array, Slip::Number)),
+    }
+}
+
+// The calls of a line, if each is one: none of them where a value is out of its range.
+fn calls_of(
+    alloc: Global,
+    lexemes: &[Lexeme],
+) -> Result<Option<Option<Seq<CallKind>>>, AllocError>
+    ensures nonempty { IfOk result (λ r. IfSome r (λ o. IfSome o (λ v. 1 ≤ length v))) }
+    ensures exact { IfOk result (λ r. r ≡ calls_of lexemes.now) }
+{
+    match calls_between(alloc, lexemes)? {
+        Some(calls) => Ok(Some(all_some(alloc, &calls)?)),
+        None => Ok(None),
+    }
+}
+
+fn before_line<'a>(calls: Option<Option<Seq<CallKind>>>) -> Line<'a>
+    requires { IfSome calls (λ o. IfSome o (λ v. 1 ≤ length v)) }
+    ensures proper { IsTrue (is_proper (view result)) }
+    ensures exact { view result ≡ calls_line Before before calls }
+{
+    match calls {
+        Some(Some(calls)) => Line::Before(calls),
+        Some(None) => Line::Wrong(Kind::Before, Slip::Number),
+        None => Line::Misshapen,
+    }
+}
+
+fn thread_line<'a>(calls: Option<Option<Seq<CallKind>>>) -> Line<'a>
+    requires { IfSome calls (λ o. IfSome o (λ v. 1 ≤ length v)) }
+    ensures proper { IsTrue (is_proper (view result)) }
+    ensures exact { view result ≡ calls_line Thread thread calls }
+{
+    match calls {
+        Some(Some(calls)) => Line::Thread(calls),
+        Some(None) => Line::Wrong(Kind::Thread, Slip::Number),
+        None => Line::Misshapen,
+    }
+}
+
+#[tactic(auto, unfolding(crate::specs::Reading::instruction_line))]
+fn instruction_line<'a>(source: &'a [u8], lexemes: &[Lexeme]) -> Line<'a>
+    ensures proper { IsTrue (is_proper (view result)) }
+    ensures exact { view result ≡ instruction_line source.now lexemes.now }
+{
+    let Some(statement) = statement_of(lexemes) else {
+        return Line::Misshapen;
+    };
+    let Some(form) = form_of(statement) else {
+        return Line::Wrong(Kind::Instruction, Slip::Word);
+    };
+    let Some(instruction) = instruction_of(form) else {
+        return Line::Wrong(Kind::Instruction, Slip::Number);
+    };
+    Line::Instruction {
+        instruction: named(source, instruction),
+        lacks_lock: lacks_lock(statement),
+    }
+}
+
+#[tactic(auto, unfolding(crate::specs::Reading::directive_line))]
+fn directive_line<'a>(
+    alloc: Global,
+    source: &'a [u8],
+    directive: Directive,
+    rest: &[Lexeme],
+) -> Result<Line<'a>, AllocError>
+    ensures proper { IfOk result (λ line. IsTrue (is_proper (view line))) }
+    ensures exact { IfOk result (λ line. view line ≡ directive_line source.now directive rest.now) }
+{
+    match (directive, rest) {
+        (Directive::Capacity, [Lexeme::Number(n)]) => match *n {
+            Some(n) if 1 <= n && n <= 16 => Ok(Line::Capacity(n as u8)),
+            _ => Ok(Line::Wrong(Kind::Capacity, Slip::Number)),
+        },
+        (Directive::Mode, [Lexeme::Word(_, Meaning::Strict)]) => Ok(Line::Mode(Mode::Strict)),
+        (Directive::Mode, [Lexeme::Word(_, Meaning::Weak)]) => Ok(Line::Mode(Mode::Weak)),
+        (Directive::Array, [Lexeme::Word(name, _), Lexeme::Number(len)]) => {
+            array_line(alloc, text_at(source, *name), *len)
+        }
+        (
+            Directive::Array,
+            [
+                Lexeme::Word(name, _),
+                Lexeme::Number(len),
+                Lexeme::Equals,
+                rest @ ..,
+            ],
+        ) => {
+            match values_of(alloc, rest)? {
+                Some(values) => values_line(alloc, text_at(source, *name), *len, &values),
+                None => Ok(Line::Misshapen),
+            }
+        }
+        (Directive::Push, []) => Ok(Line::Push),
+        (Directive::Pop, []) => Ok(Line::Pop),
+        (Directive::End, []) => Ok(Line::End),
+        (Directive::Before, _) => Ok(before_line(calls_of(alloc, rest)?)),
+        (Directive::Thread, _) => Ok(thread_line(calls_of(alloc, rest)?)),
+        _ => Ok(Line::Misshapen),
+    }
+}
+
+/// What a line says by itself.
+pub fn line_of<'a>(
+    alloc: Global,
+    source: &'a [u8],
+    lexemes: &[Lexeme],
+) -> Result<Line<'a>, AllocError>
+    ensures proper { IfOk result (λ line. IsTrue (is_proper (view line))) }
+    ensures exact { IfOk result (λ line. view line ≡ line_of source.now lexemes.now) }
+{
+    match lexemes {
+        [Lexeme::Directive(directive), rest @ ..] => directive_line(
+            alloc, source, *directive, rest,
+        ),
+        [Lexeme::Word(name, _), Lexeme::Colon] => Ok(Line::Label(text_at(source, *name))),
+        _ => Ok(instruction_line(source, lexemes)),
+    }
+}

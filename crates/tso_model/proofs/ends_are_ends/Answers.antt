@@ -1,5 +1,0 @@
-use Rattle.tso_model.proofs.Labelled as lemmas
-use Rattle.tso_model.proofs.ends_are_ends.Goals as goal
-
-pub returns : goal.returns
-returns g c = lemmas.ends_are_ends

@@ -1,5 +1,0 @@
-use Rattle.tso_model.proofs.Theorems as lemmas
-use Rattle.tso_model.proofs.every_run_is_good.Goals as goal
-
-pub returns : goal.returns
-returns g c = lemmas.every_run_is_good _

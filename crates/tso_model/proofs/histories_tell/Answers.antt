@@ -1,5 +1,0 @@
-use Rattle.tso_model.proofs.Answered as lemmas
-use Rattle.tso_model.proofs.histories_tell.Goals as goal
-
-pub returns : goal.returns
-returns g c = lemmas.histories_tell _

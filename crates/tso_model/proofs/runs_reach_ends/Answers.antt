@@ -1,5 +1,0 @@
-use Rattle.tso_model.proofs.Faults as lemmas
-use Rattle.tso_model.proofs.runs_reach_ends.Goals as goal
-
-pub returns : goal.returns
-returns g c = lemmas.runs_reach_ends

@@ -1,5 +1,0 @@
-use Rattle.tso_model.proofs.Offered as lemmas
-use Rattle.tso_model.proofs.steps_are_offers.Goals as goal
-
-pub returns : goal.returns
-returns g c = lemmas.steps_are_offers

@@ -1,5 +1,0 @@
-use Rattle.tso_model.proofs.Theorems as lemmas
-use Rattle.tso_model.proofs.steps_stay_well_formed.Goals as goal
-
-pub returns : goal.returns
-returns g c = lemmas.steps_stay_well_formed _

@@ -1,5 +1,0 @@
-use Rattle.tso_model.proofs.Faults as lemmas
-use Rattle.tso_model.proofs.stops_are_faults.Goals as goal
-
-pub returns : goal.returns
-returns g c = lemmas.stops_are_faults

@@ -1,5 +1,0 @@
-use Rattle.tso_model.proofs.Theorems as lemmas
-use Rattle.tso_model.proofs.tables_hold_futures.Goals as goal
-
-pub returns : goal.returns
-returns g c = lemmas.tables_hold_futures _

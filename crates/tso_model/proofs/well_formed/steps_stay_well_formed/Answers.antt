@@ -1,0 +1,5 @@
+use Rattle.tso_model.proofs.Theorems as lemmas
+use Rattle.tso_model.proofs.well_formed.steps_stay_well_formed.Goals as goal
+
+pub returns : goal.returns
+returns g c = lemmas.steps_stay_well_formed _

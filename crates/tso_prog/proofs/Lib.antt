@@ -1,0 +1,11 @@
+pub mod Maps
+pub mod Lines
+pub mod Labels
+pub mod First
+pub mod Only
+pub mod Placing
+pub mod Keeping
+pub mod Walk
+pub mod Clean
+pub mod Bodies
+pub mod Contents

@@ -1,0 +1,131 @@
+//! A program after its last line.
+
+ghost use Rattle.std.specs.Prelude.{◌≡◌, ◌++◌, ◌∷◌, [], map, find, IfOk};
+ghost use Rattle.std.specs.Option.{option_map};
+ghost use Rattle.std.specs.Str.{bytes_eq};
+ghost use Rattle.tso_prog.specs.Content.{content, array_view, label_view, body_view, step_view};
+ghost use Rattle.tso_prog.specs.Client.{client};
+ghost use Rattle.tso_prog.specs.Program.{Gives};
+ghost use Rattle.tso_prog.specs.Finish.{labelled_step, labelled, labelled_body, line_numbers, finished, label_place};
+ghost use Rattle.tso_prog.specs.Limited.{IsProcedure, IsLimited};
+
+use crate::client::{Array, Client, Procedure, Step};
+use crate::draft::{Body, Declared, Draft, Label, Part, Unplaced};
+use crate::fault::{Code, Fault, ReadError};
+use std::alloc::{AllocError, Global};
+use tso_list::Seq;
+
+// The instruction before which the label of this name stands.
+fn place_of(labels: &[Label], name: &[u8]) -> Option<usize>
+    ensures { result ≡ option_map (λ l. l.at) (find (λ l. bytes_eq l.name.now name.now) labels.now) }
+{
+    labels
+        .iter()
+        .find(|label| label.name == name)
+        .map(|label| label.at)
+}
+
+#[tactic(auto, using(crate::proofs::Labels::label_place_is))]
+fn label_place(labels: &[Label], name: &[u8]) -> Option<usize>
+    ensures { result ≡ label_place (map label_view labels.now) name.now }
+{
+    place_of(labels, name)
+}
+
+// The instruction with its label as a position.
+fn with_place(labels: &[Label], step: &Unplaced) -> Result<Step, ReadError>
+    ensures { Gives (λ s. s) result (labelled_step (map label_view labels.now) (step_view step.now)) }
+{
+    let target = match step.instruction.label() {
+        Some(name) => match label_place(labels, name) {
+            Some(place) => place,
+            None => {
+                return Err(ReadError::Refused(Fault {
+                    code: Code::E07,
+                    line: step.line,
+                }));
+            }
+        },
+        None => 0,
+    };
+    let array = match step.instruction.address() {
+        Some(address) => address.array,
+        None => 0,
+    };
+    Ok(step.instruction.with_names(array, target))
+}
+
+// The instructions of a procedure with their labels as positions.
+fn with_places(alloc: Global, body: &Body) -> Result<Vec<Step>, ReadError>
+    ensures { Gives (λ v. v.items) result (labelled (map label_view body.now.labels.items) (map step_view body.now.steps.items)) }
+{
+    let mut steps = Vec::new(alloc);
+    for step in &body.steps {
+        steps.push(with_place(&body.labels, step)?)?;
+    }
+    Ok(steps)
+}
+
+// The lines of a procedure's instructions.
+fn numbers_of(alloc: Global, steps: &[Unplaced]) -> Result<Vec<u32>, AllocError>
+    ensures { IfOk result (λ v. v.items ≡ map (λ s. s.line) steps.now) }
+{
+    steps.iter().map(|step| step.line).collect(alloc)
+}
+
+// The procedure with its labels as positions.
+fn procedure_of(alloc: Global, body: &Body) -> Result<Procedure, ReadError>
+    requires { IsProcedure (body_view body.now) }
+    ensures instructions { Gives (λ p. p.instructions) result (labelled_body (body_view body.now)) }
+    ensures lines { IfOk result (λ p. p.lines ≡ line_numbers (body_view body.now)) }
+{
+    let steps = with_places(alloc, body)?;
+    let numbers = numbers_of(alloc, &body.steps)?;
+    Ok(Procedure {
+        instructions: Seq::from_vec(steps),
+        lines: Seq::from_vec(numbers),
+    })
+}
+
+// The arrays with names of their own.
+fn arrays_of(alloc: Global, declared: &[Declared]) -> Result<Vec<Array>, AllocError>
+    ensures { IfOk result (λ v. v.items ≡ map array_view declared.now) }
+{
+    let mut arrays = Vec::new(alloc);
+    for array in declared {
+        arrays.push(Array {
+            name: Seq::from_vec(Vec::from_slice(alloc, array.name)?),
+            words: Seq::from_vec(Vec::from_slice(alloc, array.words.as_slice())?),
+        })?;
+    }
+    Ok(arrays)
+}
+
+impl Draft<'_> {
+    /// The client of a whole text.
+    #[tactic(auto, unfolding(crate::specs::Finish::finished))]
+    pub fn finish(self, alloc: Global) -> Result<Client, ReadError>
+        requires { IsLimited (content self) }
+        ensures exact { Gives client result (finished (content self.entry)) }
+        ensures lines { IfOk result (λ c. (c.push.lines ≡ line_numbers (content self.entry).push) × (c.pop.lines ≡ line_numbers (content self.entry).pop)) }
+    {
+        if !matches!(self.part, Part::Threads) || self.threads.as_slice().is_empty() {
+            return Err(ReadError::Refused(Fault {
+                code: Code::E08,
+                line: 0,
+            }));
+        }
+        let push = procedure_of(alloc, &self.push)?;
+        let pop = procedure_of(alloc, &self.pop)?;
+        let arrays = arrays_of(alloc, &self.arrays)?;
+        Ok(Client {
+            capacity: self.capacity,
+            mode: self.mode,
+            arrays: Seq::from_vec(arrays),
+            push,
+            pop,
+            prologue: self.prologue,
+            threads: self.threads,
+        })
+    }
+}
