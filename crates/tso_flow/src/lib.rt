@@ -3,6 +3,7 @@
 #![tactic(auto)]
 
 mod access;
+mod copy;
 mod fault;
 mod flow;
 mod limit;

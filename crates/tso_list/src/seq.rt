@@ -1,6 +1,6 @@
 //! A growable sequence that contracts see as a plain list.
 
-ghost use Rattle.std.specs.Prelude.{◌≡◌, ℕ, ◌+◌, ◌<◌, [], ◌∷◌, ◌++◌, length, OnOk, OnErr, slice_get, slice_index_or, option_to_list, ◌==◌, ◌-◌, take};
+ghost use Rattle.std.specs.Prelude.{◌≡◌, ℕ, ◌+◌, ◌<◌, [], ◌∷◌, ◌++◌, length, IfOk, OnOk, OnErr, slice_get, slice_index_or, option_to_list, ◌==◌, ◌-◌, take};
 ghost use Rattle.std.specs.List.{AllZip};
 ghost use Rattle.std.specs.Option.{option_copied};
 ghost use Rattle.std.specs.Cmp.{on_equiv, on_total, on_po, on_per};
@@ -110,6 +110,23 @@ impl<T> Seq<T> {
     {
         self.items.push(item)?;
         Ok(())
+    }
+}
+
+impl<T: Copy + Drop> Seq<T> {
+    /// The sequence of these items.
+    pub fn from_slice(alloc: Global, items: &[T]) -> Result<Self, AllocError>
+        ensures { IfOk result (λ s. s ≡ items.now) }
+    {
+        let items = Vec::from_slice(alloc, items)?;
+        Ok(Seq { items })
+    }
+
+    /// A sequence of the same items.
+    pub fn copied(&self, alloc: Global) -> Result<Self, AllocError>
+        ensures { IfOk result (λ s. s ≡ self.now) }
+    {
+        Seq::from_slice(alloc, self.as_slice())
     }
 }
 

@@ -3,6 +3,7 @@
 
 mod answer;
 mod client;
+mod copy;
 mod draft;
 mod fault;
 mod finish;
