@@ -1,13 +1,13 @@
 -- Litmus tests of x86-TSO: what two threads may see. Store buffering is the example of Sewell, Sarkar, Owens, Zappa Nardelli,
 -- Myreen, CACM 53(7), 2010, section 2.
-use Rattle.std.specs.Prelude.{◌≡◌, ℕ, List, [], ◌∷◌, None}
+use Rattle.std.specs.Prelude.{◌≡◌, ℕ, ◌+◌, List, [], ◌∷◌, None}
 use Rattle.tso_model.specs.Events.{CallOf, IsBefore, ReturnOf, events_of}
-use Rattle.tso_model.specs.Labels.{By, Call, Drain, Fence, Label, Machine, Read, Return, Run, Write, first_machine}
-use Rattle.tso_model.specs.Programs.{Action, Barrier, CallKind, Done, Load, Pop, Program, Push, Ret, Store, Value}
+use Rattle.tso_model.specs.Labels.{By, Call, Drain, Fence, Label, Lock, Machine, Read, Return, Run, Unlock, Write, first_machine}
+use Rattle.tso_model.specs.Programs.{Action, Barrier, CallKind, Done, Load, Locked, Pop, Program, Push, Ret, Store, Value}
 
 -- x is place 0 and y is place 1, both 0 at first; where a thread is, and the word that it has loaded
 pub data Place : Type 0 where
-  StoresX LoadsX StoresY LoadsY FencesX FencesY IsDone : Place
+  StoresX LoadsX StoresY LoadsY FencesX FencesY AddsX IsDone : Place
   Loaded : ℕ → Place
 
 -- a push is thread 0's call, and a pop thread 1's
@@ -22,9 +22,7 @@ buffering_next LoadsY = Load 1 (λ w. Loaded w)
 buffering_next StoresY = Store 1 1 LoadsX
 buffering_next LoadsX = Load 0 (λ w. Loaded w)
 buffering_next (Loaded w) = Ret (Value w)
-buffering_next FencesX = Ret Done
-buffering_next FencesY = Ret Done
-buffering_next IsDone = Ret Done
+buffering_next _ = Ret Done
 
 abbrev pub both_start : CallKind → Place
 both_start (Push v) = StoresX
@@ -53,7 +51,7 @@ fencing_next StoresY = Store 1 1 FencesY
 fencing_next FencesY = Barrier LoadsX
 fencing_next LoadsX = Load 0 (λ w. Loaded w)
 fencing_next (Loaded w) = Ret (Value w)
-fencing_next IsDone = Ret Done
+fencing_next _ = Ret Done
 
 abbrev pub fencing : Program Place
 fencing = record { next = fencing_next; start = both_start; calls = two_calls; prologue = None }
@@ -89,3 +87,25 @@ pub record ReturnsAreNoDrains : Type 0 where
   pub run : Run publishing (first_machine publishing (0 ∷ [])) late_drain machine
   pub history : events_of late_drain ≡ CallOf 0 (Push 7) ∷ ReturnOf 0 Done ∷ CallOf 1 Pop ∷ ReturnOf 1 (Value 0) ∷ []
   pub before : IsBefore (events_of late_drain) 0 0 1 0
+
+-- A LOCKED INSTRUCTION IS ATOMIC: x := x + 1 locked, beside load x
+
+abbrev pub locking_next : Place → Action Place
+locking_next AddsX = Locked 0 (λ w. w + 1) (λ w. Loaded w)
+locking_next LoadsX = Load 0 (λ w. Loaded w)
+locking_next (Loaded w) = Ret (Value w)
+locking_next _ = Ret Done
+
+abbrev pub locking_start : CallKind → Place
+locking_start (Push v) = AddsX
+locking_start Pop = LoadsX
+
+abbrev pub locking : Program Place
+locking = record { next = locking_next; start = locking_start; calls = two_calls; prologue = None }
+
+-- no other thread reads between Lock and Unlock; after it, one reads the new word
+pub record LocksHoldHere : Type 0 where
+  pub inside : (m : Machine Place) (w : ℕ) → Run locking (first_machine locking (0 ∷ [])) (By 0 (Call (Push 7)) ∷ By 1 (Call Pop) ∷ By 0 Lock ∷ By 1 (Read 0 w) ∷ []) m → ⊥
+  pub machine : Machine Place
+  pub after : Run locking (first_machine locking (0 ∷ []))
+      (By 0 (Call (Push 7)) ∷ By 1 (Call Pop) ∷ By 0 Lock ∷ By 0 (Read 0 0) ∷ By 0 (Write 0 1) ∷ By 0 (Drain 0 1) ∷ By 0 Unlock ∷ By 1 (Read 0 1) ∷ []) machine

@@ -1,7 +1,7 @@
 //! Instances: the theorem's premises can be met, and the machine does what x86-TSO does in the standard litmus tests.
 #![tactic(auto)]
 
-ghost use Rattle.tso_example.specs.Litmus.{BothReadZero, FencesWaitHere, ReturnsAreNoDrains};
+ghost use Rattle.tso_example.specs.Litmus.{BothReadZero, FencesWaitHere, LocksHoldHere, ReturnsAreNoDrains};
 ghost use Rattle.tso_example.specs.Small.{EveryPairRunIsGood, EverySmallRunIsGood};
 
 /// A push before a pop, as a prologue, through the store buffer: eight kept states show that every run is good.
@@ -28,4 +28,9 @@ pub fn fences_wait_here()
 /// A call may return before its store drains; a later call of another thread then reads the old word.
 pub fn returns_are_no_drains()
     ensures { ReturnsAreNoDrains }
+{}
+
+/// A locked instruction is five labels, and no other thread reads between Lock and Unlock.
+pub fn locks_hold_here()
+    ensures { LocksHoldHere }
 {}

@@ -1,9 +1,8 @@
 -- An actor has a compact step exactly where it has a label.
-use Rattle.std.proofs.Common.{◌≡◌, ℕ, zero, suc, List, [], ◌∷◌, length, slice_get, refl, Option, Some, None, arith}
-use Rattle.std.proofs.lemmas.Option.{none-some}
+use Rattle.std.proofs.Common.{◌≡◌, ℕ, zero, suc, List, [], ◌∷◌, length, slice_get, refl, Option, Some, None}
 use Rattle.std.specs.Option.{option_and_then, option_map}
-use Rattle.tso_model.specs.Labels.{Machine, Thread, core_of, machine_of, next_call_in, thread_view, thread_views}
-use Rattle.tso_model.specs.Offers.{Next, offer, offer_call, offer_core, offer_drain, offer_entry, offer_exec, offer_outside}
+use Rattle.tso_model.specs.Labels.{Thread, core_of, machine_of, thread_view, thread_views}
+use Rattle.tso_model.specs.Offers.{offer, offer_call, offer_core, offer_drain, offer_entry, offer_exec, offer_outside}
 use Rattle.tso_model.specs.Programs.{Action, Barrier, CallKind, Cut, Fail, Load, Locked, Program, Ret, Silent, Store}
 use Rattle.tso_model.specs.Prologue.{next_call}
 use Rattle.tso_model.specs.Relation.{Free, IsShaped}

@@ -18,8 +18,9 @@ use Rattle.tso_model.specs.WellFormed.{IsWellFormed}
 abbrev pub IsGood : Object → List Label → Type 0
 IsGood object ls = ((i : ℕ) → HasFaultOf ls i → ⊥) × IsLinearizable object (events_of ls)
 
--- of a program with this memory at first; `kept` tells the kept states
+-- the states that pass the test `kept` are a certificate of the program with this memory at first
 pub record IsCertificate {F : Type 0} (p : Program F) (memory : List ℕ) (sound : CallKind → F → Bool) (t : Table F) (object : Object) (kept : State F → Bool) : Type 0 where
+  -- the table holds all that may be read and written, the first state is kept, and kept states are well-formed
   pub closed : IsTableClosed p sound t
   pub has_initial : IsTrue (kept (first_state p memory))
   pub well_formed : (s : State F) → IsTrue (kept s) → IsWellFormed p (length memory) sound s

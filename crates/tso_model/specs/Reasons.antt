@@ -1,4 +1,5 @@
--- Why a chosen actor's step may be taken before another thread's steps.
+-- Why a chosen actor's step may be taken before another thread's steps: the dependency relation of the persistent choices of
+-- Godefroid, LNCS 1032, 1996, as six reasons over what each thread may still read and write.
 use Rattle.std.specs.Prelude.{◌≡◌, ◌≢◌, ℕ, ◌<◌, List, [], ◌∷◌, Some, None, ◌⊎◌, length, slice_get, Bool, IsTrue}
 use Rattle.tso_model.specs.Accesses.{Reads, Writes}
 use Rattle.tso_model.specs.Programs.{Answer, CallKind, Cut, Program, calls_of}
@@ -36,13 +37,19 @@ InBuffer (e ∷ rest) place = (e.0 ≡ place) ⊎ InBuffer rest place
 
 -- the reason holds at a state, for a chosen actor whose step there has this access and this entry in the history, and another thread
 abbrev pub Holds : {F : Type 0} (p : Program F) → Future F → State F → List Actor → Access → Log → ℕ → Reason → Type 0
+-- the step touches no memory, and begins and ends no call
 Holds p f s chosen access log j Own = (access ≡ Nothing) × (log ≡ Same)
+-- the other thread's future writes avoid what the step reads, and its future reads and writes what the step writes
 Holds p f s chosen access log j Far = (log ≡ Same) × ((place : ℕ) → Reads access place → IsTrue (f.writes s j place) → ⊥) ×
     ((place : ℕ) → Writes access place → IsTrue (f.reads s j place) → ⊥) × ((place : ℕ) → Writes access place → IsTrue (f.writes s j place) → ⊥)
+-- each actor of the other thread is chosen, or has no step
 Holds {F} p f s chosen access log j Inside = (b : Actor) → thread_of b ≡ j → Has chosen b ⊎ (move p s b ≡ None)
+-- the other thread's core is chosen, and its buffer has no entry for the step's place
 Holds {F} p f s chosen access log j Buffered = Has chosen (Exec j) ×
     ((t : CompactThread F) (place : ℕ) → slice_get s.threads j ≡ Some t → InBuffer t.buffer place → (Reads access place → ⊥) × (Writes access place → ⊥))
+-- the step is a return
 Holds p f s chosen access log j Returns = (access ≡ Nothing) × ((a : Answer) × (log ≡ Answered a))
+-- the step is a call, and the other thread is done
 Holds {F} p f s chosen access log j NoReturn = (access ≡ Nothing) × ((k : CallKind) × (log ≡ Began k)) ×
     ((t : CompactThread F) → slice_get s.threads j ≡ Some t → IsDone p (calls_of p j) (begun_by s j) t.core)
 

@@ -2,7 +2,7 @@
 #![tactic(auto)]
 
 mod cell;
-
+mod cursor;
 mod fault;
 mod grammar;
 mod run;
@@ -10,9 +10,7 @@ mod spelling;
 mod trace;
 
 pub use cell::{Cell, cell_of};
-
+pub use cursor::Cursor;
 pub use fault::TraceFault;
+pub use spelling::push_cell;
 pub use trace::{Trace, Violation};
-
-
-
