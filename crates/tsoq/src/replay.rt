@@ -1,0 +1,147 @@
+//! The printed replay of a trace.
+
+use crate::failure::Failure;
+use std::alloc::Global;
+use std::io::Write;
+use tso_list::Seq;
+use tso_machine::{Core, Machine, ProcedureName, Running, Stage, Thread};
+use tso_prog::Array;
+use tso_trace::{Cursor, Trace, Violation, push_cell};
+
+// Writes a text and a newline.
+fn put_line<W: Write>(out: &mut W, text: &str) -> Result<(), Failure> {
+    out.write_all(text.as_bytes())
+        .map_err(|_| Failure::CannotPrint)?;
+    out.write_all(b"\n").map_err(|_| Failure::CannotPrint)
+}
+
+// The labels up to this number, one a line behind its number.
+fn put_labels<W: Write>(
+    alloc: Global,
+    out: &mut W,
+    trace: &Trace,
+    to: usize,
+) -> Result<(), Failure> {
+    for number in 1..=to.min(trace.labels.len()) {
+        let line = trace.line(alloc, number)?;
+        put_line(out, format!(in alloc; "{number:>6} {line}")?.as_str())?;
+    }
+    Ok(())
+}
+
+// Each word of memory.
+fn put_memory<W: Write>(
+    alloc: Global,
+    out: &mut W,
+    arrays: &[Array],
+    memory: &Seq<u64>,
+) -> Result<(), Failure> {
+    for (place, word) in memory.as_slice().iter().enumerate() {
+        let mut text = String::new(alloc);
+        push_cell(&mut text, arrays, place)?;
+        write!(text, " = {word}")?;
+        put_line(out, text.as_str())?;
+    }
+    Ok(())
+}
+
+// A running call by its procedure and its next instruction.
+fn push_running(text: &mut String, running: &Running) -> Result<(), Failure> {
+    let pc = running.frame.pc;
+    match running.procedure {
+        ProcedureName::Push => write!(text, "at push {pc}")?,
+        ProcedureName::Pop => write!(text, "at pop {pc}")?,
+    }
+    if !matches!(running.stage, Stage::Outside) {
+        text.push_str(" locked")?;
+    }
+    Ok(())
+}
+
+// A thread's line, and a line for each entry of its buffer.
+fn put_thread<W: Write>(
+    alloc: Global,
+    out: &mut W,
+    arrays: &[Array],
+    number: usize,
+    thread: &Thread,
+) -> Result<(), Failure> {
+    let mut text = format!(in alloc; "thread {number} ")?;
+    match &thread.core {
+        Core::Idle => text.push_str("idle")?,
+        Core::Running(running) => push_running(&mut text, running)?,
+        Core::Stopped => text.push_str("stopped")?,
+    }
+    put_line(out, text.as_str())?;
+    for entry in thread.buffer.live() {
+        let mut text = String::from_str(alloc, "  buffer ")?;
+        push_cell(&mut text, arrays, entry.place)?;
+        let word = entry.word;
+        write!(text, " = {word}")?;
+        put_line(out, text.as_str())?;
+    }
+    Ok(())
+}
+
+fn put_state<W: Write>(
+    alloc: Global,
+    out: &mut W,
+    arrays: &[Array],
+    machine: &Machine,
+) -> Result<(), Failure> {
+    put_memory(alloc, out, arrays, &machine.memory)?;
+    for (number, thread) in machine.threads.as_slice().iter().enumerate() {
+        put_thread(alloc, out, arrays, number, thread)?;
+    }
+    Ok(())
+}
+
+fn put_violation<W: Write>(alloc: Global, out: &mut W, trace: &Trace) -> Result<(), Failure> {
+    match trace.violation() {
+        Violation::Fault(thread) => put_line(
+            out,
+            format!(in alloc; "violation: fault in thread {thread}")?.as_str(),
+        ),
+        Violation::NoOrder => put_line(out, "violation: no order"),
+    }
+}
+
+// The cursor behind the last label, and then back to this one.
+fn walked<'a>(alloc: Global, trace: &'a Trace, to: usize) -> Result<Cursor<'a>, Failure> {
+    let mut cursor = Cursor::new(alloc, trace)?;
+    let len = trace.labels.len();
+    for _ in 0..len {
+        let _moved = cursor.forward()?;
+    }
+    for _ in to..len {
+        let _moved = cursor.back();
+    }
+    Ok(cursor)
+}
+
+/// Prints the labels of a trace up to label `to`, or all, the state after them, and at the end what is wrong with the run.
+pub fn print_replay<W: Write>(
+    alloc: Global,
+    out: &mut W,
+    trace: &Trace,
+    to: Option<u64>,
+) -> Result<(), Failure> {
+    let len = trace.labels.len();
+    let to = match to {
+        Some(to) => (to as usize).min(len),
+        None => len,
+    };
+    let cursor = walked(alloc, trace, to)?;
+    put_labels(alloc, out, trace, to)?;
+    put_line(out, format!(in alloc; "state after {to}")?.as_str())?;
+    put_state(
+        alloc,
+        out,
+        trace.checked.client.arrays.as_slice(),
+        cursor.machine(),
+    )?;
+    if to == len {
+        put_violation(alloc, out, trace)?;
+    }
+    Ok(())
+}

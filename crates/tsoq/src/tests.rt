@@ -1,0 +1,379 @@
+//! The program over files in memory.
+
+use crate::files::Files;
+use crate::run::run;
+use std::alloc::Global;
+use std::io;
+use std::io::{Error, ErrorKind, Read, Write};
+use std::process::Abort;
+use std::test::Fail;
+
+const OWN_STORE: &str = ".capacity 1
+.mode weak
+.array n 1
+.push
+  mov qword ptr [n], 5
+  mov rax, qword ptr [n]
+  cmp rax, 5
+  assert ne
+  mov rax, 0
+  ret
+.end
+.pop
+  mov rbx, qword ptr [n]
+  mov rdx, 0
+  mov rax, 0
+  ret
+.end
+.thread push 7
+.thread pop
+";
+
+const OWN_STORE_TRACE: &str = "tso-trace 1
+0 call push 7
+0 write n[0] = 5
+1 call pop
+1 read n[0] = 0
+0 read n[0] = 5
+0 reg
+0 fault assert
+";
+
+const OWN_STORE_TO_2: &str = "     1 0 call push 7
+     2 0 write n[0] = 5
+state after 2
+n[0] = 0
+thread 0 at push 1
+  buffer n[0] = 5
+thread 1 idle
+";
+
+const OWN_STORE_END: &str = "state after 7
+n[0] = 0
+thread 0 stopped
+  buffer n[0] = 5
+thread 1 at pop 1
+violation: fault in thread 0
+";
+
+const EXCHANGE: &str = ".capacity 1
+.mode weak
+.array n 1
+.push
+  mov rbx, 5
+  xchg qword ptr [n], rbx
+  cmp rbx, 5
+  assert e
+  mov rax, 0
+  ret
+.end
+.pop
+  mov rbx, qword ptr [n]
+  mov rdx, 0
+  mov rax, 0
+  ret
+.end
+.thread push 7
+.thread pop
+";
+
+const EXCHANGE_TRACE: &str = "tso-trace 1
+0 call push 7
+0 reg
+0 lock
+0 read n[0] = 0
+0 write n[0] = 5
+0 drain n[0] = 5
+0 unlock
+0 reg
+0 fault assert
+";
+
+const LOCKED: &str = "state after 4
+n[0] = 0
+thread 0 at push 1 locked
+thread 1 idle
+";
+
+// A program file and a trace file, called `program` and `trace`.
+struct MemoryFiles<'a> {
+    program: &'a [u8],
+    trace: &'a [u8],
+}
+
+#[derive(Drop)]
+struct MemoryReader<'a> {
+    rest: &'a [u8],
+}
+
+impl<'a> Read for MemoryReader<'a> {
+    fn read(&mut self, buf: &mut [u8]) -> io::Result<usize> {
+        let count = buf.len().min(self.rest.len());
+        let (now, later) = self.rest.split_at(count);
+        buf[..count].copy_from_slice(now);
+        self.rest = later;
+        Ok(count)
+    }
+}
+
+impl<'a> Files for MemoryFiles<'a> {
+    type Reader = MemoryReader<'a>;
+
+    type Writer = Vec<u8>;
+
+    fn open(&mut self, path: &str) -> io::Result<MemoryReader<'a>> {
+        match path {
+            "program" => Ok(MemoryReader { rest: self.program }),
+            "trace" => Ok(MemoryReader { rest: self.trace }),
+            _ => Err(Error::from(ErrorKind::NotFound)),
+        }
+    }
+
+    fn create(&mut self, _path: &str) -> io::Result<Vec<u8>> {
+        Err(Error::from(ErrorKind::NotFound))
+    }
+}
+
+// A stream that takes nothing.
+struct Closed;
+
+impl Write for Closed {
+    fn write(&mut self, _buf: &[u8]) -> io::Result<usize> {
+        Err(Error::from(ErrorKind::BrokenPipe))
+    }
+
+    fn flush(&mut self) -> io::Result<()> {
+        Ok(())
+    }
+}
+
+#[derive(Drop)]
+struct Outcome {
+    status: u8,
+    out: Vec<u8>,
+    err: Vec<u8>,
+}
+
+fn outcome(alloc: Global, words: &[&str], program: &[u8], trace: &[u8]) -> Result<Outcome, Fail> {
+    let mut owned = Vec::new(alloc);
+    owned.push(String::from_str(alloc, "tsoq")?)?;
+    for word in words {
+        owned.push(String::from_str(alloc, word)?)?;
+    }
+    let mut files = MemoryFiles { program, trace };
+    let mut out = Vec::new(alloc);
+    let mut err = Vec::new(alloc);
+    let status = run(alloc, owned.as_slice(), &mut files, &mut out, &mut err);
+    let MemoryFiles {
+        program: _,
+        trace: _,
+    } = files;
+    Ok(Outcome { status, out, err })
+}
+
+fn replayed(alloc: Global, program: &str, trace: &str) -> Result<Outcome, Fail> {
+    outcome(
+        alloc,
+        &["replay", "program", "trace"],
+        program.as_bytes(),
+        trace.as_bytes(),
+    )
+}
+
+// The replay prints nothing but this line of standard error, with this status.
+fn refuses(
+    rt: &impl Abort,
+    alloc: Global,
+    program: &str,
+    trace: &str,
+    status: u8,
+    line: &str,
+) -> Result<(), Fail> {
+    let outcome = replayed(alloc, program, trace)?;
+    assert_eq!(rt; outcome.err.as_slice(), line.as_bytes());
+    assert_eq!(rt; outcome.status, status);
+    assert!(rt; outcome.out.is_empty());
+    Ok(())
+}
+
+// The text with its first occurrence of a part changed.
+fn changed(alloc: Global, text: &str, part: &str, other: &str) -> Result<String, Fail> {
+    let mut result = String::new(alloc);
+    match text.split_once(part) {
+        Some((before, after)) => {
+            result.push_str(before)?;
+            result.push_str(other)?;
+            result.push_str(after)?;
+        }
+        None => result.push_str("the part is not there")?,
+    }
+    Ok(result)
+}
+
+#[test]
+fn replays_go_back(rt: HostRuntime) -> Result<(), Fail> {
+    let alloc = rt.alloc();
+    let to_2 = outcome(
+        alloc,
+        &["replay", "program", "trace", "--to", "2"],
+        OWN_STORE.as_bytes(),
+        OWN_STORE_TRACE.as_bytes(),
+    )?;
+    assert_eq!(rt; to_2.out.as_slice(), OWN_STORE_TO_2.as_bytes());
+    assert_eq!(rt; to_2.status, 0);
+    let past = outcome(
+        alloc,
+        &["replay", "program", "trace", "--to", "18446744073709551615"],
+        OWN_STORE.as_bytes(),
+        OWN_STORE_TRACE.as_bytes(),
+    )?;
+    assert!(rt; past.out.ends_with(OWN_STORE_END.as_bytes()));
+    let whole = replayed(alloc, OWN_STORE, OWN_STORE_TRACE)?;
+    assert_eq!(rt; past.out.as_slice(), whole.out.as_slice());
+    Ok(())
+}
+
+#[test]
+fn locked_instructions_are_five_labels(rt: HostRuntime) -> Result<(), Fail> {
+    let alloc = rt.alloc();
+    let whole = replayed(alloc, EXCHANGE, EXCHANGE_TRACE)?;
+    assert_eq!(rt; whole.status, 0);
+    assert!(rt;
+        whole
+            .out
+            .ends_with(b"thread 1 idle\nviolation: fault in thread 0\n")
+    );
+    let within = outcome(
+        alloc,
+        &["replay", "program", "trace", "--to", "4"],
+        EXCHANGE.as_bytes(),
+        EXCHANGE_TRACE.as_bytes(),
+    )?;
+    assert!(rt; within.out.ends_with(LOCKED.as_bytes()));
+    let fused = "tso-trace 1\n0 call push 7\n0 reg\n0 write n[0] = 5\n0 reg\n0 fault assert\n";
+    refuses(&rt, alloc, EXCHANGE, fused, 3, "T01 label 3\n")
+}
+
+#[test]
+fn programs_are_refused(rt: HostRuntime) -> Result<(), Fail> {
+    let alloc = rt.alloc();
+    refuses(&rt, alloc, "", OWN_STORE_TRACE, 2, "E08 line 0\n")?;
+    let spaces = vec![in alloc; b' '; 65_537]?;
+    let long = outcome(alloc, &["replay", "program", "trace"], &spaces, b"")?;
+    assert_eq!(rt; long.err.as_slice(), b"E01 line 0\n".as_slice());
+    assert_eq!(rt; long.status, 2);
+    refuses(&rt, alloc, ".mode strict\n", "", 2, "E03 line 1\n")?;
+    refuses(&rt, alloc, ".capacity 17\n", "", 2, "E05 line 1\n")?;
+    let unwritten = changed(alloc, OWN_STORE, "  mov rdx, 0\n", "")?;
+    refuses(&rt, alloc, unwritten.as_str(), "", 2, "E14 line 15\n")
+}
+
+#[test]
+fn traces_are_refused(rt: HostRuntime) -> Result<(), Fail> {
+    let alloc = rt.alloc();
+    let memory = changed(alloc, OWN_STORE_TRACE, "0 read n[0] = 5", "0 read n[0] = 0")?;
+    refuses(&rt, alloc, OWN_STORE, memory.as_str(), 3, "T01 label 5\n")?;
+    let good = changed(alloc, OWN_STORE_TRACE, "0 fault assert\n", "")?;
+    refuses(&rt, alloc, OWN_STORE, good.as_str(), 3, "T02\n")?;
+    let headless = changed(alloc, OWN_STORE_TRACE, "tso-trace 1\n", "")?;
+    refuses(&rt, alloc, OWN_STORE, headless.as_str(), 3, "T03 line 1\n")?;
+    let unended = changed(alloc, OWN_STORE_TRACE, "assert\n", "assert")?;
+    refuses(&rt, alloc, OWN_STORE, unended.as_str(), 3, "T03 line 8\n")?;
+    let outside = changed(alloc, OWN_STORE_TRACE, "n[0] = 5", "n[1] = 5")?;
+    refuses(&rt, alloc, OWN_STORE, outside.as_str(), 3, "T03 line 3\n")?;
+    let nobody = changed(
+        alloc,
+        OWN_STORE_TRACE,
+        "1 call",
+        "18446744073709551615 call",
+    )?;
+    refuses(&rt, alloc, OWN_STORE, nobody.as_str(), 3, "T01 label 3\n")
+}
+
+// A push that loads from `[a + rcx*8 <offset>]` with this index; pop does nothing.
+fn indexed(alloc: Global, index: &str, offset: &str) -> Result<String, Fail> {
+    let mut text = String::from_str(alloc, ".capacity 1\n.mode weak\n.array a 2 = 3, 4\n.push\n")?;
+    text.push_str("  mov rcx, ")?;
+    text.push_str(index)?;
+    text.push_str("\n  mov rax, qword ptr [a + rcx*8")?;
+    text.push_str(offset)?;
+    text.push_str(
+        "]\n  ret\n.end\n.pop\n  mov rdx, 0\n  mov rax, 0\n  ret\n.end\n.thread push 7\n",
+    )?;
+    Ok(text)
+}
+
+#[test]
+fn indexes_never_wrap(rt: HostRuntime) -> Result<(), Fail> {
+    let alloc = rt.alloc();
+    let fault = "tso-trace 1\n0 call push 7\n0 reg\n0 fault range\n";
+    let first = "tso-trace 1\n0 call push 7\n0 reg\n0 read a[0] = 3\n0 fault answer\n";
+    let second = "tso-trace 1\n0 call push 7\n0 reg\n0 read a[1] = 4\n0 fault answer\n";
+    let rows = [
+        ("0x2000000000000000", "", fault),
+        ("0", " - 8", fault),
+        ("1", " - 8", first),
+        ("2", " - 8", second),
+        ("3", " - 8", fault),
+    ];
+    for (index, offset, trace) in rows {
+        let program = indexed(alloc, index, offset)?;
+        assert_eq!(rt;
+            replayed(alloc, program.as_str(), trace)?.status,
+            0,
+            "{index}{offset}"
+        );
+    }
+    let program = indexed(alloc, "0x2000000000000000", "")?;
+    refuses(&rt, alloc, program.as_str(), first, 3, "T01 label 3\n")
+}
+
+#[test]
+fn words_files_and_streams_fail(rt: HostRuntime) -> Result<(), Fail> {
+    let alloc = rt.alloc();
+    let missing = outcome(alloc, &["replay", "nothing", "trace"], b"", b"")?;
+    assert_eq!(rt; missing.err.as_slice(), b"cannot read nothing\n".as_slice());
+    assert_eq!(rt; missing.status, 6);
+    let untraced = outcome(alloc, &["replay", "program", "nothing"], b"", b"")?;
+    assert_eq!(rt;
+        untraced.err.as_slice(),
+        b"cannot read nothing\n".as_slice()
+    );
+    for words in [
+        ["verify", "program", "trace"].as_slice(),
+        ["check", "program", "trace"].as_slice(),
+        ["replay", "program"].as_slice(),
+        ["replay", "program", "trace", "--to", "-1"].as_slice(),
+        ["replay", "program", "trace", "--to", "x"].as_slice(),
+        [].as_slice(),
+    ] {
+        assert_eq!(rt; outcome(alloc, words, b"", b"")?.status, 64);
+    }
+    let help = outcome(alloc, &["--help"], b"", b"")?;
+    assert_eq!(rt; help.status, 0);
+    assert!(rt; !help.out.is_empty());
+    Ok(())
+}
+
+#[test]
+fn closed_output_is_a_failure(rt: HostRuntime) -> Result<(), Fail> {
+    let alloc = rt.alloc();
+    let mut words = Vec::new(alloc);
+    for word in ["tsoq", "replay", "program", "trace"] {
+        words.push(String::from_str(alloc, word)?)?;
+    }
+    let mut files = MemoryFiles {
+        program: OWN_STORE.as_bytes(),
+        trace: OWN_STORE_TRACE.as_bytes(),
+    };
+    let mut out = Closed;
+    let mut err = Vec::new(alloc);
+    let status = run(alloc, words.as_slice(), &mut files, &mut out, &mut err);
+    assert_eq!(rt; status, 6);
+    let MemoryFiles {
+        program: _,
+        trace: _,
+    } = files;
+    let Closed = out;
+    Ok(())
+}
