@@ -1,11 +1,11 @@
 -- Marks from which no mark can be added hold each position that control can come to.
-use Rattle.std.proofs.Common.{◌≡◌, ℕ, ◌<◌, ◌≤◌, ◌⊎◌, inl, inr, Bool, true, false, List, [], ◌∷◌, length, refl, sym, ap, subst, ◌∙◌, arith}
-use Rattle.std.specs.Prelude.{Option, Some, None, slice_get}
+use Rattle.std.proofs.Common.{◌≡◌, ℕ, ◌<◌, ◌≤◌, inl, inr, Bool, true, List, [], ◌∷◌, length, subst, arith}
+use Rattle.std.specs.Prelude.{Option, None}
 use Rattle.std.proofs.lemmas.Option.{slice_get_past}
 use Rattle.std.proofs.lemmas.Bool.{cases_lt}
 use Rattle.tso_line.specs.declared.instruction.Instruction.{Instruction}
 use Rattle.tso_flow.specs.declared.location.Location.{Location}
-use Rattle.tso_flow.specs.Paths.{goes_on_from, is_edge, Path, Reaches}
+use Rattle.tso_flow.specs.Paths.{goes_on_from, Path, Reaches}
 use Rattle.tso_flow.specs.Marks.{is_marked, IsClosed}
 
 -- where no instruction stands, no path goes on

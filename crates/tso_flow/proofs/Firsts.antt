@@ -1,6 +1,6 @@
 -- The first of several faults.
-use Rattle.std.proofs.Common.{◌≡◌, ℕ, ◌+◌, ◌<◌, ◌≤◌, ◌⊎◌, inl, inr, Bool, true, false, cond, List, length, refl, sym, ap, subst, ◌∙◌, arith, below_more}
-use Rattle.std.specs.Prelude.{Option, Some, None, slice_get, IsTrue, ◌&&◌, ◌||◌, ◌==◌, nat_lt, nat_le}
+use Rattle.std.proofs.Common.{◌≡◌, ℕ, ◌+◌, ◌<◌, ◌≤◌, ◌⊎◌, inl, inr, Bool, true, false, cond, List, refl, subst, arith, below_more}
+use Rattle.std.specs.Prelude.{Option, Some, None, slice_get, ◌&&◌, ◌||◌, ◌==◌, nat_lt, nat_le}
 use Rattle.std.proofs.lemmas.Bool.Decides.{nat_tests}
 use Rattle.tso_line.specs.declared.instruction.Instruction.{Instruction}
 use Rattle.tso_prog.specs.declared.fault.Code.{Code}

@@ -4,3 +4,4 @@ pub mod Limits
 pub mod Locations
 pub mod Marking
 pub mod Shapes
+pub mod Sound

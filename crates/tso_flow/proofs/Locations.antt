@@ -1,13 +1,12 @@
 -- The registers and flags are looked for one after the other, and the procedures too.
-use Rattle.std.proofs.Common.{◌≡◌, ℕ, ◌+◌, ◌<◌, ◌≤◌, ◌⊎◌, inl, inr, Bool, true, false, not, List, length, refl, sym, ap, subst, ◌∙◌, arith, below_more, lit<}
+use Rattle.std.proofs.Common.{◌≡◌, ℕ, ◌+◌, ◌<◌, ◌⊎◌, inl, inr, Bool, true, false, not, List, length, refl, sym, subst, arith, below_more, lit<}
 use Rattle.std.specs.Prelude.{Option, Some, None, slice_get, IsTrue}
-use Rattle.std.proofs.lemmas.Option.{slice_get_cases}
+use Rattle.std.proofs.lemmas.Option.{slice_get_within}
 use Rattle.tso_line.specs.declared.instruction.Instruction.{Instruction}
 use Rattle.tso_line.specs.declared.instruction.Register.TheVariants.{Rax, Rbx, Rcx, Rdx, Rsi, Rdi, Rbp, R8, R9, R10, R11, R12, R13, R14, R15}
 use Rattle.tso_prog.specs.declared.client.Client.{Client}
 use Rattle.tso_prog.specs.declared.client.Procedure.{Procedure}
 use Rattle.tso_prog.specs.declared.fault.Code.{Code}
-use Rattle.tso_prog.specs.declared.fault.Code.TheVariants.{E11, E12, E13, E14}
 use Rattle.tso_prog.specs.declared.fault.Fault.{Fault}
 use Rattle.tso_flow.specs.declared.location.TheConstants.{LOCATIONS}
 use Rattle.tso_flow.specs.declared.location.Flag.TheVariants.{Zero, Carry, Sign, Overflow}
@@ -19,7 +18,7 @@ use Rattle.tso_flow.specs.Accesses.{is_given}
 use Rattle.tso_flow.specs.Faults.{is_back_without_bound, is_forward_with_bound, GoesPastEnd, ReadsUnwritten, by_code, FaultIn, HasFault, IsFirst}
 use Rattle.tso_flow.specs.First.{earlier, ShapeIn, ReadIn, ReadOf}
 use Rattle.tso_flow.proofs.Firsts.{first_changed, first_of_two}
-use Rattle.tso_flow.proofs.Shapes.{Case, cases, past, back, forward, unwritten}
+use Rattle.tso_flow.proofs.Shapes.{cases, past, back, forward, unwritten}
 
 -- ---- registers and flags
 
@@ -71,9 +70,6 @@ module _ (kind : ProcedureKind) (steps : List (Instruction ℕ ℕ)) (lines : Li
 
 -- ---- a procedure
 
-within : (steps : List (Instruction ℕ ℕ)) (i : ℕ) (step : Instruction ℕ ℕ) → slice_get steps i ≡ Some step → i < length steps
-within steps i step e = elim (slice_get_cases steps i).1 [ inl h ↦ h.1 | inr h ↦ absurd (cc (e, h.1)) ]
-
 not_true : (b : Bool) → not b ≡ true → b ≡ false
 not_true true e = absurd cc
 not_true false e = refl
@@ -83,9 +79,6 @@ not_false true e = absurd cc
 not_false false e = refl
 
 module _ (kind : ProcedureKind) (procedure : Procedure) (f : Fault) where
-  Unwritten : ℕ → Instruction ℕ ℕ → Type 0
-  Unwritten i step = (x : Location) × ReadsUnwritten kind procedure.instructions x i step
-
   shape_fault : ShapeIn procedure.instructions procedure.lines (length procedure.instructions) f → FaultIn kind procedure f
   shape_fault s =
       let A : Type 0 = GoesPastEnd procedure.instructions s.0 s.1 in
@@ -116,7 +109,7 @@ module _ (kind : ProcedureKind) (procedure : Procedure) (f : Fault) where
       let B : Type 0 = IsTrue (is_back_without_bound s.0 s.1) in
       let C : Type 0 = IsTrue (is_forward_with_bound s.0 s.1) in
       let D : Type 0 = (x : Location) × ReadsUnwritten kind procedure.instructions x s.0 s.1 in
-      let lt : s.0 < length procedure.instructions = within procedure.instructions s.0 s.1 s.3 in
+      let lt : s.0 < length procedure.instructions = slice_get_within procedure.instructions s.0 s.1 s.3 in
       elim (cases A B C D f.code s.4) [
         | past e a ↦ inl (s.0, s.1, lt, s.2, s.3, subst (λ (c : Code). by_code A B C ⊥ c) (sym e) a)
         | back e b ↦ inl (s.0, s.1, lt, s.2, s.3, subst (λ (c : Code). by_code A B C ⊥ c) (sym e) b)

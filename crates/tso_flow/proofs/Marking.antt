@@ -1,11 +1,11 @@
 -- What one step of the search for marks keeps.
-use Rattle.std.proofs.Common.{◌≡◌, ℕ, ◌+◌, ◌<◌, ◌⊎◌, inl, inr, Bool, true, false, ◌||◌, List, [], ◌∷◌, ◌++◌, length, refl, sym, ap, subst, ◌∙◌, arith}
+use Rattle.std.proofs.Common.{◌≡◌, ℕ, ◌+◌, ◌<◌, ◌⊎◌, inl, inr, Bool, true, false, ◌||◌, List, [], ◌∷◌, ◌++◌, length, refl, sym, subst, ◌∙◌, arith}
 use Rattle.std.specs.Prelude.{Option, Some, slice_get}
 use Rattle.std.proofs.Common.{below_more}
 use Rattle.tso_line.specs.declared.instruction.Instruction.{Instruction}
 use Rattle.tso_flow.specs.declared.location.Location.{Location}
 use Rattle.tso_flow.specs.Paths.{goes_on_from, is_edge, Path, Reaches}
-use Rattle.tso_flow.specs.Marks.{is_marked, unmarked, AllReached, IsClosed}
+use Rattle.tso_flow.specs.Marks.{is_marked, AllReached, IsClosed}
 
 or_right : (a b : Bool) → b ≡ true → (a || b) ≡ true
 or_right true b e = refl

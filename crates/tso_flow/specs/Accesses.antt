@@ -1,5 +1,5 @@
 -- Which registers and flags an instruction reads and writes.
-use Rattle.std.specs.Prelude.{ℕ, Bool, true, false, not, ◌&&◌, ◌||◌, ◌==◌, Option, Some, None}
+use Rattle.std.specs.Prelude.{ℕ, Bool, true, false, not, ◌||◌, ◌==◌, Option, Some, None}
 use Rattle.tso_word.specs.declared.Condition.{Condition}
 use Rattle.tso_word.specs.declared.Condition.TheVariants.{E, Ne, B, Ae, Be, A, L, Ge, Le, G}
 use Rattle.tso_line.specs.declared.instruction.Register.{Register}
@@ -8,9 +8,9 @@ use Rattle.tso_line.specs.declared.instruction.Address.{Address}
 use Rattle.tso_line.specs.declared.instruction.Source.{Source}
 use Rattle.tso_line.specs.declared.instruction.Source.TheVariants as source
 use Rattle.tso_line.specs.declared.instruction.LockedOperation.{LockedOperation}
-use Rattle.tso_line.specs.declared.instruction.LockedOperation.TheVariants.{Exchange, CompareExchange, ExchangeAdd}
+use Rattle.tso_line.specs.declared.instruction.LockedOperation.TheVariants.{Exchange, CompareExchange}
 use Rattle.tso_line.specs.declared.instruction.Instruction.{Instruction}
-use Rattle.tso_line.specs.declared.instruction.Instruction.TheVariants.{Move, Load, Store, Compute, Compare, Increment, Decrement, Jump, Assert, Locked, Fence, Nop, Pause, Return}
+use Rattle.tso_line.specs.declared.instruction.Instruction.TheVariants.{Move, Load, Store, Compute, Compare, Increment, Decrement, Jump, Assert, Locked, Return}
 use Rattle.tso_flow.specs.declared.location.Flag.{Flag}
 use Rattle.tso_flow.specs.declared.location.Flag.TheVariants.{Zero, Carry, Sign, Overflow}
 use Rattle.tso_flow.specs.declared.location.Location.{Location}
@@ -38,6 +38,7 @@ register_number R13 = 12
 register_number R14 = 13
 register_number R15 = 14
 
+-- the two are one register
 unfoldable pub is_same : Register → Register → Bool
 is_same a b = register_number a == register_number b
 
@@ -46,6 +47,7 @@ abbrev pub is_source : Source → Register → Bool
 is_source (source.Register a) b = is_same a b
 is_source (source.Word w) b = false
 
+-- there is a register, and it is this one
 abbrev pub is_some_register : Option Register → Register → Bool
 is_some_register None b = false
 is_some_register (Some a) b = is_same a b
@@ -82,6 +84,7 @@ abbrev pub locked_writes : LockedOperation → Register → Register → Bool
 locked_writes CompareExchange register b = is_same Rax b
 locked_writes _ register b = is_same register b
 
+-- a move, a load, arithmetic and logic write their destination
 abbrev pub writes_register : Instruction ℕ ℕ → Register → Bool
 writes_register (Move to from) b = is_same to b
 writes_register (Load to from) b = is_same to b
@@ -93,18 +96,22 @@ writes_register _ b = false
 
 -- ---- flags
 
+-- ZF
 abbrev pub is_zero_flag : Flag → Bool
 is_zero_flag Zero = true
 is_zero_flag _ = false
 
+-- CF
 abbrev pub is_carry_flag : Flag → Bool
 is_carry_flag Carry = true
 is_carry_flag _ = false
 
+-- SF
 abbrev pub is_sign_flag : Flag → Bool
 is_sign_flag Sign = true
 is_sign_flag _ = false
 
+-- OF
 abbrev pub is_overflow_flag : Flag → Bool
 is_overflow_flag Overflow = true
 is_overflow_flag _ = false
@@ -122,16 +129,18 @@ condition_reads Ge f = is_sign_flag f || is_overflow_flag f
 condition_reads Le f = is_zero_flag f || is_sign_flag f || is_overflow_flag f
 condition_reads G f = is_zero_flag f || is_sign_flag f || is_overflow_flag f
 
+-- a conditional jump and an assertion read the flags of their condition
 abbrev pub reads_flag : Instruction ℕ ℕ → Flag → Bool
 reads_flag (Jump (Some condition) target bound) f = condition_reads condition f
 reads_flag (Assert condition) f = condition_reads condition f
 reads_flag _ f = false
 
+-- an exchange leaves the flags as they were
 abbrev pub locked_writes_flags : LockedOperation → Bool
 locked_writes_flags Exchange = false
 locked_writes_flags _ = true
 
--- an increment or a decrement leaves the carry as it was
+-- arithmetic, logic and comparisons write all flags, but an increment or a decrement leaves the carry as it was
 abbrev pub writes_flag : Instruction ℕ ℕ → Flag → Bool
 writes_flag (Compute operation to from) f = true
 writes_flag (Compare comparison left right) f = true
@@ -147,6 +156,7 @@ unfoldable pub reads : ProcedureKind → Instruction ℕ ℕ → Location → Bo
 reads kind step (location.Register b) = reads_register kind step b
 reads kind step (location.Flag f) = reads_flag step f
 
+-- the instruction writes this register or flag
 unfoldable pub writes : Instruction ℕ ℕ → Location → Bool
 writes step (location.Register b) = writes_register step b
 writes step (location.Flag f) = writes_flag step f

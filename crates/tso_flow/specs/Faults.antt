@@ -1,5 +1,5 @@
 -- The faults of a client's control flow, and which of them is first.
-use Rattle.std.specs.Prelude.{◌≡◌, ℕ, ◌+◌, ◌≤◌, ◌<◌, Bool, true, false, not, ◌&&◌, ◌||◌, ◌==◌, nat_lt, nat_le, List, length, Option, Some, None, slice_get, IsTrue, is_some, is_none}
+use Rattle.std.specs.Prelude.{◌≡◌, ℕ, ◌≤◌, Bool, false, not, ◌&&◌, ◌||◌, ◌==◌, nat_lt, nat_le, List, length, Option, Some, None, slice_get, IsTrue, is_some, is_none}
 use Rattle.tso_line.specs.declared.instruction.Instruction.{Instruction}
 use Rattle.tso_line.specs.declared.instruction.Instruction.TheVariants.{Jump}
 use Rattle.tso_prog.specs.declared.client.Client.{Client}
@@ -9,17 +9,18 @@ use Rattle.tso_prog.specs.declared.fault.Code.TheVariants.{E01, E02, E03, E04, E
 use Rattle.tso_prog.specs.declared.fault.Fault.{Fault}
 use Rattle.tso_flow.specs.declared.location.Location.{Location}
 use Rattle.tso_flow.specs.declared.location.ProcedureKind.{ProcedureKind}
-use Rattle.tso_flow.specs.declared.location.ProcedureKind.TheVariants.{Push, Pop}
 use Rattle.tso_flow.specs.Accesses.{reads, is_given}
+use Rattle.tso_flow.specs.Calls.{procedure_of_kind}
 use Rattle.tso_flow.specs.Paths.{goes_on, Reaches}
 
 -- ---- one instruction
 
--- a jump goes back where its target is at or before itself
+-- a jump back, whose target is at or before itself, without bound
 abbrev pub is_back_without_bound : ℕ → Instruction ℕ ℕ → Bool
 is_back_without_bound i (Jump when target bound) = nat_le target i && is_none bound
 is_back_without_bound i _ = false
 
+-- a jump forward, whose target is behind itself, with a bound
 abbrev pub is_forward_with_bound : ℕ → Instruction ℕ ℕ → Bool
 is_forward_with_bound i (Jump when target bound) = nat_lt i target && is_some bound
 is_forward_with_bound i _ = false
@@ -47,18 +48,15 @@ FaultAt kind steps i step code =
 
 -- ---- a client
 
--- the procedure that calls of this kind run
-abbrev pub procedure_of_kind : Client → ProcedureKind → Procedure
-procedure_of_kind client Push = client.push
-procedure_of_kind client Pop = client.pop
-
 -- the fault stands in a procedure, at an instruction of the fault's line
 abbrev pub FaultIn : ProcedureKind → Procedure → Fault → Type 0
 FaultIn kind procedure fault = (i : ℕ) × (step : Instruction ℕ ℕ) × (slice_get procedure.lines i ≡ Some fault.line) × (slice_get procedure.instructions i ≡ Some step) × FaultAt kind procedure.instructions i step fault.code
 
+-- the fault stands in one of the client's procedures
 abbrev pub HasFault : Client → Fault → Type 0
 HasFault client fault = (kind : ProcedureKind) × FaultIn kind (procedure_of_kind client kind) fault
 
+-- the number of a code
 abbrev pub code_number : Code → ℕ
 code_number E01 = 1
 code_number E02 = 2

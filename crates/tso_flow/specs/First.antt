@@ -1,8 +1,7 @@
 -- The first of several faults, and the faults that are looked for one after the other.
-use Rattle.std.specs.Prelude.{◌≡◌, ℕ, ◌+◌, ◌≤◌, ◌<◌, Bool, true, false, ◌&&◌, ◌||◌, nat_le, if◌then◌else◌, List, length, Option, Some, None, slice_get, IsTrue, ◌↔◌}
+use Rattle.std.specs.Prelude.{◌≡◌, ℕ, ◌<◌, Bool, true, false, ◌&&◌, ◌||◌, nat_le, if◌then◌else◌, List, length, Option, Some, None, slice_get, IsTrue, ◌↔◌}
 use Rattle.tso_line.specs.declared.instruction.Instruction.{Instruction}
 use Rattle.tso_prog.specs.declared.client.Client.{Client}
-use Rattle.tso_prog.specs.declared.client.Procedure.{Procedure}
 use Rattle.tso_prog.specs.declared.fault.Code.{Code}
 use Rattle.tso_prog.specs.declared.fault.Code.TheVariants.{E11, E12, E13, E14}
 use Rattle.tso_prog.specs.declared.fault.Fault.{Fault}
@@ -11,9 +10,9 @@ use Rattle.tso_flow.specs.declared.location.ProcedureKind.{ProcedureKind}
 use Rattle.tso_flow.specs.declared.flow.FlowError.{FlowError}
 use Rattle.tso_flow.specs.declared.flow.FlowError.TheVariants.{Refused, Memory}
 use Rattle.tso_flow.specs.Accesses.{reads, is_given}
-use Rattle.tso_flow.specs.Paths.{next_of, target_of, goes_on, Reaches}
+use Rattle.tso_flow.specs.Paths.{next_of, target_of, Reaches}
 use Rattle.tso_flow.specs.Marks.{is_marked}
-use Rattle.tso_flow.specs.Faults.{GoesPastEnd, ReadsUnwritten, by_code, is_back_without_bound, is_forward_with_bound, is_no_later, HasFault, IsFirst}
+use Rattle.tso_flow.specs.Faults.{GoesPastEnd, by_code, is_back_without_bound, is_forward_with_bound, is_no_later, HasFault, IsFirst}
 
 -- the fault with which a client is refused is its first
 abbrev pub IsRefusal : Client → FlowError → Type 0
@@ -26,6 +25,7 @@ earlier None b = b
 earlier (Some x) None = Some x
 earlier (Some x) (Some y) = if is_no_later x y then Some x else Some y
 
+-- there is a position, and no instruction stands there
 abbrev pub is_past : ℕ → Option ℕ → Bool
 is_past len None = false
 is_past len (Some t) = nat_le len t
@@ -42,9 +42,11 @@ shape_code len i step is_reached =
     else (if is_forward_with_bound i step then Some E13
     else None))
 
+-- a fault stands at the instruction that does not come from what it reads
 abbrev pub ShapeAt : List (Instruction ℕ ℕ) → ℕ → Instruction ℕ ℕ → Code → Type 0
 ShapeAt steps i step code = by_code (GoesPastEnd steps i step) (IsTrue (is_back_without_bound i step)) (IsTrue (is_forward_with_bound i step)) ⊥ code
 
+-- the instruction reads this register or flag, and a path leads to it on which nothing writes that
 abbrev pub ReadAt : ProcedureKind → List (Instruction ℕ ℕ) → Location → ℕ → Instruction ℕ ℕ → Code → Type 0
 ReadAt kind steps x i step code = (code ≡ E14) × IsTrue (reads kind step x) × Reaches (Some x) steps i
 

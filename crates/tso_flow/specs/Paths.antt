@@ -16,6 +16,7 @@ abbrev pub target_of : Instruction ℕ ℕ → Option ℕ
 target_of (Jump when target bound) = Some target
 target_of _ = None
 
+-- there is a position, and it is this one
 abbrev pub is_at : Option ℕ → ℕ → Bool
 is_at None j = false
 is_at (Some t) j = t == j
@@ -29,6 +30,7 @@ abbrev pub leaves : Option Location → Instruction ℕ ℕ → Bool
 leaves None step = true
 leaves (Some x) step = not (writes step x)
 
+-- the same of an instruction that leaves unwritten what is looked for, if an instruction stands there
 abbrev pub goes_on_from : Option Location → Option (Instruction ℕ ℕ) → ℕ → ℕ → Bool
 goes_on_from tracked None i j = false
 goes_on_from tracked (Some step) i j = leaves tracked step && goes_on step i j

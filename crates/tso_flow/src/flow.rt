@@ -1,16 +1,19 @@
 //! Clients whose control flow is sound.
 
-ghost use Rattle.std.specs.Prelude.{◌≡◌, IfOk, IfErr};
-ghost use Rattle.tso_flow.specs.Calls.{step_limit};
-ghost use Rattle.tso_flow.specs.Faults.{HasFault, HasNoFault, IsFirst};
+ghost use Rattle.std.specs.Prelude.{◌≡◌, ◌<◌, length, slice_get, Some, IfOk, IfErr};
+ghost use Rattle.tso_flow.specs.Calls.{calls_of_client, procedure_of, procedure_of_kind, step_limit};
+ghost use Rattle.tso_flow.specs.Laws.{StaysWithin, HasBounds, ReadsWritten};
+ghost use Rattle.tso_flow.specs.Faults.{HasNoFault};
 ghost use Rattle.tso_flow.specs.First.{IsRefusal};
 ghost use Rattle.tso_flow.specs.declared.flow.FlowError.TheVariants.{Memory};
 
 use crate::fault::first_fault;
 use crate::limit;
+use crate::location::ProcedureKind;
 use std::alloc::{AllocError, Global};
 use thiserror::Error;
-use tso_prog::{Client, Fault};
+use tso_line::CallKind;
+use tso_prog::{Client, Fault, Procedure};
 
 /// A client in which no fault of control flow stands: control never runs past a procedure's end, each jump back has
 /// a bound and no jump forward has one, and no path reads a register or a flag before it writes it.
@@ -61,6 +64,36 @@ impl Checked {
         &self.client
     }
 
+    /// The procedure that a call runs.
+    pub fn procedure(&self, call: CallKind) -> &Procedure
+        ensures { result.now ≡ procedure_of self.now.client call }
+    {
+        match call {
+            CallKind::Push(_) => &self.client.push,
+            CallKind::Pop => &self.client.pop,
+        }
+    }
+
+    /// How many threads there are: those of the client, and one more for the prologue where there is one.
+    pub fn thread_count(&self) -> usize
+        ensures { result ≡ length (calls_of_client self.now.client) }
+    {
+        self.client.threads.len() + usize::from(self.client.prologue.len() > 0)
+    }
+
+    /// The calls of a thread. The prologue's number is the count of the other threads.
+    pub fn calls(&self, thread: usize) -> &[CallKind]
+        requires { thread < length (calls_of_client self.now.client) }
+        ensures { slice_get (calls_of_client self.now.client) thread ≡ Some result.now }
+    {
+        let threads = self.client.threads.as_slice();
+        if thread < threads.len() {
+            threads[thread].as_slice()
+        } else {
+            self.client.prologue.as_slice()
+        }
+    }
+
     /// How many steps a run of the client can take at most: over all calls, the prologue's too, the sum of
     /// `5 * n * (1 + b) + 2`, where the call's procedure has `n` instructions and the sum of its bounds is `b`.
     pub fn step_limit(&self) -> u64
@@ -68,4 +101,12 @@ impl Checked {
     {
         limit::step_limit(&self.client)
     }
+
+    /// What is known of each procedure: control that comes from its first instruction stays within it, exactly the jumps
+    /// back have a bound, and nothing is read on a path that has not written it. This does nothing when it runs.
+    pub fn flow_is_sound(&self, kind: ProcedureKind)
+        ensures within { StaysWithin (procedure_of_kind self.now.client kind) }
+        ensures bounds { HasBounds (procedure_of_kind self.now.client kind) }
+        ensures written { ReadsWritten kind (procedure_of_kind self.now.client kind) }
+    {}
 }

@@ -1,6 +1,9 @@
 //! Registers, flags and procedures by their names.
 
-use tso_line::Register;
+ghost use Rattle.std.specs.Prelude.{◌≡◌};
+ghost use Rattle.tso_flow.specs.Calls.{kind_of};
+
+use tso_line::{CallKind, Register};
 
 /// A flag that a condition can read.
 #[derive(Clone, Copy, Debug, PartialEq, Eq)]
@@ -23,6 +26,17 @@ pub enum Location {
 pub enum ProcedureKind {
     Push,
     Pop,
+}
+
+impl From<CallKind> for ProcedureKind {
+    ghost from_gives = { λ call kind. kind ≡ kind_of call };
+
+    fn from(call: CallKind) -> ProcedureKind {
+        match call {
+            CallKind::Push(_) => ProcedureKind::Push,
+            CallKind::Pop => ProcedureKind::Pop,
+        }
+    }
 }
 
 /// Each register and each flag.

@@ -36,6 +36,12 @@ const COMPARE: Step = Instruction::Compare {
     right: Source::Word(0),
 };
 
+const COMPARE_RAX: Step = Instruction::Compare {
+    comparison: Comparison::Cmp,
+    left: Register::Rax,
+    right: Source::Word(0),
+};
+
 const CLEAR_RAX: Step = Instruction::Compute {
     operation: Operation::Logic(BitOperation::Xor),
     to: Register::Rax,
@@ -238,30 +244,221 @@ fn both_procedures(rt: HostRuntime) -> Result<(), Fail> {
     Ok(())
 }
 
+// The limit of a client with these procedures, which runs these calls in two threads.
+fn limit(
+    alloc: Global,
+    push: &[Step],
+    pop: &[Step],
+    first: &[CallKind],
+    second: &[CallKind],
+) -> Result<u64, FlowError>
+    requires push_few { length push.now ≤ 100 }
+    requires push_small { IsTrue (are_bounds_small push.now) }
+    requires push_within { IsTrue (are_targets_within (length push.now) push.now) }
+    requires pop_few { length pop.now ≤ 100 }
+    requires pop_small { IsTrue (are_bounds_small pop.now) }
+    requires pop_within { IsTrue (are_targets_within (length pop.now) pop.now) }
+    requires first { length first.now ≤ 4 }
+    requires second { length second.now ≤ 4 }
+{
+    let (push, pop) = (procedure(alloc, 1, push)?, procedure(alloc, 101, pop)?);
+    let checked = check(alloc, client(alloc, push, pop, &[], first, second)?)?;
+    Ok(checked.step_limit())
+}
+
+const PUSH: CallKind = CallKind::Push(7);
+
+const POP: CallKind = CallKind::Pop;
+
 #[test]
-fn limits(rt: HostRuntime) -> Result<(), Fail> {
+fn limits(rt: HostRuntime) {
     let alloc = rt.alloc();
-    let refusal = client(
+    assert_eq!(rt; limit(alloc, &GOOD_PUSH, &GOOD_POP, &[PUSH], &[]), Ok(12));
+    // as many instructions as Lamport's queue has
+    let push = [
+        NOP, NOP, NOP, NOP, NOP, NOP, NOP, NOP, NOP, NOP, NOP, NOP, NOP, SET_RAX, RET,
+    ];
+    let pop = [
+        NOP, NOP, NOP, NOP, NOP, NOP, NOP, NOP, NOP, NOP, NOP, SET_RDX, SET_RAX, RET,
+    ];
+    assert_eq!(rt; limit(alloc, &push, &pop, &[PUSH], &[POP]), Ok(149));
+}
+
+#[test]
+fn limits_of_a_spin_lock(rt: HostRuntime) {
+    let alloc = rt.alloc();
+    let push = [
+        SET_RAX,
+        COMPARE_RAX,
+        jump!(Some(Condition::Ne), 0, Some(1)),
+        NOP,
+        NOP,
+        NOP,
+        NOP,
+        NOP,
+        NOP,
+        NOP,
+        NOP,
+        NOP,
+        NOP,
+        NOP,
+        NOP,
+        NOP,
+        NOP,
+        NOP,
+        NOP,
+        NOP,
+        RET,
+    ];
+    let pop = [
+        SET_RDX,
+        SET_RAX,
+        COMPARE_RAX,
+        jump!(Some(Condition::Ne), 0, Some(1)),
+        NOP,
+        NOP,
+        NOP,
+        NOP,
+        NOP,
+        NOP,
+        NOP,
+        NOP,
+        NOP,
+        NOP,
+        NOP,
+        NOP,
+        NOP,
+        NOP,
+        NOP,
+        RET,
+    ];
+    assert_eq!(rt;
+        limit(alloc, &push, &pop, &[PUSH, PUSH], &[POP, POP]),
+        Ok(828)
+    );
+    let push = [
+        SET_RAX,
+        COMPARE_RAX,
+        jump!(Some(Condition::Ne), 0, Some(0)),
+        NOP,
+        NOP,
+        NOP,
+        NOP,
+        NOP,
+        NOP,
+        NOP,
+        NOP,
+        NOP,
+        NOP,
+        NOP,
+        NOP,
+        NOP,
+        NOP,
+        NOP,
+        NOP,
+        NOP,
+        RET,
+    ];
+    let pop = [
+        SET_RDX,
+        SET_RAX,
+        COMPARE_RAX,
+        jump!(Some(Condition::Ne), 0, Some(0)),
+        NOP,
+        NOP,
+        NOP,
+        NOP,
+        NOP,
+        NOP,
+        NOP,
+        NOP,
+        NOP,
+        NOP,
+        NOP,
+        NOP,
+        NOP,
+        NOP,
+        NOP,
+        RET,
+    ];
+    assert_eq!(rt;
+        limit(alloc, &push, &pop, &[PUSH, PUSH], &[POP, POP]),
+        Ok(418)
+    );
+}
+
+#[test]
+fn limit_of_a_ring(rt: HostRuntime) {
+    let push = [
+        SET_RAX,
+        COMPARE_RAX,
+        jump!(Some(Condition::Ne), 0, Some(2)),
+        jump!(Some(Condition::Ne), 0, Some(2)),
+        NOP,
+        NOP,
+        NOP,
+        NOP,
+        NOP,
+        NOP,
+        NOP,
+        NOP,
+        NOP,
+        NOP,
+        NOP,
+        NOP,
+        NOP,
+        RET,
+    ];
+    let pop = [
+        SET_RDX,
+        SET_RAX,
+        COMPARE_RAX,
+        jump!(Some(Condition::Ne), 0, Some(2)),
+        jump!(Some(Condition::Ne), 0, Some(2)),
+        NOP,
+        NOP,
+        NOP,
+        NOP,
+        NOP,
+        NOP,
+        NOP,
+        NOP,
+        NOP,
+        NOP,
+        NOP,
+        NOP,
+        NOP,
+        NOP,
+        RET,
+    ];
+    assert_eq!(rt;
+        limit(rt.alloc(), &push, &pop, &[PUSH, PUSH], &[POP]),
+        Ok(1406)
+    );
+}
+
+#[test]
+fn parts(rt: HostRuntime) -> Result<(), Fail> {
+    let alloc = rt.alloc();
+    let push = procedure(
         alloc,
-        procedure(alloc, 1, &GOOD_PUSH)?,
-        procedure(alloc, 1, &GOOD_POP)?,
-        &[],
-        &[CallKind::Push(7)],
-        &[],
+        1,
+        &[COMPARE, SET_RAX, jump!(Some(Condition::E), 0, Some(2)), RET],
     )?;
-    assert_eq!(rt; check(alloc, refusal).map(|c| c.step_limit()), Ok(12));
-    let looping = client(
-        alloc,
-        procedure(
-            alloc,
-            1,
-            &[COMPARE, SET_RAX, jump!(Some(Condition::E), 0, Some(2)), RET],
-        )?,
-        procedure(alloc, 1, &GOOD_POP)?,
-        &[CallKind::Push(1)],
-        &[CallKind::Push(7), CallKind::Pop],
-        &[CallKind::Pop],
-    )?;
-    assert_eq!(rt; check(alloc, looping).map(|c| c.step_limit()), Ok(158));
+    let pop = procedure(alloc, 5, &GOOD_POP)?;
+    let client = client(alloc, push, pop, &[PUSH], &[PUSH, POP], &[POP])?;
+    let checked = check(alloc, client)?;
+    assert_eq!(rt; checked.step_limit(), 158);
+    assert_eq!(rt; checked.client().capacity, 1);
+    assert_eq!(rt; checked.procedure(PUSH).instructions.len(), 4);
+    assert_eq!(rt; checked.procedure(POP).instructions.len(), 3);
+    let count = checked.thread_count();
+    assert_eq!(rt; count, 3);
+    if count > 2 {
+        assert_eq!(rt; checked.calls(0), [PUSH, POP].as_slice());
+        assert_eq!(rt; checked.calls(2), [PUSH].as_slice());
+    }
+    checked.flow_is_sound(ProcedureKind::from(PUSH));
+    checked.flow_is_sound(ProcedureKind::from(POP));
     Ok(())
 }

@@ -6,7 +6,7 @@ use Rattle.tso_machine.specs.declared.action.Action.TheVariants as code
 use Rattle.tso_machine.specs.declared.action.FaultKind.{FaultKind}
 use Rattle.tso_machine.specs.declared.action.FaultKind.TheVariants as faults
 use Rattle.tso_machine.specs.declared.frame.Frame.{Frame}
-use Rattle.tso_machine.specs.declared.frame.ProcedureName.{ProcedureName}
+use Rattle.tso_flow.specs.declared.location.ProcedureKind.{ProcedureKind}
 use Rattle.tso_machine.specs.Activations.{Activation, activation}
 use Rattle.tso_machine.specs.Frames.{patched, FitsFrame}
 use Rattle.tso_machine.specs.Instructions.{at_position, with_register, exchanged, new_word}
@@ -18,7 +18,7 @@ fault_view faults.FalseAssertion = model.FalseAssertion
 fault_view faults.BadAnswer = model.BadAnswer
 
 -- what an action of the code means for a call of this procedure in this frame
-abbrev pub meaning : ProcedureName → Frame → Action → model.Action Activation
+abbrev pub meaning : ProcedureKind → Frame → Action → model.Action Activation
 meaning name f (code.Silent patch) = model.Silent (activation name (patched f patch))
 meaning name f (code.Load place to next) = model.Load place (λ w. activation name (at_position next (with_register to w f)))
 meaning name f (code.Store place word next) = model.Store place word (activation name (at_position next f))

@@ -1,10 +1,10 @@
 -- What a running call is: its procedure, and the frame in it.
 use Rattle.tso_machine.specs.declared.frame.Frame.{Frame}
-use Rattle.tso_machine.specs.declared.frame.ProcedureName.{ProcedureName}
+use Rattle.tso_flow.specs.declared.location.ProcedureKind.{ProcedureKind}
 
 pub record Activation : Type 0 where
-  pub procedure : ProcedureName
+  pub procedure : ProcedureKind
   pub frame : Frame
 
-abbrev pub activation : ProcedureName → Frame → Activation
+abbrev pub activation : ProcedureKind → Frame → Activation
 activation name f = record { procedure = name; frame = f }

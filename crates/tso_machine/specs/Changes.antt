@@ -6,7 +6,7 @@ use Rattle.tso_machine.specs.declared.change.Change.TheVariants as changes
 use Rattle.tso_machine.specs.declared.change.ChangeBack.{ChangeBack}
 use Rattle.tso_machine.specs.declared.change.ChangeBack.TheVariants as backs
 use Rattle.tso_machine.specs.declared.frame.Frame.{Frame}
-use Rattle.tso_machine.specs.declared.frame.ProcedureName.{ProcedureName}
+use Rattle.tso_flow.specs.declared.location.ProcedureKind.{ProcedureKind}
 use Rattle.tso_machine.specs.declared.machine.Core.{Core}
 use Rattle.tso_machine.specs.declared.machine.Core.TheVariants.{Idle, Running, Stopped}
 use Rattle.tso_machine.specs.declared.buffer.Entry.{Entry}
@@ -25,7 +25,7 @@ first_frame argument jumps = record {
   taken = replicate jumps 0;
 }
 
-abbrev pub first_running : ProcedureName → ℕ → ℕ → Call
+abbrev pub first_running : ProcedureKind → ℕ → ℕ → Call
 first_running name argument jumps = record { procedure = name; frame = first_frame argument jumps; stage = Outside }
 
 -- a running call changed; other cores stay

@@ -16,8 +16,8 @@ use Rattle.tso_line.specs.declared.instruction.Instruction.{Instruction}
 use Rattle.tso_line.specs.declared.instruction.Instruction.TheVariants as the
 use Rattle.tso_prog.specs.declared.client.Client.{Client}
 use Rattle.tso_machine.specs.declared.frame.Frame.{Frame}
-use Rattle.tso_machine.specs.declared.frame.ProcedureName.{ProcedureName}
-use Rattle.tso_machine.specs.declared.frame.ProcedureName.TheVariants as procedures
+use Rattle.tso_flow.specs.declared.location.ProcedureKind.{ProcedureKind}
+use Rattle.tso_flow.specs.declared.location.ProcedureKind.TheVariants as procedures
 use Rattle.tso_machine.specs.Activations.{Activation, activation}
 use Rattle.tso_machine.specs.Frames.{register_of, value_of}
 use Rattle.tso_machine.specs.Places.{operand_place}
@@ -87,12 +87,12 @@ is_taken None flags = true
 is_taken (Some condition) flags = holds condition flags
 
 -- a back jump whose count is this is taken while that is below its bound
-abbrev pub counted_jump : ProcedureName → Frame → ℕ → ℕ → ℕ → Option ℕ → Action Activation
+abbrev pub counted_jump : ProcedureKind → Frame → ℕ → ℕ → ℕ → Option ℕ → Action Activation
 counted_jump name f target bound number None = Cut
 counted_jump name f target bound number (Some count) =
     if nat_lt count bound then Silent (activation name (record f { pc = target; taken = slice_set f.taken number (count + 1) })) else Cut
 
-abbrev pub jump : ProcedureName → Frame → ℕ → ℕ → Option ℕ → Action Activation
+abbrev pub jump : ProcedureKind → Frame → ℕ → ℕ → Option ℕ → Action Activation
 jump name f number target bound =
     if nat_le target f.pc then counted_jump name f target (unwrap_or bound 0) number (slice_get f.taken number)
     else Silent (activation name (record f { pc = target }))
@@ -100,12 +100,12 @@ jump name f number target bound =
 -- ---- returns
 
 -- a pop that is done has its value in RDX
-abbrev pub done_answer : ProcedureName → Frame → Answer
+abbrev pub done_answer : ProcedureKind → Frame → Answer
 done_answer procedures.Push f = Done
 done_answer procedures.Pop f = Value (register_of f Rdx)
 
 -- RAX says refused or done, and nothing else
-abbrev pub returned : ProcedureName → Frame → Action Activation
+abbrev pub returned : ProcedureKind → Frame → Action Activation
 returned name f =
     if register_of f Rax == 0 then Ret Refused
     else (if register_of f Rax == 1 then Ret (done_answer name f) else Fail BadAnswer)
@@ -117,11 +117,11 @@ abbrev pub at_place : Option ℕ → (ℕ → Action Activation) → Action Acti
 at_place None access = Fail OutOfRange
 at_place (Some place) access = access place
 
-abbrev pub instructions_of : Client → ProcedureName → List (Instruction ℕ ℕ)
+abbrev pub instructions_of : Client → ProcedureKind → List (Instruction ℕ ℕ)
 instructions_of c procedures.Push = c.push.instructions
 instructions_of c procedures.Pop = c.pop.instructions
 
-abbrev pub instruction_action : Client → ProcedureName → Frame → Instruction ℕ ℕ → Action Activation
+abbrev pub instruction_action : Client → ProcedureKind → Frame → Instruction ℕ ℕ → Action Activation
 instruction_action c name f (the.Move to from) = Silent (activation name (advanced (with_register to (value_of f from) f)))
 instruction_action c name f (the.Load to from) = at_place (operand_place c.arrays f from) (λ place. Load place (λ w. activation name (advanced (with_register to w f))))
 instruction_action c name f (the.Store to from) = at_place (operand_place c.arrays f to) (λ place. Store place (value_of f from) (activation name (advanced f)))
@@ -145,7 +145,7 @@ instruction_action c name f the.Pause = Silent (activation name (advanced f))
 instruction_action c name f the.Return = returned name f
 
 -- behind the last instruction nothing follows
-abbrev pub action_at : Client → ProcedureName → Frame → Option (Instruction ℕ ℕ) → Action Activation
+abbrev pub action_at : Client → ProcedureKind → Frame → Option (Instruction ℕ ℕ) → Action Activation
 action_at c name f None = Cut
 action_at c name f (Some i) = instruction_action c name f i
 

@@ -8,7 +8,7 @@ use Rattle.tso_line.specs.declared.instruction.CallKind.TheVariants as calls
 use Rattle.tso_machine.specs.Programs.{jump_count}
 use Rattle.tso_machine.specs.declared.change.Change.{Change}
 use Rattle.tso_machine.specs.declared.change.Change.TheVariants as changes
-use Rattle.tso_machine.specs.declared.frame.ProcedureName.TheVariants as procedures
+use Rattle.tso_flow.specs.declared.location.ProcedureKind.TheVariants as procedures
 use Rattle.tso_prog.specs.declared.client.Client.{Client}
 use Rattle.tso_machine.specs.declared.label.LabelKind.{LabelKind}
 use Rattle.tso_machine.specs.declared.label.LabelKind.TheVariants as kinds

@@ -5,13 +5,13 @@ use Rattle.tso_prog.specs.declared.client.Client.{Client}
 use Rattle.tso_prog.specs.Views.{call_view}
 use Rattle.tso_machine.specs.Activations.{Activation, activation}
 use Rattle.tso_machine.specs.Changes.{first_frame}
-use Rattle.tso_machine.specs.declared.frame.ProcedureName.{ProcedureName}
-use Rattle.tso_machine.specs.declared.frame.ProcedureName.TheVariants as procedures
+use Rattle.tso_flow.specs.declared.location.ProcedureKind.{ProcedureKind}
+use Rattle.tso_flow.specs.declared.location.ProcedureKind.TheVariants as procedures
 use Rattle.tso_machine.specs.Instructions.{back_jumps, instructions_of, next_action}
 use Rattle.tso_model.specs.Programs as model
 
 -- how many back jumps a procedure has
-abbrev pub jump_count : Client → ProcedureName → ℕ
+abbrev pub jump_count : Client → ProcedureKind → ℕ
 jump_count c name = back_jumps 0 (instructions_of c name)
 
 -- a call starts at the first instruction, with all registers and flags 0 but RDI of a push, which has the argument

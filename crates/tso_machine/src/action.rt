@@ -8,8 +8,9 @@ ghost use Rattle.tso_word.specs.Word.{sum, difference, sum_flags, difference_fla
 ghost use Rattle.tso_machine.specs.Instructions.{advanced, with_register, with_flags, back_jumps, is_back_jump, is_taken, instruction_action, next_action, instructions_of, jump, returned, computed, computed_flags, compared_flags};
 ghost use Rattle.tso_machine.specs.Places.{index_register, operand_place};
 
-use crate::frame::{Frame, Patch, ProcedureName};
+use crate::frame::{Frame, Patch};
 use crate::place::place_at;
+use tso_flow::ProcedureKind;
 use tso_line::{Address, Comparison, Instruction, LockedOperation, Operation, Register};
 use tso_prog::{Answer, Client, Procedure, Step};
 use tso_word::{BitOperation, Condition, Flags};
@@ -62,19 +63,19 @@ pub enum Action {
 }
 
 /// The instructions of a procedure, with their lines.
-pub fn procedure_of(client: &Client, name: ProcedureName) -> &Procedure
+pub fn procedure_of(client: &Client, name: ProcedureKind) -> &Procedure
     ensures steps { result.now.instructions ≡ instructions_of client.now name }
     ensures few { length result.now.instructions ≤ 256 }
 {
     match name {
-        ProcedureName::Push => &client.push,
-        ProcedureName::Pop => &client.pop,
+        ProcedureKind::Push => &client.push,
+        ProcedureKind::Pop => &client.pop,
     }
 }
 
 /// What the next instruction of a call of this procedure does in this frame.
 #[tactic(auto, unfolding(crate::specs::Instructions::next_action))]
-pub fn next_action(client: &Client, name: ProcedureName, frame: &Frame) -> Action
+pub fn next_action(client: &Client, name: ProcedureKind, frame: &Frame) -> Action
     ensures is { meaning name frame.now result ≡ next_action client.now (activation name frame.now) }
     ensures fits { FitsAction frame.now result }
 {
@@ -85,7 +86,7 @@ pub fn next_action(client: &Client, name: ProcedureName, frame: &Frame) -> Actio
     }
 }
 
-fn action_of(client: &Client, name: ProcedureName, frame: &Frame, step: Step) -> Action
+fn action_of(client: &Client, name: ProcedureKind, frame: &Frame, step: Step) -> Action
     requires there { frame.now.pc < length (instructions_of client.now name) }
     requires few { length (instructions_of client.now name) ≤ 256 }
     ensures is { meaning name frame.now result ≡ instruction_action client.now name frame.now step }
@@ -274,7 +275,7 @@ fn is_back_jump(at: usize, step: Step) -> bool
 // A jump that is taken.
 fn jump(
     client: &Client,
-    name: ProcedureName,
+    name: ProcedureKind,
     frame: &Frame,
     target: usize,
     bound: Option<u8>,
@@ -303,15 +304,15 @@ fn jump(
     }
 }
 
-fn return_of(name: ProcedureName, frame: &Frame) -> Action
+fn return_of(name: ProcedureKind, frame: &Frame) -> Action
     ensures is { meaning name frame.now result ≡ returned name frame.now }
     ensures fits { FitsAction frame.now result }
 {
     match frame.register(Register::Rax) {
         0 => Action::Return(Answer::Refused),
         1 => match name {
-            ProcedureName::Push => Action::Return(Answer::Done),
-            ProcedureName::Pop => Action::Return(Answer::Value(frame.register(Register::Rdx))),
+            ProcedureKind::Push => Action::Return(Answer::Done),
+            ProcedureKind::Pop => Action::Return(Answer::Value(frame.register(Register::Rdx))),
         },
         _ => Action::Fault(FaultKind::BadAnswer),
     }

@@ -7,9 +7,10 @@ ghost use Rattle.tso_machine.specs.declared.change.Change.TheVariants as changes
 ghost use Rattle.tso_machine.specs.declared.change.ChangeBack.TheVariants as backs;
 
 use crate::buffer::Entry;
-use crate::frame::{Frame, Patch, ProcedureName};
+use crate::frame::{Frame, Patch};
 use crate::machine::{Core, Running, Stage, Thread};
 use std::alloc::{AllocError, Global};
+use tso_flow::ProcedureKind;
 use tso_list::Seq;
 use tso_word::Flags;
 
@@ -18,7 +19,7 @@ use tso_word::Flags;
 pub enum Change {
     /// A call begins: its procedure with the word of RDI, and with so many back jumps.
     Begin {
-        procedure: ProcedureName,
+        procedure: ProcedureKind,
         argument: u64,
         jumps: usize,
     },
@@ -98,7 +99,7 @@ impl Thread {
     fn begin(
         &mut self,
         alloc: Global,
-        procedure: ProcedureName,
+        procedure: ProcedureKind,
         argument: u64,
         jumps: usize,
     ) -> Result<ChangeBack, AllocError>

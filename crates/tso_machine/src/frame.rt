@@ -7,16 +7,6 @@ use tso_line::{Register, Source};
 use tso_list::Seq;
 use tso_word::Flags;
 
-/// Which procedure a call runs.
-#[derive(Clone, Copy, Debug, PartialEq, Eq, PartialOrd, Ord, Hash)]
-pub enum ProcedureName {
-    Push,
-    Pop,
-}
-
-/// How many general registers there are.
-pub const REGISTERS: usize = 15;
-
 /// Position, registers, flags and counts of a running procedure.
 #[derive(Debug, PartialEq, Eq, PartialOrd, Ord, Hash, Drop)]
 pub struct Frame {

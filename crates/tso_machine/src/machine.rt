@@ -1,7 +1,8 @@
 //! The state of the label machine: memory, the lock, and for each thread a core and a store buffer.
 
 use crate::buffer::Buffer;
-use crate::frame::{Frame, ProcedureName};
+use crate::frame::Frame;
+use tso_flow::ProcedureKind;
 use tso_list::Seq;
 
 /// How far a thread is in a locked instruction.
@@ -20,7 +21,7 @@ pub enum Stage {
 /// A running call: its procedure, the frame in it, and how far it is in a locked instruction.
 #[derive(Debug, PartialEq, Eq, Drop)]
 pub struct Running {
-    pub procedure: ProcedureName,
+    pub procedure: ProcedureKind,
     pub frame: Frame,
     pub stage: Stage,
 }

@@ -22,9 +22,10 @@ use crate::action::{Action, back_jumps, next_action, procedure_of};
 use crate::buffer::{Buffer, Entry};
 use crate::calls::next_call;
 use crate::change::Change;
-use crate::frame::{Patch, ProcedureName};
+use crate::frame::Patch;
 use crate::label::LabelKind;
 use crate::machine::{Core, Machine, Running, Stage, Thread};
+use tso_flow::ProcedureKind;
 use tso_line::{LockedOperation, Register};
 use tso_prog::{CallKind, Client};
 
@@ -341,8 +342,8 @@ fn begin(client: &Client, kind: CallKind) -> Offer
     ensures change { result.change ≡ begin_of client.now kind }
 {
     let (procedure, argument) = match kind {
-        CallKind::Push(argument) => (ProcedureName::Push, argument),
-        CallKind::Pop => (ProcedureName::Pop, 0),
+        CallKind::Push(argument) => (ProcedureKind::Push, argument),
+        CallKind::Pop => (ProcedureKind::Pop, 0),
     };
     let jumps = back_jumps(procedure_of(client, procedure).instructions.as_slice());
     Offer {

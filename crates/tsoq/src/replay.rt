@@ -3,8 +3,9 @@
 use crate::failure::Failure;
 use std::alloc::Global;
 use std::io::Write;
+use tso_flow::ProcedureKind;
 use tso_list::Seq;
-use tso_machine::{Core, Machine, ProcedureName, Running, Stage, Thread};
+use tso_machine::{Core, Machine, Running, Stage, Thread};
 use tso_prog::Array;
 use tso_trace::{Cursor, Trace, Violation, push_cell};
 
@@ -49,8 +50,8 @@ fn put_memory<W: Write>(
 fn push_running(text: &mut String, running: &Running) -> Result<(), Failure> {
     let pc = running.frame.pc;
     match running.procedure {
-        ProcedureName::Push => write!(text, "at push {pc}")?,
-        ProcedureName::Pop => write!(text, "at pop {pc}")?,
+        ProcedureKind::Push => write!(text, "at push {pc}")?,
+        ProcedureKind::Pop => write!(text, "at pop {pc}")?,
     }
     if !matches!(running.stage, Stage::Outside) {
         text.push_str(" locked")?;

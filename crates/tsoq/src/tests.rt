@@ -154,7 +154,7 @@ struct Outcome {
     err: Vec<u8>,
 }
 
-fn outcome(alloc: Global, words: &[&str], program: &[u8], trace: &[u8]) -> Result<Outcome, Fail> {
+fn outcome_of(alloc: Global, words: &[&str], program: &[u8], trace: &[u8]) -> Result<Outcome, Fail> {
     let mut owned = Vec::new(alloc);
     owned.push(String::from_str(alloc, "tsoq")?)?;
     for word in words {
@@ -172,7 +172,7 @@ fn outcome(alloc: Global, words: &[&str], program: &[u8], trace: &[u8]) -> Resul
 }
 
 fn replayed(alloc: Global, program: &str, trace: &str) -> Result<Outcome, Fail> {
-    outcome(
+    outcome_of(
         alloc,
         &["replay", "program", "trace"],
         program.as_bytes(),
@@ -213,7 +213,7 @@ fn changed(alloc: Global, text: &str, part: &str, other: &str) -> Result<String,
 #[test]
 fn replays_go_back(rt: HostRuntime) -> Result<(), Fail> {
     let alloc = rt.alloc();
-    let to_2 = outcome(
+    let to_2 = outcome_of(
         alloc,
         &["replay", "program", "trace", "--to", "2"],
         OWN_STORE.as_bytes(),
@@ -221,7 +221,7 @@ fn replays_go_back(rt: HostRuntime) -> Result<(), Fail> {
     )?;
     assert_eq!(rt; to_2.out.as_slice(), OWN_STORE_TO_2.as_bytes());
     assert_eq!(rt; to_2.status, 0);
-    let past = outcome(
+    let past = outcome_of(
         alloc,
         &["replay", "program", "trace", "--to", "18446744073709551615"],
         OWN_STORE.as_bytes(),
@@ -243,7 +243,7 @@ fn locked_instructions_are_five_labels(rt: HostRuntime) -> Result<(), Fail> {
             .out
             .ends_with(b"thread 1 idle\nviolation: fault in thread 0\n")
     );
-    let within = outcome(
+    let within = outcome_of(
         alloc,
         &["replay", "program", "trace", "--to", "4"],
         EXCHANGE.as_bytes(),
@@ -259,7 +259,7 @@ fn programs_are_refused(rt: HostRuntime) -> Result<(), Fail> {
     let alloc = rt.alloc();
     refuses(&rt, alloc, "", OWN_STORE_TRACE, 2, "E08 line 0\n")?;
     let spaces = vec![in alloc; b' '; 65_537]?;
-    let long = outcome(alloc, &["replay", "program", "trace"], &spaces, b"")?;
+    let long = outcome_of(alloc, &["replay", "program", "trace"], &spaces, b"")?;
     assert_eq!(rt; long.err.as_slice(), b"E01 line 0\n".as_slice());
     assert_eq!(rt; long.status, 2);
     refuses(&rt, alloc, ".mode strict\n", "", 2, "E03 line 1\n")?;
@@ -331,10 +331,10 @@ fn indexes_never_wrap(rt: HostRuntime) -> Result<(), Fail> {
 #[test]
 fn words_files_and_streams_fail(rt: HostRuntime) -> Result<(), Fail> {
     let alloc = rt.alloc();
-    let missing = outcome(alloc, &["replay", "nothing", "trace"], b"", b"")?;
+    let missing = outcome_of(alloc, &["replay", "nothing", "trace"], b"", b"")?;
     assert_eq!(rt; missing.err.as_slice(), b"cannot read nothing\n".as_slice());
     assert_eq!(rt; missing.status, 6);
-    let untraced = outcome(alloc, &["replay", "program", "nothing"], b"", b"")?;
+    let untraced = outcome_of(alloc, &["replay", "program", "nothing"], b"", b"")?;
     assert_eq!(rt;
         untraced.err.as_slice(),
         b"cannot read nothing\n".as_slice()
@@ -347,9 +347,9 @@ fn words_files_and_streams_fail(rt: HostRuntime) -> Result<(), Fail> {
         ["replay", "program", "trace", "--to", "x"].as_slice(),
         [].as_slice(),
     ] {
-        assert_eq!(rt; outcome(alloc, words, b"", b"")?.status, 64);
+        assert_eq!(rt; outcome_of(alloc, words, b"", b"")?.status, 64);
     }
-    let help = outcome(alloc, &["--help"], b"", b"")?;
+    let help = outcome_of(alloc, &["--help"], b"", b"")?;
     assert_eq!(rt; help.status, 0);
     assert!(rt; !help.out.is_empty());
     Ok(())

@@ -1,6 +1,5 @@
-use Rattle.std.proofs.Common.{◌≡◌, ℕ, Bool, true, refl, subst}
-use Rattle.std.specs.Prelude.{Option, ◌||◌}
-use Rattle.tso_flow.specs.Paths.{next_of, target_of, is_at, goes_on}
+use Rattle.std.proofs.Common.{refl}
+use Rattle.tso_flow.specs.Paths.{is_at, goes_on}
 use Rattle.tso_flow.proofs.Marking.{either_only, either_old}
 use Rattle.tso_flow.proofs.path.mark_successors.Goals as goal
 

@@ -1,6 +1,6 @@
-use Rattle.std.proofs.Common.{◌≡◌, ℕ, ◌+◌, ◌<◌, Bool, true, false, List, length, ap, sym, subst, ◌∙◌, arith}
+use Rattle.std.proofs.Common.{◌+◌, ◌<◌, Bool, List, ap, sym, subst, ◌∙◌}
 use Rattle.std.proofs.lemmas.Option.{slice_get-get_or}
-use Rattle.tso_flow.specs.Marks.{is_marked, unmarked, IsClosed}
+use Rattle.tso_flow.specs.Marks.{unmarked, IsClosed}
 use Rattle.tso_flow.proofs.Marking.{all_reached, closed_more, less}
 use Rattle.tso_flow.proofs.path.spread.Goals as goal
 use Rattle.tso_flow.proofs.path.spread.Goals.{then-advance, else-advance}
