@@ -1,8 +1,13 @@
 -- Reading pieces one after the other, as a loop does.
-use Rattle.std.proofs.Common.{◌≡◌, ℕ, suc, ◌+◌, ◌<◌, ◌≤◌, List, [], ◌∷◌, ◌++◌, length, drop, get_or, Option, Some, None, refl, sym, ap, ◌∙◌, append_assoc, arith, drop-cons}
-use Rattle.std.proofs.lemmas.List.{append-nil, drop_all}
-use Rattle.std.specs.Prelude.{option_and_then}
+use Rattle.std.proofs.Common.{◌≡◌, ℕ, zero, suc, ◌+◌, ◌<◌, ◌≤◌, Bool, true, replicate, List, [], ◌∷◌, ◌++◌, length, drop, get_or, Option, Some, None, refl, sym, ap, subst, ◌∙◌, append_assoc, arith, drop-cons}
+use Rattle.std.proofs.lemmas.List.{append-nil, drop_all, length-replicate}
+use Rattle.std.specs.Prelude.{◌&&◌, nat_le, IfSome, option_and_then}
 use Rattle.std.specs.Option.{option_map}
+use Rattle.std.specs.List.{list_all}
+use Rattle.std.proofs.lemmas.Bool.{and_parts, and_from, le-leb}
+use Rattle.std.proofs.lemmas.List.Folds.{list_all-append}
+use Rattle.tso_line.specs.Proper.{or_none, is_call, is_word, are_calls}
+use Rattle.tso_line.specs.declared.instruction.CallKind.{CallKind}
 use Rattle.tso_line.specs.declared.lexeme.Lexeme.{Lexeme}
 use Rattle.tso_line.specs.Reading.{each, all_some}
 
@@ -60,3 +65,44 @@ unfolding all_some
 all_some_length [] ys e = ap (λ (zs : List _). length zs) (let f : ys ≡ [] = cc in f)
 all_some_length (None ∷ xs) ys e = absurd cc
 all_some_length (Some x ∷ xs) ys e = length_more x ys (length xs) (all_some xs) (λ zs f. all_some_length xs zs f) e
+
+-- ---- what passes a test
+
+pub passes_more : {A : Type 0} (p : A → Bool) (xs : List A) (x : A) → list_all p xs ≡ true → p x ≡ true → list_all p (xs ++ x ∷ []) ≡ true
+passes_more p xs x e f = list_all-append p xs (x ∷ []) ∙ and_from (list_all p xs) (p x && true) e (and_from (p x) true f refl)
+
+passes_first : {A : Type 0} (p : A → Bool) (x : A) (ys : List A) (rest : Option (List A)) → p x ≡ true → ((zs : List A) → Some zs ≡ rest → list_all p zs ≡ true) → Some ys ≡ option_map (λ zs. x ∷ zs) rest → list_all p ys ≡ true
+passes_first p x ys None h again e = absurd cc
+passes_first p x ys (Some zs) h again e = let f : ys ≡ x ∷ zs = cc in ap (list_all p) f ∙ and_from (p x) (list_all p zs) h (again zs refl)
+
+-- the values that are there pass where each does
+pub all_some_passes : {A : Type 0} (p : A → Bool) (xs : List (Option A)) (ys : List A) → list_all (or_none p) xs ≡ true → Some ys ≡ all_some xs → list_all p ys ≡ true
+unfolding all_some
+all_some_passes p [] ys h e = ap (list_all p) (let f : ys ≡ [] = cc in f)
+all_some_passes p (None ∷ xs) ys h e = absurd cc
+all_some_passes p (Some x ∷ xs) ys h e =
+    let a = and_parts (p x) (list_all (or_none p) xs) h in
+    passes_first p x ys (all_some xs) a.0 (λ zs f. all_some_passes p xs zs a.1 f) e
+
+pub zeros_pass : (p : ℕ → Bool) (n : ℕ) → p 0 ≡ true → list_all p (replicate n 0) ≡ true
+zeros_pass p zero e = refl
+zeros_pass p (suc n) e = and_from (p 0) (list_all p (replicate n 0)) e (zeros_pass p n e)
+
+pub if_some_at : {A : Type 0} (P : A → Type 0) (o : Option A) (x : A) → o ≡ Some x → IfSome o P → P x
+if_some_at {A} P o x e h =
+    let Q : Option A → Type 0 = λ q. IfSome q P in
+    subst Q e h
+
+calls_all : (xs : List (Option CallKind)) (o : Option (List CallKind)) → o ≡ all_some xs → 1 ≤ length xs → list_all (or_none is_call) xs ≡ true → IfSome o (λ v. are_calls v ≡ true)
+calls_all xs None e n h = tt
+calls_all xs (Some ys) e n h =
+    let m = all_some_length xs ys e in
+    and_from _ _ (le-leb 1 (length ys) (omega (arith, m, n))) (all_some_passes is_call xs ys h e)
+
+pub calls_pass : (xs : List (Option CallKind)) → 1 ≤ length xs → list_all (or_none is_call) xs ≡ true → IfSome (all_some xs) (λ v. are_calls v ≡ true)
+calls_pass xs n h = calls_all xs (all_some xs) refl n h
+
+pub zeros_proper : (n : ℕ) (words : List ℕ) → words ≡ replicate n 0 → 1 ≤ n → (nat_le 1 (length words) && list_all is_word words) ≡ true
+zeros_proper n words e le =
+    let same : length words ≡ n = ap (λ (ws : List ℕ). length ws) e ∙ length-replicate n 0 in
+    and_from _ _ (le-leb 1 (length words) (omega (arith, same, le))) (ap (list_all is_word) e ∙ zeros_pass is_word n refl)

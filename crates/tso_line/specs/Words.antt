@@ -1,5 +1,5 @@
 -- Words and numbers by their text.
-use Rattle.std.specs.Prelude.{ℕ, ◌+◌, ◌-◌, ◌*◌, ◌^◌, Bool, ◌&&◌, ◌||◌, ◌==◌, nat_le, nat_lt, if◌then◌else◌, List, [], ◌∷◌, length, fold, Option, Some, None, codes}
+use Rattle.std.specs.Prelude.{ℕ, ◌+◌, ◌-◌, ◌*◌, ◌^◌, Bool, true, ◌&&◌, ◌||◌, ◌==◌, nat_le, nat_lt, if◌then◌else◌, List, [], ◌∷◌, length, fold, Option, Some, None, codes}
 use Rattle.std.specs.List.{list_all}
 use Rattle.std.specs.Option.{option_map}
 use Rattle.std.specs.Str.{bytes_eq}
@@ -27,6 +27,7 @@ use Rattle.tso_line.specs.declared.lexeme.Meaning.TheVariants as meanings
 use Rattle.tso_line.specs.declared.lexeme.Lexeme.{Lexeme}
 use Rattle.tso_line.specs.declared.lexeme.Lexeme.TheVariants as lexemes
 use Rattle.tso_line.specs.Lexemes.{or_else}
+use Rattle.tso_line.specs.Proper.{is_name}
 use Rattle.tso_line.specs.Forms.{text_at}
 
 unfoldable pub register_named : List ℕ → Option Register
@@ -197,9 +198,14 @@ number_of (b ∷ rest) = if b == 48 then behind_zero rest else number_or_other (
 
 -- ---- tokens
 
+-- a word that is a name; every word of a text without a dot before it is one
+abbrev pub plain_word : Span → List ℕ → Lexeme
+plain_word span text = if is_name text then lexemes.Word span (meaning_of text) else lexemes.Other
+
+-- a word with a dot before it is a directive
 unfoldable pub word_of_text : Span → List ℕ → Lexeme
-word_of_text span [] = lexemes.Word span (meaning_of [])
-word_of_text span (b ∷ text) = if b == 46 then directive_named text else lexemes.Word span (meaning_of (b ∷ text))
+word_of_text span [] = plain_word span []
+word_of_text span (b ∷ text) = if b == 46 then directive_named text else plain_word span (b ∷ text)
 
 abbrev pub span_of : Token → Span
 span_of t = record { start = t.start; end = t.end }
@@ -220,3 +226,8 @@ by_kind source span tokens.Other = lexemes.Other
 
 abbrev pub lexeme_of : List ℕ → Token → Lexeme
 lexeme_of source t = by_kind source (span_of t) t.kind
+
+-- what is taken for a name is one
+abbrev pub has_name : List ℕ → Lexeme → Bool
+has_name source (lexemes.Word span meaning) = is_name (text_at source span)
+has_name source _ = true

@@ -1,7 +1,7 @@
 //! Instructions by their forms, and their numbers.
 
 ghost use Rattle.std.specs.Prelude.{◌≡◌, ◌≤◌, ◌<◌, ◌^◌, IfSome, IsTrue};
-ghost use Rattle.tso_line.specs.Proper.{is_small, has_small_bound};
+ghost use Rattle.tso_line.specs.Proper.{is_small, is_word, is_narrow, is_near, is_narrow_source, is_in_range};
 ghost use Rattle.tso_line.specs.Instructions.{renamed};
 ghost use Rattle.tso_line.specs.Forms.{register_of, source_of, raw_cell_of, move_form, plain_form, takes_lock, locked_form, jump_form, form_of, lacks_lock, word_of, narrow, cells_of, address_of_cell, from_of, bound_value, instruction_of, text_at};
 
@@ -135,13 +135,19 @@ fn locked_form(operation: LockedOperation, operands: Operands) -> Option<Form>
 {
     match operands {
         Operands::Two(Operand::Memory(cell), register) => Some(Form::Locked(
-            operation, raw_cell_of(cell)?, register_of(register)?,
+            operation,
+            raw_cell_of(cell)?,
+            register_of(register)?,
         )),
         _ => None,
     }
 }
 
-fn jump_form(when: Option<Condition>, operands: Operands, bound: Option<Option<u64>>) -> Option<Form>
+fn jump_form(
+    when: Option<Condition>,
+    operands: Operands,
+    bound: Option<Option<u64>>,
+) -> Option<Form>
     ensures { result ≡ jump_form when operands bound }
 {
     match operands {
@@ -182,7 +188,8 @@ pub fn lacks_lock(statement: Statement) -> bool
 
 /// The word of a number from -`least` to `greatest`.
 pub fn word_of(number: Signed, least: u64, greatest: u64) -> Option<u64>
-    ensures { result ≡ word_of least greatest number }
+    ensures exact { result ≡ word_of least greatest number }
+    ensures range { IfSome result (λ w. IsTrue (is_word w)) }
 {
     let magnitude = number.magnitude?;
     if number.negative {
@@ -194,13 +201,15 @@ pub fn word_of(number: Signed, least: u64, greatest: u64) -> Option<u64>
 
 // A number of 32 bits.
 fn narrow(number: Signed) -> Option<u64>
-    ensures { result ≡ narrow number }
+    ensures exact { result ≡ narrow number }
+    ensures range { IfSome result (λ w. IsTrue (is_narrow w)) }
 {
     word_of(number, 1 << 31, (1 << 31) - 1)
 }
 
 fn from_of(source: RawSource) -> Option<Source>
-    ensures { result ≡ from_of source }
+    ensures exact { result ≡ from_of source }
+    ensures range { IfSome result (λ s. IsTrue (is_narrow_source s)) }
 {
     match source {
         RawSource::Register(register) => Some(Source::Register(register)),
@@ -210,7 +219,8 @@ fn from_of(source: RawSource) -> Option<Source>
 
 // How many cells an offset of bytes is.
 fn cells_of(offset: Option<Signed>) -> Option<i64>
-    ensures { result ≡ cells_of offset }
+    ensures exact { result ≡ cells_of offset }
+    ensures range { IfSome result (λ n. IsTrue (is_near n)) }
 {
     match offset {
         None => Some(0),
@@ -229,7 +239,8 @@ fn cells_of(offset: Option<Signed>) -> Option<i64>
 }
 
 fn address_of_cell(cell: RawCell) -> Option<Address<Span>>
-    ensures { result ≡ address_of_cell cell }
+    ensures exact { result ≡ address_of_cell cell }
+    ensures range { IfSome result (λ a. IsTrue (is_near a.offset)) }
 {
     Some(Address {
         array: cell.array,
@@ -252,7 +263,7 @@ fn bound_value(bound: Option<Option<u64>>) -> Option<Option<u8>>
 /// The instruction of a form, if its numbers are in range.
 pub fn instruction_of(form: Form) -> Option<Instruction<Span, Span>>
     ensures exact { result ≡ instruction_of form }
-    ensures small { IfSome result (λ i. IsTrue (has_small_bound i)) }
+    ensures range { IfSome result (λ i. IsTrue (is_in_range i)) }
 {
     match form {
         Form::Move(to, RawSource::Number(number)) => Some(Instruction::Move {

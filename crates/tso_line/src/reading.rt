@@ -1,7 +1,9 @@
 //! A line of tokens, read by itself.
 
-ghost use Rattle.std.specs.Prelude.{◌≡◌, ◌≤◌, length, IfOk, IfSome, IsTrue};
-ghost use Rattle.tso_line.specs.Proper.{is_proper};
+ghost use Rattle.std.specs.Prelude.{◌≡◌, ◌≤◌, length, replicate, IfOk, IfSome, IsTrue};
+ghost use Rattle.std.specs.List.{list_all};
+ghost use Rattle.tso_line.specs.Words.{has_name};
+ghost use Rattle.tso_line.specs.Proper.{is_name, is_word, is_call, or_none, are_calls, is_proper};
 ghost use Rattle.std.specs.Option.{option_map};
 ghost use Rattle.tso_line.specs.Lexemes.{pieces};
 ghost use Rattle.tso_line.specs.Forms.{text_at};
@@ -9,8 +11,8 @@ ghost use Rattle.tso_line.specs.declared.line.Kind.TheVariants.{Before, Thread};
 ghost use Rattle.tso_line.specs.Lines.{view, before, thread};
 ghost use Rattle.tso_line.specs.Reading.{value_of, call_of, each, all_some, calls_of, calls_line, array_line, values_line, instruction_line, directive_line, line_of};
 
-use crate::instruction::{CallKind, Mode};
 use crate::form::{form_of, instruction_of, lacks_lock, named, text_at, word_of};
+use crate::instruction::{CallKind, Mode};
 use crate::lexeme::{Directive, Lexeme, Meaning};
 use crate::line::{Kind, Line, Slip};
 use crate::shape::{cut, signed_of, statement_of};
@@ -19,14 +21,16 @@ use tso_list::Seq;
 
 // A value, from -2^63 to 2^64-1: its word, or none where it is out of range.
 fn value_of(lexemes: &[Lexeme]) -> Option<Option<u64>>
-    ensures { result ≡ value_of lexemes.now }
+    ensures exact { result ≡ value_of lexemes.now }
+    ensures word { IfSome result (λ o. IsTrue (or_none is_word o)) }
 {
     Some(word_of(signed_of(lexemes)?, 1 << 63, u64::MAX))
 }
 
 // `push V` or `pop`.
 fn call_of(lexemes: &[Lexeme]) -> Option<Option<CallKind>>
-    ensures { result ≡ call_of lexemes.now }
+    ensures exact { result ≡ call_of lexemes.now }
+    ensures call { IfSome result (λ o. IsTrue (or_none is_call o)) }
 {
     match lexemes {
         [Lexeme::Word(_, Meaning::Pop)] => Some(Some(CallKind::Pop)),
@@ -41,6 +45,7 @@ fn call_of(lexemes: &[Lexeme]) -> Option<Option<CallKind>>
 // The values between commas.
 fn values_of(alloc: Global, lexemes: &[Lexeme]) -> Result<Option<Vec<Option<u64>>>, AllocError>
     ensures nonempty { IfOk result (λ r. IfSome r (λ v. 1 ≤ length v.items)) }
+    ensures words { IfOk result (λ r. IfSome r (λ v. IsTrue (list_all (or_none is_word) v.items))) }
     ensures exact { IfOk result (λ r. option_map (λ v. v.items) r ≡ each value_of (pieces lexemes.now)) }
 {
     let mut values = Vec::new(alloc);
@@ -60,8 +65,12 @@ fn values_of(alloc: Global, lexemes: &[Lexeme]) -> Result<Option<Vec<Option<u64>
 }
 
 // The calls between commas.
-fn calls_between(alloc: Global, lexemes: &[Lexeme]) -> Result<Option<Vec<Option<CallKind>>>, AllocError>
+fn calls_between(
+    alloc: Global,
+    lexemes: &[Lexeme],
+) -> Result<Option<Vec<Option<CallKind>>>, AllocError>
     ensures nonempty { IfOk result (λ r. IfSome r (λ v. 1 ≤ length v.items)) }
+    ensures calls { IfOk result (λ r. IfSome r (λ v. IsTrue (list_all (or_none is_call) v.items))) }
     ensures exact { IfOk result (λ r. option_map (λ v. v.items) r ≡ each call_of (pieces lexemes.now)) }
 {
     let mut calls = Vec::new(alloc);
@@ -98,16 +107,24 @@ fn all_some<T: Copy + Drop>(
     Ok(Some(Seq::from_vec(found)))
 }
 
+fn zeros(alloc: Global, len: usize) -> Result<Seq<u64>, AllocError>
+    ensures { IfOk result (λ words. words ≡ replicate len 0) }
+{
+    let words = vec![in alloc; 0; len]?;
+    Ok(Seq::from_vec(words))
+}
+
 // An array of zeros.
 fn array_line<'a>(alloc: Global, name: &'a [u8], len: Option<u64>) -> Result<Line<'a>, AllocError>
+    requires { IsTrue (is_name name.now) }
     ensures proper { IfOk result (λ line. IsTrue (is_proper (view line))) }
     ensures exact { IfOk result (λ line. view line ≡ array_line name.now len) }
 {
     match len {
-        Some(len) if 1 <= len && len <= 256 => Ok(Line::Array {
-            name,
-            words: Seq::from_vec(vec![in alloc; 0; len as usize]?),
-        }),
+        Some(len) if 1 <= len && len <= 256 => {
+            let words = zeros(alloc, len as usize)?;
+            Ok(Line::Array { name, words })
+        }
         _ => Ok(Line::Wrong(Kind::Array, Slip::Number)),
     }
 }
@@ -119,7 +136,9 @@ fn values_line<'a>(
     len: Option<u64>,
     values: &[Option<u64>],
 ) -> Result<Line<'a>, AllocError>
-    requires { 1 ≤ length values.now }
+    requires named { IsTrue (is_name name.now) }
+    requires nonempty { 1 ≤ length values.now }
+    requires words { IsTrue (list_all (or_none is_word) values.now) }
     ensures proper { IfOk result (λ line. IsTrue (is_proper (view line))) }
     ensures exact { IfOk result (λ line. view line ≡ values_line name.now len values.now) }
 {
@@ -136,11 +155,8 @@ fn values_line<'a>(
 }
 
 // The calls of a line, if each is one: none of them where a value is out of its range.
-fn calls_of(
-    alloc: Global,
-    lexemes: &[Lexeme],
-) -> Result<Option<Option<Seq<CallKind>>>, AllocError>
-    ensures nonempty { IfOk result (λ r. IfSome r (λ o. IfSome o (λ v. 1 ≤ length v))) }
+fn calls_of(alloc: Global, lexemes: &[Lexeme]) -> Result<Option<Option<Seq<CallKind>>>, AllocError>
+    ensures proper { IfOk result (λ r. IfSome r (λ o. IfSome o (λ v. IsTrue (are_calls v)))) }
     ensures exact { IfOk result (λ r. r ≡ calls_of lexemes.now) }
 {
     match calls_between(alloc, lexemes)? {
@@ -150,7 +166,7 @@ fn calls_of(
 }
 
 fn before_line<'a>(calls: Option<Option<Seq<CallKind>>>) -> Line<'a>
-    requires { IfSome calls (λ o. IfSome o (λ v. 1 ≤ length v)) }
+    requires { IfSome calls (λ o. IfSome o (λ v. IsTrue (are_calls v))) }
     ensures proper { IsTrue (is_proper (view result)) }
     ensures exact { view result ≡ calls_line Before before calls }
 {
@@ -162,7 +178,7 @@ fn before_line<'a>(calls: Option<Option<Seq<CallKind>>>) -> Line<'a>
 }
 
 fn thread_line<'a>(calls: Option<Option<Seq<CallKind>>>) -> Line<'a>
-    requires { IfSome calls (λ o. IfSome o (λ v. 1 ≤ length v)) }
+    requires { IfSome calls (λ o. IfSome o (λ v. IsTrue (are_calls v))) }
     ensures proper { IsTrue (is_proper (view result)) }
     ensures exact { view result ≡ calls_line Thread thread calls }
 {
@@ -200,6 +216,7 @@ fn directive_line<'a>(
     directive: Directive,
     rest: &[Lexeme],
 ) -> Result<Line<'a>, AllocError>
+    requires { IsTrue (list_all (has_name source.now) rest.now) }
     ensures proper { IfOk result (λ line. IsTrue (is_proper (view line))) }
     ensures exact { IfOk result (λ line. view line ≡ directive_line source.now directive rest.now) }
 {
@@ -242,6 +259,7 @@ pub fn line_of<'a>(
     source: &'a [u8],
     lexemes: &[Lexeme],
 ) -> Result<Line<'a>, AllocError>
+    requires { IsTrue (list_all (has_name source.now) lexemes.now) }
     ensures proper { IfOk result (λ line. IsTrue (is_proper (view line))) }
     ensures exact { IfOk result (λ line. view line ≡ line_of source.now lexemes.now) }
 {

@@ -1,11 +1,13 @@
 //! Tokens by their text.
 
-ghost use Rattle.std.specs.Prelude.{◌≡◌, ◌≤◌, ◌<◌, length};
-ghost use Rattle.tso_line.specs.Words.{register_named, operation_named, comparison_named, locked_named, single_named, mnemonic_named, jump_named, condition_named, other_named, meaning_of, word_of_text, directive_named, decimal_of, hex_of, behind_zero, number_of, lexeme_of};
+ghost use Rattle.std.specs.Prelude.{◌≡◌, ℕ, ◌≤◌, ◌<◌, List, length, IsTrue};
+ghost use Rattle.tso_line.specs.Proper.{is_letter, goes_on, is_name};
+ghost use Rattle.std.specs.List.{list_all};
+ghost use Rattle.tso_line.specs.Words.{register_named, operation_named, comparison_named, locked_named, single_named, mnemonic_named, jump_named, condition_named, other_named, meaning_of, word_of_text, directive_named, decimal_of, hex_of, behind_zero, number_of, lexeme_of, has_name};
 ghost use Rattle.tso_line.specs.Forms.{text_at};
 
-use crate::instruction::{Comparison, LockedOperation, Operation, Register};
 use crate::form::text_at;
+use crate::instruction::{Comparison, LockedOperation, Operation, Register};
 use crate::lexeme::{Directive, Lexeme, Meaning, Mnemonic, Span};
 use tso_text::{Token, TokenKind};
 use tso_word::{BitOperation, Condition};
@@ -189,7 +191,8 @@ fn meaning_of(text: &[u8]) -> Meaning
 
 #[tactic(auto, unfolding(crate::specs::Words::directive_named))]
 fn directive_named(text: &[u8]) -> Lexeme
-    ensures { result ≡ directive_named text.now }
+    ensures exact { result ≡ directive_named text.now }
+    ensures named { (source : List ℕ) → IsTrue (has_name source result) }
 {
     if text == b"capacity".as_slice() {
         Lexeme::Directive(Directive::Capacity)
@@ -212,13 +215,37 @@ fn directive_named(text: &[u8]) -> Lexeme
     }
 }
 
+fn is_letter(byte: u8) -> bool
+    ensures { result ≡ is_letter byte }
+{
+    byte.is_ascii_alphabetic() || byte == b'_'
+}
+
+fn goes_on(bytes: &[u8]) -> bool
+    ensures { result ≡ list_all goes_on bytes.now }
+{
+    bytes.iter().all(|b| is_letter(*b) || b.is_ascii_digit())
+}
+
+#[tactic(auto, unfolding(crate::specs::Proper::is_name))]
+fn is_name(text: &[u8]) -> bool
+    ensures { result ≡ is_name text.now }
+{
+    match text {
+        [first, rest @ ..] => is_letter(*first) && goes_on(rest),
+        _ => false,
+    }
+}
+
 #[tactic(auto, unfolding(crate::specs::Words::word_of_text))]
 fn word_of_text(span: Span, text: &[u8]) -> Lexeme
-    ensures { result ≡ word_of_text span text.now }
+    ensures exact { result ≡ word_of_text span text.now }
+    ensures named { (source : List ℕ) → text.now ≡ text_at source span → IsTrue (has_name source result) }
 {
     match text {
         [b'.', directive @ ..] => directive_named(directive),
-        _ => Lexeme::Word(span, meaning_of(text)),
+        _ if is_name(text) => Lexeme::Word(span, meaning_of(text)),
+        _ => Lexeme::Other,
     }
 }
 
@@ -263,7 +290,8 @@ fn hex_of(digits: &[u8]) -> Option<u64>
 
 // A number that begins with 0, from behind it.
 fn behind_zero(rest: &[u8]) -> Lexeme
-    ensures { result ≡ behind_zero rest.now }
+    ensures exact { result ≡ behind_zero rest.now }
+    ensures named { (source : List ℕ) → IsTrue (has_name source result) }
 {
     match rest {
         [] => Lexeme::Number(Some(0)),
@@ -277,7 +305,8 @@ fn behind_zero(rest: &[u8]) -> Lexeme
 
 #[tactic(auto, unfolding(crate::specs::Words::number_of))]
 fn number_of(text: &[u8]) -> Lexeme
-    ensures { result ≡ number_of text.now }
+    ensures exact { result ≡ number_of text.now }
+    ensures named { (source : List ℕ) → IsTrue (has_name source result) }
 {
     match text {
         [b'0', rest @ ..] => behind_zero(rest),
@@ -290,7 +319,8 @@ fn number_of(text: &[u8]) -> Lexeme
 
 /// What a token of the source is.
 pub fn lexeme_of(source: &[u8], token: Token) -> Lexeme
-    ensures { result ≡ lexeme_of source.now token }
+    ensures exact { result ≡ lexeme_of source.now token }
+    ensures named { IsTrue (has_name source.now result) }
 {
     let span = Span {
         start: token.start,

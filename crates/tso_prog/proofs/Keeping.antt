@@ -14,7 +14,7 @@ use Rattle.tso_line.specs.declared.line.Kind.{Kind}
 use Rattle.tso_line.specs.declared.line.Kind.TheVariants as kinds
 use Rattle.tso_line.specs.Instructions.{renamed}
 use Rattle.tso_line.specs.Lines.{Name, Line, misshapen, wrong, capacity, mode, array, push, pop, end, label, instruction, before, thread}
-use Rattle.tso_line.specs.Proper.{is_proper}
+use Rattle.tso_line.specs.Proper.{is_in_range, is_proper}
 use Rattle.tso_prog.specs.declared.client.Array.{Array}
 use Rattle.tso_prog.specs.declared.draft.Part.{Part}
 use Rattle.tso_prog.specs.declared.draft.Part.TheVariants as parts
@@ -34,7 +34,7 @@ use Rattle.tso_prog.proofs.First.{no_fault}
 below : (a b : ℕ) → nat_le a b ≡ false → b < a
 below a b e = grind (arith, leb_tells a b)
 
-at_most : (a b : ℕ) → nat_lt a b ≡ false → b ≤ a
+pub at_most : (a b : ℕ) → nat_lt a b ≡ false → b ≤ a
 at_most a b e = grind (arith, leb_tells (suc a) b)
 
 -- ---- places
@@ -61,14 +61,14 @@ stands false e = absurd cc
 
 -- ---- procedures
 
-list_all_weaker : {X : Type 0} (p q : X → Bool) → ((x : X) → p x ≡ true → q x ≡ true) → (xs : List X) → list_all p xs ≡ true → list_all q xs ≡ true
+pub list_all_weaker : {X : Type 0} (p q : X → Bool) → ((x : X) → p x ≡ true → q x ≡ true) → (xs : List X) → list_all p xs ≡ true → list_all q xs ≡ true
 list_all_weaker p q h [] e = refl
 list_all_weaker p q h (x ∷ xs) e = let (a, b) = and_parts (p x) (list_all p xs) e in and_from (q x) (list_all q xs) (h x a) (list_all_weaker p q h xs b)
 
-list_all_more : {X : Type 0} (p : X → Bool) (xs : List X) (x : X) → list_all p xs ≡ true → p x ≡ true → list_all p (xs ++ x ∷ []) ≡ true
+pub list_all_more : {X : Type 0} (p : X → Bool) (xs : List X) (x : X) → list_all p xs ≡ true → p x ≡ true → list_all p (xs ++ x ∷ []) ≡ true
 list_all_more p xs x e f = list_all-append p xs (x ∷ []) ∙ and_from (list_all p xs) (p x && true) e (and_from (p x) true f refl)
 
-one_more : {X : Type 0} (xs : List X) (x : X) → length (xs ++ x ∷ []) ≡ length xs + 1
+pub one_more : {X : Type 0} (xs : List X) (x : X) → length (xs ++ x ∷ []) ≡ length xs + 1
 one_more xs x = length-append xs (x ∷ [])
 
 weaker : (n : ℕ) (l : LabelOf) → nat_le l.at n ≡ true → nat_le l.at (n + 1) ≡ true
@@ -386,6 +386,23 @@ thread_kept c n calls h e =
           few_calls = both_calls (length calls) c.calls a.1;
         }
 
+-- an instruction in range has a small bound
+small_of : (i : Instruction Name Name) → is_in_range i ≡ true → has_small_bound i ≡ true
+small_of (instructions.Move to from) e = refl
+small_of (instructions.Load to from) e = refl
+small_of (instructions.Store to from) e = refl
+small_of (instructions.Compute operation to from) e = refl
+small_of (instructions.Compare comparison left right) e = refl
+small_of (instructions.Increment to) e = refl
+small_of (instructions.Decrement to) e = refl
+small_of (instructions.Jump when target bound) e = e
+small_of (instructions.Assert condition) e = refl
+small_of (instructions.Locked operation cell register) e = refl
+small_of instructions.Fence e = refl
+small_of instructions.Nop e = refl
+small_of instructions.Pause e = refl
+small_of instructions.Return e = refl
+
 kept_by : (c : Content) (n : ℕ) (l : Line) → IsLimited c → is_proper l ≡ true → ((code : Code) → has c l code ≡ false) → IsLimited (after c n l)
 kept_by c n misshapen h proper clean = h
 kept_by c n (wrong kind slip) h proper clean = h
@@ -451,7 +468,7 @@ kept_by c n end h proper clean = record {
           few_calls = h.few_calls;
         }
 kept_by c n (label name) h proper clean = open_label c.part c name h
-kept_by c n (instruction i lacks) h proper clean = instruction_kept c n i lacks h proper (clean E09)
+kept_by c n (instruction i lacks) h proper clean = instruction_kept c n i lacks h (small_of i proper) (clean E09)
 kept_by c n (before calls) h proper clean = before_kept c n calls h (clean E03) (clean E09)
 kept_by c n (thread calls) h proper clean = thread_kept c n calls h (clean E09)
 

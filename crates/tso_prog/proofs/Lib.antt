@@ -9,3 +9,5 @@ pub mod Walk
 pub mod Clean
 pub mod Bodies
 pub mod Contents
+pub mod Refusals
+pub mod Printing

@@ -58,9 +58,9 @@ labelled_all p q labels each (s ∷ ss) ts h e =
     ap (list_all q) b.all_are ∙ and_from (q b.first) (list_all q b.others) (each s b.first x b.first_is) (labelled_all p q labels each ss b.others y b.others_are)
 
 -- a step becomes the same instruction with some place
-record Placed (labels : List LabelOf) (s : StepOf) (t : Instruction ℕ ℕ) : Type 0 where
-  place : ℕ
-  is : t ≡ renamed (λ a. a) (λ _. place) s.instruction
+pub record Placed (labels : List LabelOf) (s : StepOf) (t : Instruction ℕ ℕ) : Type 0 where
+  pub place : ℕ
+  pub is : t ≡ renamed (λ a. a) (λ _. place) s.instruction
 
 placed_as : (labels : List LabelOf) (s : StepOf) (t : Instruction ℕ ℕ) (name : Option Name) → placed labels s name ≡ Ok t → Placed labels s t
 placed_as labels s t None e = record { place = 0; is = let f : renamed (λ a. a) (λ _. 0) s.instruction ≡ t = cc in sym f }
@@ -69,6 +69,9 @@ placed_as labels s t (Some name) e = jumps (label_place labels name) e
     jumps : (o : Option ℕ) → jump_to s o ≡ Ok t → Placed labels s t
     jumps None e = absurd cc
     jumps (Some place) e = record { place = place; is = let f : renamed (λ a. a) (λ _. place) s.instruction ≡ t = cc in sym f }
+
+pub placed_step : (labels : List LabelOf) (s : StepOf) (t : Instruction ℕ ℕ) → labelled_step labels s ≡ Ok t → Placed labels s t
+placed_step labels s t e = placed_as labels s t (label_of s.instruction) e
 
 small_kept : (i : Instruction ℕ Name) (place : ℕ) → has_small_bound (renamed (λ a. a) (λ _. place) i) ≡ has_small_bound i
 small_kept (instructions.Move to from) place = refl

@@ -10,6 +10,7 @@ pub mod Limited
 pub mod Limits
 pub mod Parts
 pub mod Program
+pub mod Refusals
 pub mod Start
 pub mod Text
 pub mod Views

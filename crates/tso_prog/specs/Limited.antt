@@ -1,8 +1,12 @@
 -- What keeps a program within its limits while its lines are read.
-use Rattle.std.specs.Prelude.{◌≡◌, ℕ, ◌+◌, ◌≤◌, Bool, ◌||◌, ◌==◌, nat_le, length, sum_by, IsTrue}
+use Rattle.std.specs.Prelude.{◌≡◌, ℕ, ◌+◌, ◌≤◌, Bool, true, false, ◌&&◌, ◌||◌, ◌==◌, nat_le, length, map, sum_by, IsTrue}
 use Rattle.std.specs.List.{list_all}
-use Rattle.tso_prog.specs.Limits.{has_small_bound}
-use Rattle.tso_prog.specs.Contents.{BodyOf, Content}
+use Rattle.tso_line.specs.Proper.{is_in_range}
+use Rattle.tso_prog.specs.declared.draft.Part.{Part}
+use Rattle.tso_prog.specs.declared.draft.Part.TheVariants as parts
+use Rattle.tso_prog.specs.declared.client.Array.{Array}
+use Rattle.tso_prog.specs.Limits.{has_small_bound, has_array_below, is_short_name, are_words, are_distinct, is_prologue, is_thread}
+use Rattle.tso_prog.specs.Contents.{StepOf, BodyOf, Content}
 use Rattle.tso_prog.specs.Finish.{is_threads}
 
 -- bounds are small, and labels stand before an instruction or behind the last
@@ -22,3 +26,35 @@ pub record IsLimited (c : Content) : Type 0 where
   pub few_threads : length c.threads ≤ 4
   pub calls_are : c.calls ≡ length c.prologue + sum_by (λ calls. length calls) c.threads
   pub few_calls : c.calls ≤ 12
+
+abbrev pub is_first : Part → Bool
+is_first parts.Capacity = true
+is_first _ = false
+
+abbrev pub is_array : Array → Bool
+is_array a = is_short_name a.name && are_words a.words
+
+abbrev pub is_step : ℕ → StepOf → Bool
+is_step count s = is_in_range s.instruction && has_array_below count s.instruction
+
+-- a procedure that was ended has an instruction
+abbrev pub Begun : Part → ℕ → ℕ → Type 0
+Begun parts.Capacity push pop = Unit {0}
+Begun parts.Mode push pop = Unit {0}
+Begun parts.Arrays push pop = Unit {0}
+Begun parts.Push push pop = Unit {0}
+Begun parts.Between push pop = 1 ≤ push
+Begun parts.Pop push pop = 1 ≤ push
+Begun parts.Prologue push pop = (1 ≤ push) × (1 ≤ pop)
+Begun parts.Threads push pop = (1 ≤ push) × (1 ≤ pop)
+
+-- what lets the program be written as a text again
+pub record IsPrintable (c : Content) : Type 0 where
+  pub capacity : IsTrue (is_first c.part || nat_le 1 c.capacity && nat_le c.capacity 16)
+  pub arrays : IsTrue (list_all is_array c.arrays)
+  pub names : IsTrue (are_distinct (map (λ a. a.name) c.arrays))
+  pub push : IsTrue (list_all (is_step (length c.arrays)) c.push.steps)
+  pub pop : IsTrue (list_all (is_step (length c.arrays)) c.pop.steps)
+  pub begun : Begun c.part (length c.push.steps) (length c.pop.steps)
+  pub prologue : IsTrue (is_prologue c.prologue)
+  pub threads : IsTrue (list_all is_thread c.threads)

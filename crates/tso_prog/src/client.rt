@@ -1,7 +1,8 @@
 //! What a program text denotes.
 
-ghost use Rattle.std.specs.Prelude.{◌≡◌, ◌+◌, ◌<◌, ◌≤◌, length, sum_by, IsTrue};
-ghost use Rattle.tso_prog.specs.Limits.{are_bounds_small, are_targets_within};
+ghost use Rattle.std.specs.Prelude.{◌≡◌, ◌+◌, ◌<◌, ◌≤◌, length, map, sum_by, IsTrue};
+ghost use Rattle.std.specs.List.{list_all};
+ghost use Rattle.tso_prog.specs.Limits.{are_bounds_small, are_targets_within, are_in_range, are_arrays_below, are_distinct, are_words, is_short_name, is_prologue, is_thread};
 
 use tso_line::{CallKind, Instruction, Mode};
 use tso_list::Seq;
@@ -24,6 +25,8 @@ pub struct Procedure {
     ghost each_has_line: { length lines ≡ length instructions },
     ghost small_bounds: { IsTrue (are_bounds_small instructions) },
     ghost targets_within: { IsTrue (are_targets_within (length instructions) instructions) },
+    ghost nonempty: { 1 ≤ length instructions },
+    ghost in_range: { IsTrue (are_in_range instructions) },
 }
 
 /// A program: the queue's capacity and mode, its arrays and procedures, and the calls of each thread.
@@ -45,4 +48,14 @@ pub struct Client {
     ghost few_instructions: { length push.instructions + length pop.instructions ≤ 256 },
     ghost few_threads: { length threads ≤ 4 },
     ghost few_calls: { length prologue + sum_by (λ calls. length calls) threads ≤ 12 },
+    ghost some_capacity: { 1 ≤ capacity },
+    ghost small_capacity: { capacity ≤ 16 },
+    ghost short_names: { IsTrue (list_all (λ a. is_short_name a.name) arrays) },
+    ghost distinct_names: { IsTrue (are_distinct (map (λ a. a.name) arrays)) },
+    ghost arrays_of_words: { IsTrue (list_all (λ a. are_words a.words) arrays) },
+    ghost arrays_of_push: { IsTrue (are_arrays_below (length arrays) push.instructions) },
+    ghost arrays_of_pop: { IsTrue (are_arrays_below (length arrays) pop.instructions) },
+    ghost short_prologue: { IsTrue (is_prologue prologue) },
+    ghost some_threads: { 1 ≤ length threads },
+    ghost short_threads: { IsTrue (list_all is_thread threads) },
 }

@@ -1,13 +1,15 @@
 //! A program after its last line.
 
-ghost use Rattle.std.specs.Prelude.{◌≡◌, ◌++◌, ◌∷◌, [], map, find, IfOk};
+ghost use Rattle.std.specs.Prelude.{◌≡◌, ℕ, ◌≤◌, ◌++◌, ◌∷◌, [], length, map, find, IfOk, IsTrue};
+ghost use Rattle.std.specs.List.{list_all};
 ghost use Rattle.std.specs.Option.{option_map};
 ghost use Rattle.std.specs.Str.{bytes_eq};
 ghost use Rattle.tso_prog.specs.Content.{content, array_view, label_view, body_view, step_view};
 ghost use Rattle.tso_prog.specs.Client.{client};
 ghost use Rattle.tso_prog.specs.Program.{Gives};
 ghost use Rattle.tso_prog.specs.Finish.{labelled_step, labelled, labelled_body, line_numbers, finished, label_place};
-ghost use Rattle.tso_prog.specs.Limited.{IsProcedure, IsLimited};
+ghost use Rattle.tso_prog.specs.Limited.{IsProcedure, IsLimited, IsPrintable, is_step};
+ghost use Rattle.tso_prog.specs.Limits.{are_arrays_below};
 
 use crate::client::{Array, Client, Procedure, Step};
 use crate::draft::{Body, Declared, Draft, Label, Part, Unplaced};
@@ -75,7 +77,10 @@ fn numbers_of(alloc: Global, steps: &[Unplaced]) -> Result<Vec<u32>, AllocError>
 
 // The procedure with its labels as positions.
 fn procedure_of(alloc: Global, body: &Body) -> Result<Procedure, ReadError>
-    requires { IsProcedure (body_view body.now) }
+    requires limited { IsProcedure (body_view body.now) }
+    requires nonempty { 1 ≤ length (body_view body.now).steps }
+    requires steps { (count : ℕ) × IsTrue (list_all (is_step count) (body_view body.now).steps) }
+    ensures arrays { (count : ℕ) → IsTrue (list_all (is_step count) (body_view body.now).steps) → IfOk result (λ p. IsTrue (are_arrays_below count p.instructions)) }
     ensures instructions { Gives (λ p. p.instructions) result (labelled_body (body_view body.now)) }
     ensures lines { IfOk result (λ p. p.lines ≡ line_numbers (body_view body.now)) }
 {
@@ -105,7 +110,8 @@ impl Draft<'_> {
     /// The client of a whole text.
     #[tactic(auto, unfolding(crate::specs::Finish::finished))]
     pub fn finish(self, alloc: Global) -> Result<Client, ReadError>
-        requires { IsLimited (content self) }
+        requires limited { IsLimited (content self) }
+        requires printable { IsPrintable (content self) }
         ensures exact { Gives client result (finished (content self.entry)) }
         ensures lines { IfOk result (λ c. (c.push.lines ≡ line_numbers (content self.entry).push) × (c.pop.lines ≡ line_numbers (content self.entry).pop)) }
     {

@@ -1,17 +1,18 @@
 //! A text as a program.
 
-ghost use Rattle.std.specs.Prelude.{◌≡◌, ◌<◌, ◌≤◌, ◌∷◌, [], length, map, not, IfOk, IfSome, IfNone};
-ghost use Rattle.std.specs.List.{prefix_len};
+ghost use Rattle.std.specs.Prelude.{◌≡◌, ◌<◌, ◌≤◌, ◌∷◌, [], length, map, not, IfOk, IfSome, IfNone, IsTrue};
+ghost use Rattle.std.specs.List.{prefix_len, list_all};
 ghost use Rattle.tso_line.specs.Lexemes.{split_by};
-ghost use Rattle.tso_line.specs.Words.{lexeme_of};
+ghost use Rattle.tso_line.specs.Words.{lexeme_of, has_name};
 ghost use Rattle.tso_prog.specs.Content.{content};
 ghost use Rattle.tso_prog.specs.Start.{start};
-ghost use Rattle.tso_prog.specs.Limited.{IsLimited};
+ghost use Rattle.tso_prog.specs.Limited.{IsLimited, IsPrintable};
 ghost use Rattle.tso_prog.specs.Program.{Gives, ReadsLines, IsFirstFault, IsRefused, read_from, ends_line, numbered, lines_of};
 ghost use Rattle.tso_prog.specs.declared.fault.Fault.{Fault};
 ghost use Rattle.tso_text.specs.Lexing.{tokens_of};
 ghost use Rattle.tso_prog.specs.Parts.{HasParts, HasLines};
 ghost use Rattle.tso_prog.specs.Text.{program_of};
+ghost use Rattle.tso_prog.specs.Refusals.{FirstOf, AnswersFirst};
 ghost use Rattle.tso_prog.specs.Client.{client};
 
 use crate::client::Client;
@@ -45,9 +46,14 @@ fn cut_line(tokens: &[Token]) -> Option<(&[Token], &[Token])>
 }
 
 fn lexemes_of(alloc: Global, source: &[u8], tokens: &[Token]) -> Result<Vec<Lexeme>, AllocError>
-    ensures { IfOk result (λ v. v.items ≡ map (lexeme_of source.now) tokens.now) }
+    ensures named { IfOk result (λ v. IsTrue (list_all (has_name source.now) v.items)) }
+    ensures exact { IfOk result (λ v. v.items ≡ map (lexeme_of source.now) tokens.now) }
 {
-    tokens.iter().map(|t| lexeme_of(source, *t)).collect(alloc)
+    let mut lexemes = Vec::new(alloc);
+    for token in tokens {
+        lexemes.push(lexeme_of(source, *token))?;
+    }
+    Ok(lexemes)
 }
 
 #[tactic(auto, unfolding(crate::specs::Program::read_from))]
@@ -58,8 +64,10 @@ fn add_line<'a>(
     source: &'a [u8],
     tokens: &[Token],
 ) -> Result<(), ReadError>
-    requires { IsLimited (content draft.old) }
+    requires limited { IsLimited (content draft.old) }
+    requires printable { IsPrintable (content draft.old) }
     ensures limited { IfOk result (λ _. IsLimited (content draft.new)) }
+    ensures printable { IfOk result (λ _. IsPrintable (content draft.new)) }
     ensures exact { Gives (λ _. content draft.new) result (read_from (content draft.old) (numbered source.now tokens.now)) }
 {
     let Some((first, _)) = tokens.split_first() else {
@@ -77,6 +85,7 @@ fn add_line<'a>(
 
 fn each_line<'a>(alloc: Global, source: &'a [u8], tokens: &[Token]) -> Result<Draft<'a>, ReadError>
     ensures limited { IfOk result (λ d. IsLimited (content d)) }
+    ensures printable { IfOk result (λ d. IsPrintable (content d)) }
     ensures exact { Gives content result (read_from start (lines_of source.now tokens.now)) }
 {
     let mut draft = Draft::new(alloc);
@@ -96,6 +105,7 @@ pub fn read_lines<'a>(
     tokens: &[Token],
 ) -> Result<Draft<'a>, ReadError>
     ensures limited { IfOk result (λ d. IsLimited (content d)) }
+    ensures printable { IfOk result (λ d. IsPrintable (content d)) }
     ensures exact { Gives content result (read_from start (lines_of source.now tokens.now)) }
     ensures first { ReadsLines content result start (lines_of source.now tokens.now) }
     ensures only { (f : Fault) → IsFirstFault start (lines_of source.now tokens.now) f → IsRefused result f }
@@ -123,6 +133,8 @@ pub fn read(alloc: Global, source: &[u8]) -> Result<Client, ReadError>
     ensures exact { Gives client result (program_of source.now) }
     ensures parts { IfOk result (λ c. HasParts (lines_of source.now (tokens_of source.now)) (client c)) }
     ensures lines { IfOk result (λ c. HasLines (lines_of source.now (tokens_of source.now)) c.push.lines c.pop.lines) }
+    ensures first { AnswersFirst result source.now }
+    ensures only { (f : Fault) → FirstOf source.now f → IsRefused result f }
 {
     read_all(alloc, source)
 }

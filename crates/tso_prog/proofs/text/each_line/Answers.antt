@@ -13,5 +13,6 @@ returns-in_err-add_line-clause-exact c =
 pub loop-line-preserved : goal.loop-line-preserved
 loop-line-preserved c = record {
   limited = c.in_ok-add_line.ensures.limited;
+  printable = c.in_ok-add_line.ensures.printable;
   so_far = line_more c.args.source.now c.loop-line.rest.now c.in-Some.line.now c.in-Some.after.now (content c.loop-line.draft) (content c.add_line.new.draft) (read_from start (lines_of c.args.source.now c.args.tokens.now)) c.in-Some.ensures.some.0 c.in_ok-add_line.ensures.exact c.loop-line.invariant.so_far;
 }
