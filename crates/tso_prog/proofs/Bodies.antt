@@ -1,9 +1,8 @@
 -- The procedures that clean lines make.
-use Rattle.std.proofs.Common.{◌≡◌, ℕ, zero, suc, ◌+◌, Bool, true, false, cond, List, [], ◌∷◌, ◌++◌, length, map, Option, Some, None, Result, Ok, Err, refl, sym, ap, subst, ◌∙◌, append_assoc, arith}
-use Rattle.std.specs.Prelude.{◌&&◌, is_some, is_none, option_and_then, unwrap_or, position}
+use Rattle.std.proofs.Common.{◌≡◌, ℕ, Bool, true, false, cond, List, [], ◌∷◌, ◌++◌, length, map, Option, Some, None, Result, Ok, refl, sym, ap, subst, ◌∙◌, append_assoc}
+use Rattle.std.specs.Prelude.{is_some, is_none, option_and_then, unwrap_or}
 use Rattle.std.specs.List.{flat_map, list_all}
 use Rattle.std.specs.Option.{option_map}
-use Rattle.std.specs.Str.{bytes_eq}
 use Rattle.std.proofs.lemmas.Bool.{and_parts, and_from}
 use Rattle.std.proofs.lemmas.List.{append-nil, length-append, map-append}
 use Rattle.tso_line.specs.declared.instruction.Address.{Address}
@@ -13,7 +12,7 @@ use Rattle.tso_line.specs.declared.instruction.Instruction.{Instruction}
 use Rattle.tso_line.specs.declared.instruction.Instruction.TheVariants as instructions
 use Rattle.tso_line.specs.declared.line.Kind.TheVariants as kinds
 use Rattle.tso_line.specs.declared.line.Slip.TheVariants as slips
-use Rattle.tso_line.specs.Instructions.{renamed, address_of, label_of}
+use Rattle.tso_line.specs.Instructions.{renamed, address_of}
 use Rattle.tso_line.specs.Lines.{Name, Line, misshapen, wrong, capacity, mode, array, push, pop, end, label, instruction, before, thread}
 use Rattle.tso_prog.specs.declared.client.Array.{Array as Words}
 use Rattle.tso_prog.specs.declared.draft.Part.{Part}
@@ -23,13 +22,13 @@ use Rattle.tso_prog.specs.declared.fault.Code.TheVariants.{E03, E04, E05, E07}
 use Rattle.tso_prog.specs.declared.fault.Fault.{Fault}
 use Rattle.tso_prog.specs.Contents.{LabelOf, StepOf, BodyOf, Content}
 use Rattle.tso_prog.specs.Faults.{may_stand, has, lacks_at, lacks_array}
-use Rattle.tso_prog.specs.After.{after, after_end, with_label, with_step, with_opened, step, numbered, number_or_0}
-use Rattle.tso_prog.specs.Program.{Numbered, content_of, IsClean, ◌>>=◌}
-use Rattle.tso_prog.specs.Finish.{label_place, jump_to, placed, labelled_step, labelled, line_numbers}
+use Rattle.tso_prog.specs.After.{after, after_end, with_label, with_step, with_opened, step, numbered}
+use Rattle.tso_prog.specs.Program.{Numbered, content_of, IsClean}
+use Rattle.tso_prog.specs.Finish.{label_place, jump_to, labelled_step, labelled, line_numbers}
 use Rattle.tso_prog.specs.Parts.{is_end, before_end, behind_end, instruction_in, number_in, numbers_in, with_label_in, labels_from, number_of, array_place, array_named, denoted, AreOf}
 use Rattle.tso_prog.proofs.First.{then_content}
 use Rattle.tso_prog.proofs.Clean.{stands, count_no, left, opened_part, clean_here, clean_rest}
-use Rattle.tso_prog.proofs.Placing.{Both, labelled_both}
+use Rattle.tso_prog.proofs.Placing.{labelled_both}
 
 -- ---- a procedure of its lines
 

@@ -1,5 +1,5 @@
 -- Clean lines, one after the other.
-use Rattle.std.proofs.Common.{◌≡◌, ℕ, Bool, true, false, not, List, [], ◌∷◌, ◌++◌, map, Option, Some, None, refl, sym, ap, subst, ◌∙◌}
+use Rattle.std.proofs.Common.{◌≡◌, ℕ, Bool, true, false, not, List, [], ◌∷◌, map, Some, refl, subst}
 use Rattle.std.specs.Prelude.{◌&&◌, ◌||◌}
 use Rattle.tso_line.specs.declared.line.Kind.{Kind}
 use Rattle.tso_line.specs.declared.line.Kind.TheVariants.{Capacity, Mode, Array, Push, Pop, End, Label, Instruction as Step, Before, Thread}
@@ -92,4 +92,3 @@ clean_walk (l ∷ ls) c clean =
       kinds_are = (λ i. g.kind_is i ∷ w.kinds_are i);
       walks = (g.may, subst (λ (p : Part). Walks p w.kinds (content_of ls (then_content c l)).part) g.next w.walks);
     }
-

@@ -1,7 +1,7 @@
 -- What clean lines make.
-use Rattle.std.proofs.Common.{◌≡◌, ℕ, Bool, true, false, cond, not, List, [], ◌∷◌, ◌++◌, length, map, Option, Some, None, Result, Ok, Err, refl, sym, ap, subst, ◌∙◌, append_assoc}
-use Rattle.std.specs.Prelude.{◌&&◌, ◌||◌, nat_lt, IfOk}
-use Rattle.std.specs.List.{flat_map, list_all}
+use Rattle.std.proofs.Common.{◌≡◌, ℕ, Bool, true, false, cond, List, [], ◌∷◌, ◌++◌, length, Option, Some, None, Result, Ok, Err, refl, sym, ap, subst, ◌∙◌, append_assoc}
+use Rattle.std.specs.Prelude.{◌&&◌, nat_lt, IfOk}
+use Rattle.std.specs.List.{flat_map}
 use Rattle.std.proofs.lemmas.List.{append-nil}
 use Rattle.tso_text.specs.declared.token.Token.{Token}
 use Rattle.tso_text.specs.declared.scan.LexError.TheVariants.{TooLong}
@@ -16,7 +16,7 @@ use Rattle.tso_prog.specs.declared.client.Array.{Array as Words}
 use Rattle.tso_prog.specs.declared.draft.Part.{Part}
 use Rattle.tso_prog.specs.declared.draft.Part.TheVariants as parts
 use Rattle.tso_prog.specs.declared.fault.Code.{Code}
-use Rattle.tso_prog.specs.declared.fault.Code.TheVariants.{E01, E02, E03, E04, E05, E08}
+use Rattle.tso_prog.specs.declared.fault.Code.TheVariants.{E01, E03, E04, E05, E08}
 use Rattle.tso_prog.specs.declared.fault.Fault.{Fault}
 use Rattle.tso_prog.specs.declared.fault.ReadError.{ReadError}
 use Rattle.tso_prog.specs.Contents.{BodyOf, Content}
@@ -25,13 +25,13 @@ use Rattle.tso_prog.specs.Faults.{may_stand, has}
 use Rattle.tso_prog.specs.After.{after, after_end, with_opened}
 use Rattle.tso_prog.specs.Start.{start}
 use Rattle.tso_prog.specs.Program.{Gives, ◌>>=◌, fault, Numbered, lines_of, read_from, content_of, IsClean}
-use Rattle.tso_prog.specs.Finish.{labelled, labelled_body, line_numbers, finished, is_threads}
-use Rattle.tso_prog.specs.Parts.{HasParts, HasLines, AreOf, before_end, behind_end, capacity_in, mode_in, array_in, prologue_in, calls_in, numbers_in}
+use Rattle.tso_prog.specs.Finish.{labelled_body, line_numbers, finished, is_threads}
+use Rattle.tso_prog.specs.Parts.{HasParts, HasLines, before_end, behind_end, capacity_in, mode_in, array_in, prologue_in, calls_in, numbers_in}
 use Rattle.tso_prog.specs.Text.{program_of, bytes_or_lines}
-use Rattle.tso_prog.proofs.First.{then_content, before_it, Meets, read_meets}
+use Rattle.tso_prog.proofs.First.{then_content, Meets, read_meets}
 use Rattle.tso_prog.proofs.Walk.{Walks, six_parts}
 use Rattle.tso_prog.proofs.Clean.{stands, count_no, left, opened_part, clean_here, clean_rest, clean_walk}
-use Rattle.tso_prog.proofs.Bodies.{push_from, pop_from, bodied, bodies, is_known, all_known, before_known, behind_known, empty, are_of, numbers_are}
+use Rattle.tso_prog.proofs.Bodies.{bodies, all_known, before_known, behind_known, are_of, numbers_are}
 
 -- ---- what changes no procedure
 

@@ -1,6 +1,6 @@
 -- A line without a fault keeps a program within its limits.
-use Rattle.std.proofs.Common.{◌≡◌, ℕ, suc, ◌+◌, ◌<◌, ◌≤◌, Bool, true, false, not, List, [], ◌∷◌, ◌++◌, length, Option, Some, None, Result, Ok, Err, refl, sym, ap, subst, ◌∙◌, arith}
-use Rattle.std.specs.Prelude.{◌&&◌, ◌||◌, ◌==◌, nat_lt, nat_le, sum_by, IfOk}
+use Rattle.std.proofs.Common.{◌≡◌, ℕ, suc, ◌+◌, ◌<◌, ◌≤◌, Bool, true, false, not, List, [], ◌∷◌, ◌++◌, length, None, refl, sym, subst, ◌∙◌, arith}
+use Rattle.std.specs.Prelude.{◌&&◌, ◌||◌, ◌==◌, nat_lt, nat_le}
 use Rattle.std.specs.List.{list_all}
 use Rattle.std.proofs.lemmas.Bool.{and_parts, and_from, or_parts, leb-true, le-leb, eqb-true}
 use Rattle.std.proofs.lemmas.Bool.Decides.{leb_tells}
@@ -19,7 +19,7 @@ use Rattle.tso_prog.specs.declared.client.Array.{Array}
 use Rattle.tso_prog.specs.declared.draft.Part.{Part}
 use Rattle.tso_prog.specs.declared.draft.Part.TheVariants as parts
 use Rattle.tso_prog.specs.declared.fault.Code.{Code}
-use Rattle.tso_prog.specs.declared.fault.Code.TheVariants.{E03, E06, E07, E09}
+use Rattle.tso_prog.specs.declared.fault.Code.TheVariants.{E03, E09}
 use Rattle.tso_prog.specs.Limits.{has_small_bound}
 use Rattle.tso_prog.specs.Contents.{LabelOf, StepOf, BodyOf, Content}
 use Rattle.tso_prog.specs.Faults.{may_stand, has, fault_at, passes_limit}
@@ -88,101 +88,101 @@ step_kept b s small p = record {
 
 open_label : (p : Part) (c : Content) (name : Name) → IsLimited c → IsLimited (with_opened p c (λ b. with_label b name))
 open_label parts.Pop c name h = record {
-          few_arrays = h.few_arrays;
-          words_are = h.words_are;
-          few_words = h.few_words;
-          few_instructions = h.few_instructions;
-          push = h.push;
-          pop = label_kept c.pop name h.pop;
-          prologue_is_late = h.prologue_is_late;
-          few_threads = h.few_threads;
-          calls_are = h.calls_are;
-          few_calls = h.few_calls;
-        }
+  few_arrays = h.few_arrays;
+  words_are = h.words_are;
+  few_words = h.few_words;
+  few_instructions = h.few_instructions;
+  push = h.push;
+  pop = label_kept c.pop name h.pop;
+  prologue_is_late = h.prologue_is_late;
+  few_threads = h.few_threads;
+  calls_are = h.calls_are;
+  few_calls = h.few_calls;
+}
 open_label parts.Capacity c name h = record {
-          few_arrays = h.few_arrays;
-          words_are = h.words_are;
-          few_words = h.few_words;
-          few_instructions = h.few_instructions;
-          push = label_kept c.push name h.push;
-          pop = h.pop;
-          prologue_is_late = h.prologue_is_late;
-          few_threads = h.few_threads;
-          calls_are = h.calls_are;
-          few_calls = h.few_calls;
-        }
+  few_arrays = h.few_arrays;
+  words_are = h.words_are;
+  few_words = h.few_words;
+  few_instructions = h.few_instructions;
+  push = label_kept c.push name h.push;
+  pop = h.pop;
+  prologue_is_late = h.prologue_is_late;
+  few_threads = h.few_threads;
+  calls_are = h.calls_are;
+  few_calls = h.few_calls;
+}
 open_label parts.Mode c name h = record {
-          few_arrays = h.few_arrays;
-          words_are = h.words_are;
-          few_words = h.few_words;
-          few_instructions = h.few_instructions;
-          push = label_kept c.push name h.push;
-          pop = h.pop;
-          prologue_is_late = h.prologue_is_late;
-          few_threads = h.few_threads;
-          calls_are = h.calls_are;
-          few_calls = h.few_calls;
-        }
+  few_arrays = h.few_arrays;
+  words_are = h.words_are;
+  few_words = h.few_words;
+  few_instructions = h.few_instructions;
+  push = label_kept c.push name h.push;
+  pop = h.pop;
+  prologue_is_late = h.prologue_is_late;
+  few_threads = h.few_threads;
+  calls_are = h.calls_are;
+  few_calls = h.few_calls;
+}
 open_label parts.Arrays c name h = record {
-          few_arrays = h.few_arrays;
-          words_are = h.words_are;
-          few_words = h.few_words;
-          few_instructions = h.few_instructions;
-          push = label_kept c.push name h.push;
-          pop = h.pop;
-          prologue_is_late = h.prologue_is_late;
-          few_threads = h.few_threads;
-          calls_are = h.calls_are;
-          few_calls = h.few_calls;
-        }
+  few_arrays = h.few_arrays;
+  words_are = h.words_are;
+  few_words = h.few_words;
+  few_instructions = h.few_instructions;
+  push = label_kept c.push name h.push;
+  pop = h.pop;
+  prologue_is_late = h.prologue_is_late;
+  few_threads = h.few_threads;
+  calls_are = h.calls_are;
+  few_calls = h.few_calls;
+}
 open_label parts.Push c name h = record {
-          few_arrays = h.few_arrays;
-          words_are = h.words_are;
-          few_words = h.few_words;
-          few_instructions = h.few_instructions;
-          push = label_kept c.push name h.push;
-          pop = h.pop;
-          prologue_is_late = h.prologue_is_late;
-          few_threads = h.few_threads;
-          calls_are = h.calls_are;
-          few_calls = h.few_calls;
-        }
+  few_arrays = h.few_arrays;
+  words_are = h.words_are;
+  few_words = h.few_words;
+  few_instructions = h.few_instructions;
+  push = label_kept c.push name h.push;
+  pop = h.pop;
+  prologue_is_late = h.prologue_is_late;
+  few_threads = h.few_threads;
+  calls_are = h.calls_are;
+  few_calls = h.few_calls;
+}
 open_label parts.Between c name h = record {
-          few_arrays = h.few_arrays;
-          words_are = h.words_are;
-          few_words = h.few_words;
-          few_instructions = h.few_instructions;
-          push = label_kept c.push name h.push;
-          pop = h.pop;
-          prologue_is_late = h.prologue_is_late;
-          few_threads = h.few_threads;
-          calls_are = h.calls_are;
-          few_calls = h.few_calls;
-        }
+  few_arrays = h.few_arrays;
+  words_are = h.words_are;
+  few_words = h.few_words;
+  few_instructions = h.few_instructions;
+  push = label_kept c.push name h.push;
+  pop = h.pop;
+  prologue_is_late = h.prologue_is_late;
+  few_threads = h.few_threads;
+  calls_are = h.calls_are;
+  few_calls = h.few_calls;
+}
 open_label parts.Prologue c name h = record {
-          few_arrays = h.few_arrays;
-          words_are = h.words_are;
-          few_words = h.few_words;
-          few_instructions = h.few_instructions;
-          push = label_kept c.push name h.push;
-          pop = h.pop;
-          prologue_is_late = h.prologue_is_late;
-          few_threads = h.few_threads;
-          calls_are = h.calls_are;
-          few_calls = h.few_calls;
-        }
+  few_arrays = h.few_arrays;
+  words_are = h.words_are;
+  few_words = h.few_words;
+  few_instructions = h.few_instructions;
+  push = label_kept c.push name h.push;
+  pop = h.pop;
+  prologue_is_late = h.prologue_is_late;
+  few_threads = h.few_threads;
+  calls_are = h.calls_are;
+  few_calls = h.few_calls;
+}
 open_label parts.Threads c name h = record {
-          few_arrays = h.few_arrays;
-          words_are = h.words_are;
-          few_words = h.few_words;
-          few_instructions = h.few_instructions;
-          push = label_kept c.push name h.push;
-          pop = h.pop;
-          prologue_is_late = h.prologue_is_late;
-          few_threads = h.few_threads;
-          calls_are = h.calls_are;
-          few_calls = h.few_calls;
-        }
+  few_arrays = h.few_arrays;
+  words_are = h.words_are;
+  few_words = h.few_words;
+  few_instructions = h.few_instructions;
+  push = label_kept c.push name h.push;
+  pop = h.pop;
+  prologue_is_late = h.prologue_is_late;
+  few_threads = h.few_threads;
+  calls_are = h.calls_are;
+  few_calls = h.few_calls;
+}
 
 -- ---- lines
 
@@ -221,17 +221,17 @@ array_kept c n name words h e =
     let few = below 16 (length c.arrays) b.0 in
     let it : Array = record { name = name; words = words } in
     record {
-          few_arrays = rw (one_more c.arrays it) (omega (arith, few));
-          words_are = rw (sum_by-append (λ (a : Array). length a.words) c.arrays (it ∷ []), ← h.words_are) (omega arith);
-          few_words = at_most 256 (c.words + length words) b.1;
-          few_instructions = h.few_instructions;
-          push = h.push;
-          pop = h.pop;
-          prologue_is_late = h.prologue_is_late;
-          few_threads = h.few_threads;
-          calls_are = h.calls_are;
-          few_calls = h.few_calls;
-        }
+      few_arrays = rw (one_more c.arrays it) (omega (arith, few));
+      words_are = rw (sum_by-append (λ (a : Array). length a.words) c.arrays (it ∷ []), ← h.words_are) (omega arith);
+      few_words = at_most 256 (c.words + length words) b.1;
+      few_instructions = h.few_instructions;
+      push = h.push;
+      pop = h.pop;
+      prologue_is_late = h.prologue_is_late;
+      few_threads = h.few_threads;
+      calls_are = h.calls_are;
+      few_calls = h.few_calls;
+    }
 
 instruction_kept : (c : Content) (n : ℕ) (i : Instruction Name Name) (lacks : Bool) → IsLimited c → has_small_bound i ≡ true → has c (instruction i lacks) E09 ≡ false → IsLimited (after c n (instruction i lacks))
 unfolding passes_limit
@@ -254,101 +254,101 @@ instruction_kept c n i lacks h small e = at c.part
 
     at : (p : Part) → IsLimited (with_opened p c (λ b. with_step b s))
     at parts.Pop = record {
-          few_arrays = h.few_arrays;
-          words_are = h.words_are;
-          few_words = h.few_words;
-          few_instructions = in_pop;
-          push = h.push;
-          pop = step_kept c.pop s it h.pop;
-          prologue_is_late = h.prologue_is_late;
-          few_threads = h.few_threads;
-          calls_are = h.calls_are;
-          few_calls = h.few_calls;
-        }
+      few_arrays = h.few_arrays;
+      words_are = h.words_are;
+      few_words = h.few_words;
+      few_instructions = in_pop;
+      push = h.push;
+      pop = step_kept c.pop s it h.pop;
+      prologue_is_late = h.prologue_is_late;
+      few_threads = h.few_threads;
+      calls_are = h.calls_are;
+      few_calls = h.few_calls;
+    }
     at parts.Capacity = record {
-          few_arrays = h.few_arrays;
-          words_are = h.words_are;
-          few_words = h.few_words;
-          few_instructions = in_push;
-          push = step_kept c.push s it h.push;
-          pop = h.pop;
-          prologue_is_late = h.prologue_is_late;
-          few_threads = h.few_threads;
-          calls_are = h.calls_are;
-          few_calls = h.few_calls;
-        }
+      few_arrays = h.few_arrays;
+      words_are = h.words_are;
+      few_words = h.few_words;
+      few_instructions = in_push;
+      push = step_kept c.push s it h.push;
+      pop = h.pop;
+      prologue_is_late = h.prologue_is_late;
+      few_threads = h.few_threads;
+      calls_are = h.calls_are;
+      few_calls = h.few_calls;
+    }
     at parts.Mode = record {
-          few_arrays = h.few_arrays;
-          words_are = h.words_are;
-          few_words = h.few_words;
-          few_instructions = in_push;
-          push = step_kept c.push s it h.push;
-          pop = h.pop;
-          prologue_is_late = h.prologue_is_late;
-          few_threads = h.few_threads;
-          calls_are = h.calls_are;
-          few_calls = h.few_calls;
-        }
+      few_arrays = h.few_arrays;
+      words_are = h.words_are;
+      few_words = h.few_words;
+      few_instructions = in_push;
+      push = step_kept c.push s it h.push;
+      pop = h.pop;
+      prologue_is_late = h.prologue_is_late;
+      few_threads = h.few_threads;
+      calls_are = h.calls_are;
+      few_calls = h.few_calls;
+    }
     at parts.Arrays = record {
-          few_arrays = h.few_arrays;
-          words_are = h.words_are;
-          few_words = h.few_words;
-          few_instructions = in_push;
-          push = step_kept c.push s it h.push;
-          pop = h.pop;
-          prologue_is_late = h.prologue_is_late;
-          few_threads = h.few_threads;
-          calls_are = h.calls_are;
-          few_calls = h.few_calls;
-        }
+      few_arrays = h.few_arrays;
+      words_are = h.words_are;
+      few_words = h.few_words;
+      few_instructions = in_push;
+      push = step_kept c.push s it h.push;
+      pop = h.pop;
+      prologue_is_late = h.prologue_is_late;
+      few_threads = h.few_threads;
+      calls_are = h.calls_are;
+      few_calls = h.few_calls;
+    }
     at parts.Push = record {
-          few_arrays = h.few_arrays;
-          words_are = h.words_are;
-          few_words = h.few_words;
-          few_instructions = in_push;
-          push = step_kept c.push s it h.push;
-          pop = h.pop;
-          prologue_is_late = h.prologue_is_late;
-          few_threads = h.few_threads;
-          calls_are = h.calls_are;
-          few_calls = h.few_calls;
-        }
+      few_arrays = h.few_arrays;
+      words_are = h.words_are;
+      few_words = h.few_words;
+      few_instructions = in_push;
+      push = step_kept c.push s it h.push;
+      pop = h.pop;
+      prologue_is_late = h.prologue_is_late;
+      few_threads = h.few_threads;
+      calls_are = h.calls_are;
+      few_calls = h.few_calls;
+    }
     at parts.Between = record {
-          few_arrays = h.few_arrays;
-          words_are = h.words_are;
-          few_words = h.few_words;
-          few_instructions = in_push;
-          push = step_kept c.push s it h.push;
-          pop = h.pop;
-          prologue_is_late = h.prologue_is_late;
-          few_threads = h.few_threads;
-          calls_are = h.calls_are;
-          few_calls = h.few_calls;
-        }
+      few_arrays = h.few_arrays;
+      words_are = h.words_are;
+      few_words = h.few_words;
+      few_instructions = in_push;
+      push = step_kept c.push s it h.push;
+      pop = h.pop;
+      prologue_is_late = h.prologue_is_late;
+      few_threads = h.few_threads;
+      calls_are = h.calls_are;
+      few_calls = h.few_calls;
+    }
     at parts.Prologue = record {
-          few_arrays = h.few_arrays;
-          words_are = h.words_are;
-          few_words = h.few_words;
-          few_instructions = in_push;
-          push = step_kept c.push s it h.push;
-          pop = h.pop;
-          prologue_is_late = h.prologue_is_late;
-          few_threads = h.few_threads;
-          calls_are = h.calls_are;
-          few_calls = h.few_calls;
-        }
+      few_arrays = h.few_arrays;
+      words_are = h.words_are;
+      few_words = h.few_words;
+      few_instructions = in_push;
+      push = step_kept c.push s it h.push;
+      pop = h.pop;
+      prologue_is_late = h.prologue_is_late;
+      few_threads = h.few_threads;
+      calls_are = h.calls_are;
+      few_calls = h.few_calls;
+    }
     at parts.Threads = record {
-          few_arrays = h.few_arrays;
-          words_are = h.words_are;
-          few_words = h.few_words;
-          few_instructions = in_push;
-          push = step_kept c.push s it h.push;
-          pop = h.pop;
-          prologue_is_late = h.prologue_is_late;
-          few_threads = h.few_threads;
-          calls_are = h.calls_are;
-          few_calls = h.few_calls;
-        }
+      few_arrays = h.few_arrays;
+      words_are = h.words_are;
+      few_words = h.few_words;
+      few_instructions = in_push;
+      push = step_kept c.push s it h.push;
+      pop = h.pop;
+      prologue_is_late = h.prologue_is_late;
+      few_threads = h.few_threads;
+      calls_are = h.calls_are;
+      few_calls = h.few_calls;
+    }
 
 before_kept : (c : Content) (n : ℕ) (calls : List CallKind) → IsLimited c → has c (before calls) E03 ≡ false → has c (before calls) E09 ≡ false → IsLimited (after c n (before calls))
 unfolding passes_limit
@@ -356,17 +356,17 @@ before_kept c n calls h place e =
     let none = late (is_threads c.part) (length c.prologue == 0) h.prologue_is_late (early c.part kinds.Before (stands (may_stand c.part kinds.Before) place) (λ x. absurd cc)) in
     let zero_long : length c.prologue ≡ 0 = eqb-true (length c.prologue) 0 none in
     record {
-          few_arrays = h.few_arrays;
-          words_are = h.words_are;
-          few_words = h.few_words;
-          few_instructions = h.few_instructions;
-          push = h.push;
-          pop = h.pop;
-          prologue_is_late = refl;
-          few_threads = h.few_threads;
-          calls_are = omega (arith, h.calls_are, zero_long);
-          few_calls = both_calls (length calls) c.calls e;
-        }
+      few_arrays = h.few_arrays;
+      words_are = h.words_are;
+      few_words = h.few_words;
+      few_instructions = h.few_instructions;
+      push = h.push;
+      pop = h.pop;
+      prologue_is_late = refl;
+      few_threads = h.few_threads;
+      calls_are = omega (arith, h.calls_are, zero_long);
+      few_calls = both_calls (length calls) c.calls e;
+    }
 
 thread_kept : (c : Content) (n : ℕ) (calls : List CallKind) → IsLimited c → has c (thread calls) E09 ≡ false → IsLimited (after c n (thread calls))
 unfolding passes_limit
@@ -374,17 +374,17 @@ thread_kept c n calls h e =
     let a = or_parts (nat_le 4 (length c.threads)) (nat_lt 4 (length calls) || nat_lt 12 (c.calls + length calls)) e in
     let few = below 4 (length c.threads) a.0 in
     record {
-          few_arrays = h.few_arrays;
-          words_are = h.words_are;
-          few_words = h.few_words;
-          few_instructions = h.few_instructions;
-          push = h.push;
-          pop = h.pop;
-          prologue_is_late = refl;
-          few_threads = rw (one_more c.threads calls) (omega (arith, few));
-          calls_are = rw (sum_by-append (λ (calls : List CallKind). length calls) c.threads (calls ∷ []), h.calls_are) (omega arith);
-          few_calls = both_calls (length calls) c.calls a.1;
-        }
+      few_arrays = h.few_arrays;
+      words_are = h.words_are;
+      few_words = h.few_words;
+      few_instructions = h.few_instructions;
+      push = h.push;
+      pop = h.pop;
+      prologue_is_late = refl;
+      few_threads = rw (one_more c.threads calls) (omega (arith, few));
+      calls_are = rw (sum_by-append (λ (calls : List CallKind). length calls) c.threads (calls ∷ []), h.calls_are) (omega arith);
+      few_calls = both_calls (length calls) c.calls a.1;
+    }
 
 -- an instruction in range has a small bound
 small_of : (i : Instruction Name Name) → is_in_range i ≡ true → has_small_bound i ≡ true
@@ -407,66 +407,66 @@ kept_by : (c : Content) (n : ℕ) (l : Line) → IsLimited c → is_proper l ≡
 kept_by c n misshapen h proper clean = h
 kept_by c n (wrong kind slip) h proper clean = h
 kept_by c n (capacity k) h proper clean = record {
-          few_arrays = h.few_arrays;
-          words_are = h.words_are;
-          few_words = h.few_words;
-          few_instructions = h.few_instructions;
-          push = h.push;
-          pop = h.pop;
-          prologue_is_late = moved c parts.Mode kinds.Capacity (stands _ (clean E03)) (λ x. absurd cc) h;
-          few_threads = h.few_threads;
-          calls_are = h.calls_are;
-          few_calls = h.few_calls;
-        }
+  few_arrays = h.few_arrays;
+  words_are = h.words_are;
+  few_words = h.few_words;
+  few_instructions = h.few_instructions;
+  push = h.push;
+  pop = h.pop;
+  prologue_is_late = moved c parts.Mode kinds.Capacity (stands _ (clean E03)) (λ x. absurd cc) h;
+  few_threads = h.few_threads;
+  calls_are = h.calls_are;
+  few_calls = h.few_calls;
+}
 kept_by c n (mode m) h proper clean = record {
-          few_arrays = h.few_arrays;
-          words_are = h.words_are;
-          few_words = h.few_words;
-          few_instructions = h.few_instructions;
-          push = h.push;
-          pop = h.pop;
-          prologue_is_late = moved c parts.Arrays kinds.Mode (stands _ (clean E03)) (λ x. absurd cc) h;
-          few_threads = h.few_threads;
-          calls_are = h.calls_are;
-          few_calls = h.few_calls;
-        }
+  few_arrays = h.few_arrays;
+  words_are = h.words_are;
+  few_words = h.few_words;
+  few_instructions = h.few_instructions;
+  push = h.push;
+  pop = h.pop;
+  prologue_is_late = moved c parts.Arrays kinds.Mode (stands _ (clean E03)) (λ x. absurd cc) h;
+  few_threads = h.few_threads;
+  calls_are = h.calls_are;
+  few_calls = h.few_calls;
+}
 kept_by c n (array name words) h proper clean = array_kept c n name words h (clean E09)
 kept_by c n push h proper clean = record {
-          few_arrays = h.few_arrays;
-          words_are = h.words_are;
-          few_words = h.few_words;
-          few_instructions = h.few_instructions;
-          push = h.push;
-          pop = h.pop;
-          prologue_is_late = moved c parts.Push kinds.Push (stands _ (clean E03)) (λ x. absurd cc) h;
-          few_threads = h.few_threads;
-          calls_are = h.calls_are;
-          few_calls = h.few_calls;
-        }
+  few_arrays = h.few_arrays;
+  words_are = h.words_are;
+  few_words = h.few_words;
+  few_instructions = h.few_instructions;
+  push = h.push;
+  pop = h.pop;
+  prologue_is_late = moved c parts.Push kinds.Push (stands _ (clean E03)) (λ x. absurd cc) h;
+  few_threads = h.few_threads;
+  calls_are = h.calls_are;
+  few_calls = h.few_calls;
+}
 kept_by c n pop h proper clean = record {
-          few_arrays = h.few_arrays;
-          words_are = h.words_are;
-          few_words = h.few_words;
-          few_instructions = h.few_instructions;
-          push = h.push;
-          pop = h.pop;
-          prologue_is_late = moved c parts.Pop kinds.Pop (stands _ (clean E03)) (λ x. absurd cc) h;
-          few_threads = h.few_threads;
-          calls_are = h.calls_are;
-          few_calls = h.few_calls;
-        }
+  few_arrays = h.few_arrays;
+  words_are = h.words_are;
+  few_words = h.few_words;
+  few_instructions = h.few_instructions;
+  push = h.push;
+  pop = h.pop;
+  prologue_is_late = moved c parts.Pop kinds.Pop (stands _ (clean E03)) (λ x. absurd cc) h;
+  few_threads = h.few_threads;
+  calls_are = h.calls_are;
+  few_calls = h.few_calls;
+}
 kept_by c n end h proper clean = record {
-          few_arrays = h.few_arrays;
-          words_are = h.words_are;
-          few_words = h.few_words;
-          few_instructions = h.few_instructions;
-          push = h.push;
-          pop = h.pop;
-          prologue_is_late = moved c _ kinds.End (and_parts _ _ (stands _ (clean E03))).0 (λ x. absurd cc) h;
-          few_threads = h.few_threads;
-          calls_are = h.calls_are;
-          few_calls = h.few_calls;
-        }
+  few_arrays = h.few_arrays;
+  words_are = h.words_are;
+  few_words = h.few_words;
+  few_instructions = h.few_instructions;
+  push = h.push;
+  pop = h.pop;
+  prologue_is_late = moved c _ kinds.End (and_parts _ _ (stands _ (clean E03))).0 (λ x. absurd cc) h;
+  few_threads = h.few_threads;
+  calls_are = h.calls_are;
+  few_calls = h.few_calls;
+}
 kept_by c n (label name) h proper clean = open_label c.part c name h
 kept_by c n (instruction i lacks) h proper clean = instruction_kept c n i lacks h (small_of i proper) (clean E09)
 kept_by c n (before calls) h proper clean = before_kept c n calls h (clean E03) (clean E09)

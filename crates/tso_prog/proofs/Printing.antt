@@ -1,15 +1,13 @@
 -- A line without a fault keeps a program such that it can be written as a text again.
-use Rattle.std.proofs.Common.{◌≡◌, ℕ, zero, suc, ◌+◌, ◌<◌, ◌≤◌, Bool, true, false, cond, not, List, [], ◌∷◌, ◌++◌, length, map, get_or, Option, Some, None, Result, Ok, Err, refl, sym, ap, subst, ◌∙◌, arith}
-use Rattle.std.specs.Prelude.{◌&&◌, ◌||◌, ◌==◌, nat_lt, nat_le, is_some, is_none, unwrap_or, position}
+use Rattle.std.proofs.Common.{◌≡◌, ℕ, zero, suc, ◌+◌, ◌<◌, ◌≤◌, Bool, true, false, cond, not, List, [], ◌∷◌, ◌++◌, length, map, Option, Some, None, Ok, refl, sym, ap, subst, ◌∙◌, arith}
+use Rattle.std.specs.Prelude.{◌||◌, ◌==◌, nat_lt, nat_le, is_some, is_none, unwrap_or, position}
 use Rattle.std.specs.List.{list_all, list_any, prefix_len}
 use Rattle.std.specs.Str.{bytes_eq}
 use Rattle.std.proofs.lemmas.Bool.{and_parts, and_from, or_parts, leb-true, le-leb}
-use Rattle.std.proofs.lemmas.Bool.Decides.{leb_tells}
-use Rattle.std.proofs.lemmas.List.{length-append, map-append}
+use Rattle.std.proofs.lemmas.List.{map-append}
 use Rattle.std.proofs.lemmas.List.Folds.{list_any-append}
 use Rattle.std.proofs.lemmas.List.Quantifiers.{position-Some}
 use Rattle.std.proofs.lemmas.Slice.Eq.{bytes_eq-Decides}
-use Rattle.tso_line.specs.declared.instruction.Address.{Address}
 use Rattle.tso_line.specs.declared.instruction.CallKind.{CallKind}
 use Rattle.tso_line.specs.declared.instruction.Instruction.{Instruction}
 use Rattle.tso_line.specs.declared.instruction.Instruction.TheVariants as instructions
@@ -22,9 +20,8 @@ use Rattle.tso_prog.specs.declared.draft.Part.{Part}
 use Rattle.tso_prog.specs.declared.draft.Part.TheVariants as parts
 use Rattle.tso_prog.specs.declared.fault.Code.{Code}
 use Rattle.tso_prog.specs.declared.fault.Code.TheVariants.{E03, E06, E07, E09}
-use Rattle.tso_prog.specs.declared.fault.Fault.{Fault}
-use Rattle.tso_prog.specs.Limits.{are_distinct, has_array_below, are_arrays_below, are_in_range, is_short_name, are_words, is_prologue, is_thread}
-use Rattle.tso_prog.specs.Contents.{LabelOf, StepOf, BodyOf, Content, opened, open_in}
+use Rattle.tso_prog.specs.Limits.{are_distinct, has_array_below, are_arrays_below, are_in_range, is_short_name, are_words, is_thread}
+use Rattle.tso_prog.specs.Contents.{LabelOf, StepOf, Content, opened, open_in}
 use Rattle.tso_prog.specs.Faults.{may_stand, has, fault_at, lacks_at, array_number, repeats, lacks_array, passes_limit}
 use Rattle.tso_prog.specs.After.{after, after_end, with_label, with_step, with_opened, numbered, step, number_or_0}
 use Rattle.tso_prog.specs.Finish.{labelled_step, labelled}
@@ -34,7 +31,7 @@ use Rattle.tso_prog.proofs.First.{no_fault}
 use Rattle.tso_prog.proofs.Clean.{stands}
 use Rattle.tso_prog.proofs.Keeping.{list_all_weaker, list_all_more, one_more, at_most}
 use Rattle.tso_prog.proofs.Maps.{list_any_map}
-use Rattle.tso_prog.proofs.Placing.{Placed, placed_step, labelled_all}
+use Rattle.tso_prog.proofs.Placing.{placed_step, labelled_all}
 
 -- ---- names
 
@@ -306,167 +303,167 @@ capacity_stays p q b e h = any_part q b (first_open p b e h)
 
 open_label : (p : Part) (c : Content) (name : Name) → IsPrintable c → IsPrintable (with_opened p c (λ b. with_label b name))
 open_label parts.Capacity c name h = record {
-        capacity = h.capacity;
-        arrays = h.arrays;
-        names = h.names;
-        push = h.push;
-        pop = h.pop;
-        begun = h.begun;
-        prologue = h.prologue;
-        threads = h.threads;
-      }
+  capacity = h.capacity;
+  arrays = h.arrays;
+  names = h.names;
+  push = h.push;
+  pop = h.pop;
+  begun = h.begun;
+  prologue = h.prologue;
+  threads = h.threads;
+}
 open_label parts.Mode c name h = record {
-        capacity = h.capacity;
-        arrays = h.arrays;
-        names = h.names;
-        push = h.push;
-        pop = h.pop;
-        begun = h.begun;
-        prologue = h.prologue;
-        threads = h.threads;
-      }
+  capacity = h.capacity;
+  arrays = h.arrays;
+  names = h.names;
+  push = h.push;
+  pop = h.pop;
+  begun = h.begun;
+  prologue = h.prologue;
+  threads = h.threads;
+}
 open_label parts.Arrays c name h = record {
-        capacity = h.capacity;
-        arrays = h.arrays;
-        names = h.names;
-        push = h.push;
-        pop = h.pop;
-        begun = h.begun;
-        prologue = h.prologue;
-        threads = h.threads;
-      }
+  capacity = h.capacity;
+  arrays = h.arrays;
+  names = h.names;
+  push = h.push;
+  pop = h.pop;
+  begun = h.begun;
+  prologue = h.prologue;
+  threads = h.threads;
+}
 open_label parts.Push c name h = record {
-        capacity = h.capacity;
-        arrays = h.arrays;
-        names = h.names;
-        push = h.push;
-        pop = h.pop;
-        begun = h.begun;
-        prologue = h.prologue;
-        threads = h.threads;
-      }
+  capacity = h.capacity;
+  arrays = h.arrays;
+  names = h.names;
+  push = h.push;
+  pop = h.pop;
+  begun = h.begun;
+  prologue = h.prologue;
+  threads = h.threads;
+}
 open_label parts.Between c name h = record {
-        capacity = h.capacity;
-        arrays = h.arrays;
-        names = h.names;
-        push = h.push;
-        pop = h.pop;
-        begun = h.begun;
-        prologue = h.prologue;
-        threads = h.threads;
-      }
+  capacity = h.capacity;
+  arrays = h.arrays;
+  names = h.names;
+  push = h.push;
+  pop = h.pop;
+  begun = h.begun;
+  prologue = h.prologue;
+  threads = h.threads;
+}
 open_label parts.Pop c name h = record {
-        capacity = h.capacity;
-        arrays = h.arrays;
-        names = h.names;
-        push = h.push;
-        pop = h.pop;
-        begun = h.begun;
-        prologue = h.prologue;
-        threads = h.threads;
-      }
+  capacity = h.capacity;
+  arrays = h.arrays;
+  names = h.names;
+  push = h.push;
+  pop = h.pop;
+  begun = h.begun;
+  prologue = h.prologue;
+  threads = h.threads;
+}
 open_label parts.Prologue c name h = record {
-        capacity = h.capacity;
-        arrays = h.arrays;
-        names = h.names;
-        push = h.push;
-        pop = h.pop;
-        begun = h.begun;
-        prologue = h.prologue;
-        threads = h.threads;
-      }
+  capacity = h.capacity;
+  arrays = h.arrays;
+  names = h.names;
+  push = h.push;
+  pop = h.pop;
+  begun = h.begun;
+  prologue = h.prologue;
+  threads = h.threads;
+}
 open_label parts.Threads c name h = record {
-        capacity = h.capacity;
-        arrays = h.arrays;
-        names = h.names;
-        push = h.push;
-        pop = h.pop;
-        begun = h.begun;
-        prologue = h.prologue;
-        threads = h.threads;
-      }
+  capacity = h.capacity;
+  arrays = h.arrays;
+  names = h.names;
+  push = h.push;
+  pop = h.pop;
+  begun = h.begun;
+  prologue = h.prologue;
+  threads = h.threads;
+}
 
 open_step : (p : Part) (c : Content) (s : StepOf) → is_step (length c.arrays) s ≡ true → IsPrintable c → IsPrintable (with_opened p c (λ b. with_step b s))
 open_step parts.Capacity c s e h = record {
-        capacity = h.capacity;
-        arrays = h.arrays;
-        names = h.names;
-        push = list_all_more (is_step (length c.arrays)) c.push.steps s h.push e;
-        pop = h.pop;
-        begun = begun_more c.part (length c.push.steps) (length c.pop.steps) (length (c.push.steps ++ s ∷ [])) (length c.pop.steps) (omega (arith, one_more c.push.steps s)) (omega arith) h.begun;
-        prologue = h.prologue;
-        threads = h.threads;
-      }
+  capacity = h.capacity;
+  arrays = h.arrays;
+  names = h.names;
+  push = list_all_more (is_step (length c.arrays)) c.push.steps s h.push e;
+  pop = h.pop;
+  begun = begun_more c.part (length c.push.steps) (length c.pop.steps) (length (c.push.steps ++ s ∷ [])) (length c.pop.steps) (omega (arith, one_more c.push.steps s)) (omega arith) h.begun;
+  prologue = h.prologue;
+  threads = h.threads;
+}
 open_step parts.Mode c s e h = record {
-        capacity = h.capacity;
-        arrays = h.arrays;
-        names = h.names;
-        push = list_all_more (is_step (length c.arrays)) c.push.steps s h.push e;
-        pop = h.pop;
-        begun = begun_more c.part (length c.push.steps) (length c.pop.steps) (length (c.push.steps ++ s ∷ [])) (length c.pop.steps) (omega (arith, one_more c.push.steps s)) (omega arith) h.begun;
-        prologue = h.prologue;
-        threads = h.threads;
-      }
+  capacity = h.capacity;
+  arrays = h.arrays;
+  names = h.names;
+  push = list_all_more (is_step (length c.arrays)) c.push.steps s h.push e;
+  pop = h.pop;
+  begun = begun_more c.part (length c.push.steps) (length c.pop.steps) (length (c.push.steps ++ s ∷ [])) (length c.pop.steps) (omega (arith, one_more c.push.steps s)) (omega arith) h.begun;
+  prologue = h.prologue;
+  threads = h.threads;
+}
 open_step parts.Arrays c s e h = record {
-        capacity = h.capacity;
-        arrays = h.arrays;
-        names = h.names;
-        push = list_all_more (is_step (length c.arrays)) c.push.steps s h.push e;
-        pop = h.pop;
-        begun = begun_more c.part (length c.push.steps) (length c.pop.steps) (length (c.push.steps ++ s ∷ [])) (length c.pop.steps) (omega (arith, one_more c.push.steps s)) (omega arith) h.begun;
-        prologue = h.prologue;
-        threads = h.threads;
-      }
+  capacity = h.capacity;
+  arrays = h.arrays;
+  names = h.names;
+  push = list_all_more (is_step (length c.arrays)) c.push.steps s h.push e;
+  pop = h.pop;
+  begun = begun_more c.part (length c.push.steps) (length c.pop.steps) (length (c.push.steps ++ s ∷ [])) (length c.pop.steps) (omega (arith, one_more c.push.steps s)) (omega arith) h.begun;
+  prologue = h.prologue;
+  threads = h.threads;
+}
 open_step parts.Push c s e h = record {
-        capacity = h.capacity;
-        arrays = h.arrays;
-        names = h.names;
-        push = list_all_more (is_step (length c.arrays)) c.push.steps s h.push e;
-        pop = h.pop;
-        begun = begun_more c.part (length c.push.steps) (length c.pop.steps) (length (c.push.steps ++ s ∷ [])) (length c.pop.steps) (omega (arith, one_more c.push.steps s)) (omega arith) h.begun;
-        prologue = h.prologue;
-        threads = h.threads;
-      }
+  capacity = h.capacity;
+  arrays = h.arrays;
+  names = h.names;
+  push = list_all_more (is_step (length c.arrays)) c.push.steps s h.push e;
+  pop = h.pop;
+  begun = begun_more c.part (length c.push.steps) (length c.pop.steps) (length (c.push.steps ++ s ∷ [])) (length c.pop.steps) (omega (arith, one_more c.push.steps s)) (omega arith) h.begun;
+  prologue = h.prologue;
+  threads = h.threads;
+}
 open_step parts.Between c s e h = record {
-        capacity = h.capacity;
-        arrays = h.arrays;
-        names = h.names;
-        push = list_all_more (is_step (length c.arrays)) c.push.steps s h.push e;
-        pop = h.pop;
-        begun = begun_more c.part (length c.push.steps) (length c.pop.steps) (length (c.push.steps ++ s ∷ [])) (length c.pop.steps) (omega (arith, one_more c.push.steps s)) (omega arith) h.begun;
-        prologue = h.prologue;
-        threads = h.threads;
-      }
+  capacity = h.capacity;
+  arrays = h.arrays;
+  names = h.names;
+  push = list_all_more (is_step (length c.arrays)) c.push.steps s h.push e;
+  pop = h.pop;
+  begun = begun_more c.part (length c.push.steps) (length c.pop.steps) (length (c.push.steps ++ s ∷ [])) (length c.pop.steps) (omega (arith, one_more c.push.steps s)) (omega arith) h.begun;
+  prologue = h.prologue;
+  threads = h.threads;
+}
 open_step parts.Pop c s e h = record {
-        capacity = h.capacity;
-        arrays = h.arrays;
-        names = h.names;
-        push = h.push;
-        pop = list_all_more (is_step (length c.arrays)) c.pop.steps s h.pop e;
-        begun = begun_more c.part (length c.push.steps) (length c.pop.steps) (length c.push.steps) (length (c.pop.steps ++ s ∷ [])) (omega arith) (omega (arith, one_more c.pop.steps s)) h.begun;
-        prologue = h.prologue;
-        threads = h.threads;
-      }
+  capacity = h.capacity;
+  arrays = h.arrays;
+  names = h.names;
+  push = h.push;
+  pop = list_all_more (is_step (length c.arrays)) c.pop.steps s h.pop e;
+  begun = begun_more c.part (length c.push.steps) (length c.pop.steps) (length c.push.steps) (length (c.pop.steps ++ s ∷ [])) (omega arith) (omega (arith, one_more c.pop.steps s)) h.begun;
+  prologue = h.prologue;
+  threads = h.threads;
+}
 open_step parts.Prologue c s e h = record {
-        capacity = h.capacity;
-        arrays = h.arrays;
-        names = h.names;
-        push = list_all_more (is_step (length c.arrays)) c.push.steps s h.push e;
-        pop = h.pop;
-        begun = begun_more c.part (length c.push.steps) (length c.pop.steps) (length (c.push.steps ++ s ∷ [])) (length c.pop.steps) (omega (arith, one_more c.push.steps s)) (omega arith) h.begun;
-        prologue = h.prologue;
-        threads = h.threads;
-      }
+  capacity = h.capacity;
+  arrays = h.arrays;
+  names = h.names;
+  push = list_all_more (is_step (length c.arrays)) c.push.steps s h.push e;
+  pop = h.pop;
+  begun = begun_more c.part (length c.push.steps) (length c.pop.steps) (length (c.push.steps ++ s ∷ [])) (length c.pop.steps) (omega (arith, one_more c.push.steps s)) (omega arith) h.begun;
+  prologue = h.prologue;
+  threads = h.threads;
+}
 open_step parts.Threads c s e h = record {
-        capacity = h.capacity;
-        arrays = h.arrays;
-        names = h.names;
-        push = list_all_more (is_step (length c.arrays)) c.push.steps s h.push e;
-        pop = h.pop;
-        begun = begun_more c.part (length c.push.steps) (length c.pop.steps) (length (c.push.steps ++ s ∷ [])) (length c.pop.steps) (omega (arith, one_more c.push.steps s)) (omega arith) h.begun;
-        prologue = h.prologue;
-        threads = h.threads;
-      }
+  capacity = h.capacity;
+  arrays = h.arrays;
+  names = h.names;
+  push = list_all_more (is_step (length c.arrays)) c.push.steps s h.push e;
+  pop = h.pop;
+  begun = begun_more c.part (length c.push.steps) (length c.pop.steps) (length (c.push.steps ++ s ∷ [])) (length c.pop.steps) (omega (arith, one_more c.push.steps s)) (omega arith) h.begun;
+  prologue = h.prologue;
+  threads = h.threads;
+}
 
 array_kept : (c : Content) (n : ℕ) (name words : List ℕ) → IsPrintable c → is_proper (array name words) ≡ true → has c (array name words) E06 ≡ false → has c (array name words) E09 ≡ false → IsPrintable (after c n (array name words))
 unfolding repeats passes_limit
@@ -479,15 +476,15 @@ array_kept c n name words h proper twice limit =
     let steps : (ss : List StepOf) → list_all (is_step (length c.arrays)) ss ≡ true → list_all (is_step (length (c.arrays ++ it ∷ []))) ss ≡ true = λ ss e. subst (λ (k : ℕ). list_all (is_step k) ss ≡ true) (sym more) (list_all_weaker (is_step (length c.arrays)) (is_step (length c.arrays + 1)) (step_more (length c.arrays)) ss e) in
     let fresh : list_any (λ y. bytes_eq y name) (map (λ (a : Array). a.name) c.arrays) ≡ false = list_any_map (λ y. bytes_eq y name) (λ (a : Array). a.name) c.arrays ∙ nowhere (λ (a : Array). bytes_eq a.name name) c.arrays twice in
     record {
-        capacity = h.capacity;
-        arrays = list_all_more is_array c.arrays it h.arrays (and_from (is_short_name name) (are_words words) (and_from (is_name name) (nat_le (length name) 32) b.0 short) b.1);
-        names = ap are_distinct (map-append (λ (a : Array). a.name) c.arrays (it ∷ [])) ∙ more_distinct (map (λ (a : Array). a.name) c.arrays) name h.names fresh;
-        push = steps c.push.steps h.push;
-        pop = steps c.pop.steps h.pop;
-        begun = h.begun;
-        prologue = h.prologue;
-        threads = h.threads;
-      }
+      capacity = h.capacity;
+      arrays = list_all_more is_array c.arrays it h.arrays (and_from (is_short_name name) (are_words words) (and_from (is_name name) (nat_le (length name) 32) b.0 short) b.1);
+      names = ap are_distinct (map-append (λ (a : Array). a.name) c.arrays (it ∷ [])) ∙ more_distinct (map (λ (a : Array). a.name) c.arrays) name h.names fresh;
+      push = steps c.push.steps h.push;
+      pop = steps c.pop.steps h.pop;
+      begun = h.begun;
+      prologue = h.prologue;
+      threads = h.threads;
+    }
 
 few_calls : (c : Content) (k : ℕ) → (nat_lt 4 k || nat_lt 12 (c.calls + k)) ≡ false → nat_le k 4 ≡ true
 few_calls c k e = le-leb k 4 (at_most 4 k (or_parts (nat_lt 4 k) (nat_lt 12 (c.calls + k)) e).0)
@@ -497,15 +494,15 @@ unfolding passes_limit
 before_kept c n calls h proper place limit =
     let may = stands (may_stand c.part kinds.Before) place in
     record {
-        capacity = first_open c.part _ (not_first_before c.part may) h.capacity;
-        arrays = h.arrays;
-        names = h.names;
-        push = h.push;
-        pop = h.pop;
-        begun = begun_before c.part _ _ may h.begun;
-        prologue = and_from (nat_le (length calls) 4) (list_all is_call calls) (few_calls c (length calls) limit) (and_parts (nat_le 1 (length calls)) (list_all is_call calls) proper).1;
-        threads = h.threads;
-      }
+      capacity = first_open c.part _ (not_first_before c.part may) h.capacity;
+      arrays = h.arrays;
+      names = h.names;
+      push = h.push;
+      pop = h.pop;
+      begun = begun_before c.part _ _ may h.begun;
+      prologue = and_from (nat_le (length calls) 4) (list_all is_call calls) (few_calls c (length calls) limit) (and_parts (nat_le 1 (length calls)) (list_all is_call calls) proper).1;
+      threads = h.threads;
+    }
 
 thread_kept : (c : Content) (n : ℕ) (calls : List CallKind) → IsPrintable c → are_calls calls ≡ true → has c (thread calls) E03 ≡ false → has c (thread calls) E09 ≡ false → IsPrintable (after c n (thread calls))
 unfolding passes_limit
@@ -513,29 +510,29 @@ thread_kept c n calls h proper place limit =
     let may = stands (may_stand c.part kinds.Thread) place in
     let a = or_parts (nat_le 4 (length c.threads)) (nat_lt 4 (length calls) || nat_lt 12 (c.calls + length calls)) limit in
     record {
-        capacity = first_open c.part _ (not_first_thread c.part may) h.capacity;
-        arrays = h.arrays;
-        names = h.names;
-        push = h.push;
-        pop = h.pop;
-        begun = begun_thread c.part _ _ may h.begun;
-        prologue = h.prologue;
-        threads = list_all_more is_thread c.threads calls h.threads (and_from (are_calls calls) (nat_le (length calls) 4) proper (few_calls c (length calls) a.1));
-      }
+      capacity = first_open c.part _ (not_first_thread c.part may) h.capacity;
+      arrays = h.arrays;
+      names = h.names;
+      push = h.push;
+      pop = h.pop;
+      begun = begun_thread c.part _ _ may h.begun;
+      prologue = h.prologue;
+      threads = list_all_more is_thread c.threads calls h.threads (and_from (are_calls calls) (nat_le (length calls) 4) proper (few_calls c (length calls) a.1));
+    }
 
 end_kept : (c : Content) (n : ℕ) → IsPrintable c → has c end E03 ≡ false → IsPrintable (after c n end)
 end_kept c n h place =
     let a = and_parts (may_stand c.part kinds.End) (nat_lt 0 (length (opened c).steps)) (stands _ place) in
     record {
-        capacity = capacity_stays c.part (after_end c.part) _ (not_first_end c.part a.0) h.capacity;
-        arrays = h.arrays;
-        names = h.names;
-        push = h.push;
-        pop = h.pop;
-        begun = begun_end c.part c a.0 (leb-true 1 (length (opened c).steps) a.1) h.begun;
-        prologue = h.prologue;
-        threads = h.threads;
-      }
+      capacity = capacity_stays c.part (after_end c.part) _ (not_first_end c.part a.0) h.capacity;
+      arrays = h.arrays;
+      names = h.names;
+      push = h.push;
+      pop = h.pop;
+      begun = begun_end c.part c a.0 (leb-true 1 (length (opened c).steps) a.1) h.begun;
+      prologue = h.prologue;
+      threads = h.threads;
+    }
 
 instruction_kept : (c : Content) (n : ℕ) (i : Instruction Name Name) (lacks : Bool) → IsPrintable c → is_in_range i ≡ true → has c (instruction i lacks) E07 ≡ false → IsPrintable (after c n (instruction i lacks))
 unfolding lacks_array
@@ -546,46 +543,46 @@ kept_by : (c : Content) (n : ℕ) (l : Line) → IsPrintable c → is_proper l �
 kept_by c n misshapen h proper clean = h
 kept_by c n (wrong kind slip) h proper clean = h
 kept_by c n (capacity k) h proper clean = record {
-        capacity = proper;
-        arrays = h.arrays;
-        names = h.names;
-        push = h.push;
-        pop = h.pop;
-        begun = tt;
-        prologue = h.prologue;
-        threads = h.threads;
-      }
+  capacity = proper;
+  arrays = h.arrays;
+  names = h.names;
+  push = h.push;
+  pop = h.pop;
+  begun = tt;
+  prologue = h.prologue;
+  threads = h.threads;
+}
 kept_by c n (mode m) h proper clean = record {
-        capacity = first_open c.part _ (not_first_mode c.part (stands _ (clean E03))) h.capacity;
-        arrays = h.arrays;
-        names = h.names;
-        push = h.push;
-        pop = h.pop;
-        begun = tt;
-        prologue = h.prologue;
-        threads = h.threads;
-      }
+  capacity = first_open c.part _ (not_first_mode c.part (stands _ (clean E03))) h.capacity;
+  arrays = h.arrays;
+  names = h.names;
+  push = h.push;
+  pop = h.pop;
+  begun = tt;
+  prologue = h.prologue;
+  threads = h.threads;
+}
 kept_by c n (array name words) h proper clean = array_kept c n name words h proper (clean E06) (clean E09)
 kept_by c n push h proper clean = record {
-        capacity = first_open c.part _ (not_first_push c.part (stands _ (clean E03))) h.capacity;
-        arrays = h.arrays;
-        names = h.names;
-        push = h.push;
-        pop = h.pop;
-        begun = tt;
-        prologue = h.prologue;
-        threads = h.threads;
-      }
+  capacity = first_open c.part _ (not_first_push c.part (stands _ (clean E03))) h.capacity;
+  arrays = h.arrays;
+  names = h.names;
+  push = h.push;
+  pop = h.pop;
+  begun = tt;
+  prologue = h.prologue;
+  threads = h.threads;
+}
 kept_by c n pop h proper clean = record {
-        capacity = first_open c.part _ (not_first_pop c.part (stands _ (clean E03))) h.capacity;
-        arrays = h.arrays;
-        names = h.names;
-        push = h.push;
-        pop = h.pop;
-        begun = begun_pop c.part _ _ (stands _ (clean E03)) h.begun;
-        prologue = h.prologue;
-        threads = h.threads;
-      }
+  capacity = first_open c.part _ (not_first_pop c.part (stands _ (clean E03))) h.capacity;
+  arrays = h.arrays;
+  names = h.names;
+  push = h.push;
+  pop = h.pop;
+  begun = begun_pop c.part _ _ (stands _ (clean E03)) h.begun;
+  prologue = h.prologue;
+  threads = h.threads;
+}
 kept_by c n end h proper clean = end_kept c n h (clean E03)
 kept_by c n (label name) h proper clean = open_label c.part c name h
 kept_by c n (instruction i lacks) h proper clean = instruction_kept c n i lacks h proper (clean E07)

@@ -1,13 +1,13 @@
 -- The first fault of a text is the one that its reading meets.
-use Rattle.std.proofs.Common.{◌≡◌, ℕ, suc, ◌<◌, ◌≤◌, Bool, true, false, cond, List, [], ◌∷◌, ◌++◌, length, Option, Some, None, Result, Ok, Err, refl, sym, ap, subst, ◌∙◌, arith}
-use Rattle.std.specs.Prelude.{◌&&◌, nat_lt}
+use Rattle.std.proofs.Common.{◌≡◌, ℕ, ◌<◌, ◌≤◌, Bool, true, false, cond, List, [], ◌∷◌, ◌++◌, length, Option, Some, None, Result, Ok, Err, refl, sym, ap, subst, ◌∙◌, arith}
+use Rattle.std.specs.Prelude.{nat_lt}
 use Rattle.std.specs.List.{AllByRecursion}
 use Rattle.std.proofs.lemmas.Bool.Decides.{leb_tells}
 use Rattle.tso_text.specs.Lexing.{first_bad_line, tokens_of}
 use Rattle.tso_line.specs.declared.instruction.Instruction.{Instruction}
-use Rattle.tso_line.specs.Instructions.{renamed, label_of}
+use Rattle.tso_line.specs.Instructions.{label_of}
 use Rattle.tso_line.specs.Lines.{Name}
-use Rattle.tso_prog.specs.declared.fault.Code.TheVariants.{E01, E02, E07, E08}
+use Rattle.tso_prog.specs.declared.fault.Code.TheVariants.{E01, E07, E08}
 use Rattle.tso_prog.specs.declared.fault.Fault.{Fault}
 use Rattle.tso_prog.specs.declared.fault.ReadError.{ReadError}
 use Rattle.tso_prog.specs.declared.fault.ReadError.TheVariants.{Refused, Memory}
@@ -15,11 +15,11 @@ use Rattle.tso_prog.specs.Clients.{ClientOf}
 use Rattle.tso_prog.specs.Contents.{LabelOf, StepOf, BodyOf, Content}
 use Rattle.tso_prog.specs.Start.{start}
 use Rattle.tso_prog.specs.Program.{Gives, ◌>>=◌, fault, Numbered, lines_of, read_from, content_of, IsClean, IsFirstFault, IsRefused}
-use Rattle.tso_prog.specs.Finish.{label_place, jump_to, placed, labelled_step, labelled, labelled_body, finished, is_threads}
+use Rattle.tso_prog.specs.Finish.{label_place, jump_to, placed, labelled_step, labelled, labelled_body, finished}
 use Rattle.tso_prog.specs.Text.{program_of, bytes_or_lines}
 use Rattle.tso_prog.specs.Refusals.{is_whole, Loses, IsLost, LosesFirst, LosesNone, FirstOf, too_long, bad_byte, in_line, ends_early, lost_in_push, lost_in_pop, AnswersFirst}
 use Rattle.tso_prog.proofs.First.{Meets, read_meets}
-use Rattle.tso_prog.proofs.Only.{refused_first, one_first}
+use Rattle.tso_prog.proofs.Only.{one_first}
 
 -- ---- labels
 
@@ -88,14 +88,14 @@ module _ (text : List ℕ) (short : length text ≤ 65536) (good : first_bad_lin
   from_end clean = by (is_whole whole) refl
     where
       by : (b : Bool) → is_whole whole ≡ b → Answers text (cond b (labelled_body whole.push >>= λ push. labelled_body whole.pop >>= λ pop. Ok (record {
-            capacity = whole.capacity;
-            mode = whole.mode;
-            arrays = whole.arrays;
-            push = push;
-            pop = pop;
-            prologue = whole.prologue;
-            threads = whole.threads;
-          })) (Err (fault E08 0)))
+        capacity = whole.capacity;
+        mode = whole.mode;
+        arrays = whole.arrays;
+        push = push;
+        pop = pop;
+        prologue = whole.prologue;
+        threads = whole.threads;
+      })) (Err (fault E08 0)))
       by true w = from_labels clean w (labelled_body whole.push) (labelled_body whole.pop) (λ xs ys. record { capacity = whole.capacity; mode = whole.mode; arrays = whole.arrays; push = xs; pop = ys; prologue = whole.prologue; threads = whole.threads }) (ends whole.push.labels whole.push.steps) (ends whole.pop.labels whole.pop.steps)
       by false w = ends_early short good clean w refl
 

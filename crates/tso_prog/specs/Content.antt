@@ -1,5 +1,5 @@
 -- A program as far as its lines were read, without where it lies in memory.
-use Rattle.std.specs.Prelude.{ℕ, List, map}
+use Rattle.std.specs.Prelude.{map}
 use Rattle.tso_line.specs.Instructions.{renamed}
 use Rattle.tso_prog.specs.declared.client.Array.{Array}
 use Rattle.tso_prog.specs.declared.draft.Declared.{Declared}

@@ -182,16 +182,16 @@ impl<'a> Draft<'a> {
         }
     }
 
-    #[tactic(auto, using(crate::proofs::Maps::position_map))]
     // The number of the array of this name.
+    #[tactic(auto, using(crate::proofs::Maps::position_map))]
     fn array_number(&self, name: &[u8]) -> Option<usize>
         ensures { result ≡ array_number (content self.now) name.now }
     {
         find_array(&self.arrays, name)
     }
 
-    #[tactic(auto, using(crate::proofs::Maps::list_any_map), unfolding(crate::specs::Faults::repeats))]
     // Whether the line gives a name for the second time.
+    #[tactic(auto, using(crate::proofs::Maps::list_any_map), unfolding(crate::specs::Faults::repeats))]
     fn repeats(&self, line: &Line) -> bool
         ensures { result ≡ repeats (content self.now) (view line.now) }
     {
@@ -202,8 +202,8 @@ impl<'a> Draft<'a> {
         }
     }
 
-    #[tactic(auto, unfolding(crate::specs::Faults::lacks_array))]
     // Whether the line names an array that is not there.
+    #[tactic(auto, unfolding(crate::specs::Faults::lacks_array))]
     fn lacks_array(&self, line: &Line) -> bool
         ensures { result ≡ lacks_array (content self.now) (view line.now) }
     {
@@ -223,8 +223,8 @@ impl<'a> Draft<'a> {
         count > MAX_CALLS_OF_LINE || count > MAX_CALLS - self.call_count
     }
 
-    #[tactic(auto, unfolding(crate::specs::Faults::passes_limit))]
     // Whether the line passes a limit.
+    #[tactic(auto, unfolding(crate::specs::Faults::passes_limit))]
     fn passes_limit(&self, line: &Line) -> bool
         ensures { result ≡ passes_limit (content self.now) (view line.now) }
     {
@@ -237,7 +237,9 @@ impl<'a> Draft<'a> {
             Line::Label(name) => name.len() > MAX_NAME,
             Line::Instruction { instruction, .. } => {
                 self.push.steps.len() + self.pop.steps.len() >= MAX_INSTRUCTIONS
-                    || instruction.label().is_some_and(|name| name.len() > MAX_NAME)
+                    || instruction
+                        .label()
+                        .is_some_and(|name| name.len() > MAX_NAME)
             }
             Line::Before(calls) => self.passes_calls(calls.len()),
             Line::Thread(calls) => {
@@ -247,8 +249,8 @@ impl<'a> Draft<'a> {
         }
     }
 
-    #[tactic(auto, unfolding(crate::specs::Faults::fault_at))]
     /// The lowest code of what is wrong with the line here.
+    #[tactic(auto, unfolding(crate::specs::Faults::fault_at))]
     pub fn fault(&self, line: &Line) -> Option<Code>
         ensures { result ≡ fault_at (content self.now) (view line.now) }
     {

@@ -56,8 +56,8 @@ fn lexemes_of(alloc: Global, source: &[u8], tokens: &[Token]) -> Result<Vec<Lexe
     Ok(lexemes)
 }
 
-#[tactic(auto, unfolding(crate::specs::Program::read_from))]
 // Adds the line of these tokens, if there are any.
+#[tactic(auto, unfolding(crate::specs::Program::read_from))]
 fn add_line<'a>(
     alloc: Global,
     draft: &mut Draft<'a>,

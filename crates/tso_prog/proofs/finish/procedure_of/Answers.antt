@@ -1,4 +1,4 @@
-use Rattle.std.proofs.Common.{arith, refl, sym, ap, ◌∙◌, map, List, ◌≡◌, Ok}
+use Rattle.std.proofs.Common.{arith, refl, map, ◌≡◌, Ok}
 use Rattle.tso_prog.specs.declared.draft.Unplaced.{Unplaced}
 use Rattle.tso_prog.specs.Content.{label_view, step_view}
 use Rattle.tso_prog.specs.Finish.{labelled}

@@ -1,10 +1,9 @@
-use Rattle.std.proofs.Common.{◌≡◌, ℕ, ◌≤◌, Bool, true, false, List, length, map, Ok, refl, sym, ap, subst, ◌∙◌, arith}
-use Rattle.std.specs.Prelude.{◌&&◌, nat_le, sum_by}
+use Rattle.std.proofs.Common.{◌≡◌, ◌≤◌, true, false, List, length, map, sym, ap, subst, ◌∙◌, arith}
+use Rattle.std.specs.Prelude.{nat_le, sum_by}
 use Rattle.std.specs.List.{list_all}
 use Rattle.std.proofs.lemmas.Bool.{and_parts, leb-true}
 use Rattle.tso_line.specs.declared.instruction.CallKind.{CallKind}
 use Rattle.tso_prog.specs.declared.client.Array.{Array}
-use Rattle.tso_prog.specs.declared.draft.Part.TheVariants as parts
 use Rattle.tso_prog.specs.Limits.{is_short_name, are_words, are_distinct, are_arrays_below}
 use Rattle.tso_prog.specs.Contents.{Content}
 use Rattle.tso_prog.specs.Content.{content, array_view}
