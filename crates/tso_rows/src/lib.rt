@@ -1,0 +1,7 @@
+//! Worked examples that cross crates: whole program texts through the reader, the flow check and the machine.
+#![tactic(auto)]
+
+#[cfg(test)]
+mod limits;
+#[cfg(test)]
+mod refusals;

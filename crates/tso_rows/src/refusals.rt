@@ -1,0 +1,84 @@
+//! Programs that the flow check refuses.
+
+use std::alloc::Global;
+use std::test::Fail;
+use tso_flow::FlowError;
+use tso_prog::Code;
+
+// The first two lines; push begins on line 3, so that its first instruction stands on line 4.
+const HEAD: &str = ".capacity 1\n.mode weak\n.push\n";
+
+const POP: &str = ".end\n.pop\n mov rdx, 0\n mov rax, 0\n ret\n.end\n.thread push 7\n.thread pop\n";
+
+// The refusal of the flow check for a push of these lines, none where there is none or where the reader refuses the text.
+fn refusal(alloc: Global, push: &str) -> Result<Option<(Code, u32)>, Fail> {
+    let mut text = String::from_str(alloc, HEAD)?;
+    text.push_str(push)?;
+    text.push_str(POP)?;
+    let client = tso_prog::read(alloc, text.as_str().as_bytes())?;
+    match tso_flow::check(alloc, client) {
+        Err(FlowError::Refused(fault)) => Ok(Some((fault.code, fault.line))),
+        _ => Ok(None),
+    }
+}
+
+#[test]
+fn the_first_flow_fault_is_refused(rt: HostRuntime) -> Result<(), Fail> {
+    let alloc = rt.alloc();
+    let rows = [
+        (" mov rax, 0\n ret\n", None),
+        (" mov rax, 0\n", Some((Code::E11, 4))),
+        (" mov rax, 0\n jmp out\nout:\n", Some((Code::E11, 5))),
+        (" mov rax, 0\n ret\n nop\n", None),
+        (
+            " mov rax, 0\n ret\nagain:\n jmp again\n",
+            Some((Code::E12, 7)),
+        ),
+        (" mov rax, 0\n ret\nagain:\n jmp again bound 0\n", None),
+        (
+            " mov rax, 0\n ret\n jmp out bound 1\nout:\n ret\n",
+            Some((Code::E13, 6)),
+        ),
+        (" mov rax, 0\n ret\n mov rax, rbx\n ret\n", None),
+        (" mov rax, 0\nagain:\n nop\n jmp again bound 0\n", None),
+        (" xor rax, rax\n ret\n", Some((Code::E14, 4))),
+        (
+            " mov rbx, 0\n inc rbx\n jb out\nout:\n mov rax, 0\n ret\n",
+            Some((Code::E14, 6)),
+        ),
+        (
+            " mov rbx, 0\n inc rbx\n je out\nout:\n mov rax, 0\n ret\n",
+            None,
+        ),
+        (
+            " mov rbx, 0\n inc rbx\n jbe out\nout:\n mov rax, 0\n ret\n",
+            Some((Code::E14, 6)),
+        ),
+        (
+            " mov rax, 0\n cmp rax, rdi\n je out\n mov rbx, 0\nout:\n mov rax, rbx\n ret\n",
+            Some((Code::E14, 9)),
+        ),
+        (
+            " mov rax, 0\nagain:\n cmp rbx, 1\n mov rbx, 0\n jne again bound 3\n ret\n",
+            Some((Code::E14, 6)),
+        ),
+        (
+            " mov rbx, 0\nagain:\n cmp rbx, 1\n mov rbx, 0\n jne again bound 3\n mov rax, 0\n ret\n",
+            None,
+        ),
+        (" mov rax, rdi\n ret\n", None),
+        (
+            " mov rax, rsi\n jmp out bound 2\nout:\n ret\n",
+            Some((Code::E14, 4)),
+        ),
+        (
+            " mov rax, rdi\n jmp out bound 2\nout:\n mov rax, rsi\n",
+            Some((Code::E13, 5)),
+        ),
+        ("again:\n jmp again\n", Some((Code::E12, 5))),
+    ];
+    for (push, want) in rows {
+        assert_eq!(rt; refusal(alloc, push)?, want, "{push}");
+    }
+    Ok(())
+}
