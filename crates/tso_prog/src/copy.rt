@@ -40,7 +40,10 @@ fn copied_arrays(alloc: Global, arrays: &[Array]) -> Result<Seq<Array>, AllocErr
     Ok(Seq::from_vec(copy))
 }
 
-fn copied_threads(alloc: Global, threads: &[Seq<CallKind>]) -> Result<Seq<Seq<CallKind>>, AllocError>
+fn copied_threads(
+    alloc: Global,
+    threads: &[Seq<CallKind>],
+) -> Result<Seq<Seq<CallKind>>, AllocError>
     ensures { IfOk result (λ copy. copy ≡ threads.now) }
 {
     let mut copy = Vec::new(alloc);

@@ -5,3 +5,5 @@
 mod limits;
 #[cfg(test)]
 mod refusals;
+#[cfg(test)]
+mod texts;

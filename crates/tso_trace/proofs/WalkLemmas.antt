@@ -56,15 +56,15 @@ module _ (c : Client) (labels : List Label) (us : List Undo) (m : Machine) (at :
   pub at_more : (u : Undo) (l : Label) (next : Machine) → slice_get labels (length us) ≡ Some l → Undoes u next m
       → Step (program_of c) (machine_of m) (label_of l) (machine_of next) → IsAt c labels (us ++ u ∷ []) next
   at_more u l next found back step =
-    let there : length us < length labels = got_within labels (length us) l found in
-    let same : get_or labels (length us) l ≡ l = got_is labels (length us) l found in
-    let R : Label → Type 0 = λ k. Step (program_of c) (machine_of m) (label_of k) (machine_of next) in
-    record {
-    first = at.first;
-    begins = at.begins;
-    within = rw (length_push us u) (omega arith);
-    walk = rw (length_push us u, take_more labels (length us) l there) (walk_more (program_of c) at.first us (take (length us) labels) m u (get_or labels (length us) l) next at.walk back (subst R (sym same) step));
-  }
+      let there : length us < length labels = got_within labels (length us) l found in
+      let same : get_or labels (length us) l ≡ l = got_is labels (length us) l found in
+      let R : Label → Type 0 = λ k. Step (program_of c) (machine_of m) (label_of k) (machine_of next) in
+      record {
+        first = at.first;
+        begins = at.begins;
+        within = rw (length_push us u) (omega arith);
+        walk = rw (length_push us u, take_more labels (length us) l there) (walk_more (program_of c) at.first us (take (length us) labels) m u (get_or labels (length us) l) next at.walk back (subst R (sym same) step));
+      }
 
 -- the machine before the last step, and where it stands
 pub record Back (c : Client) (labels : List Label) (us : List Undo) (u : Undo) (m : Machine) : Type 0 where

@@ -1,10 +1,10 @@
 //! Why a trace is refused.
 
-use std::alloc::{AllocError, AllocFailed};
-use thiserror::Error;
-
 ghost use Rattle.std.specs.Prelude.{◌≡◌};
 ghost use Rattle.tso_trace.specs.declared.fault.TraceFault.TheVariants.{Memory};
+
+use std::alloc::{AllocError, AllocFailed};
+use thiserror::Error;
 
 /// Why a list of labels, or a text, is no trace of an error.
 #[derive(Debug, PartialEq, Eq, Drop, Error)]

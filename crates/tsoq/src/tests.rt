@@ -154,7 +154,12 @@ struct Outcome {
     err: Vec<u8>,
 }
 
-fn outcome_of(alloc: Global, words: &[&str], program: &[u8], trace: &[u8]) -> Result<Outcome, Fail> {
+fn outcome_of(
+    alloc: Global,
+    words: &[&str],
+    program: &[u8],
+    trace: &[u8],
+) -> Result<Outcome, Fail> {
     let mut owned = Vec::new(alloc);
     owned.push(String::from_str(alloc, "tsoq")?)?;
     for word in words {
