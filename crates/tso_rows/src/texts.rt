@@ -57,7 +57,7 @@ fn long_texts_and_bad_bytes_come_first(rt: HostRuntime) -> Result<(), Fail> {
 }
 
 #[test]
-fn shapes_and_places(rt: HostRuntime) -> Result<(), Fail> {
+fn parts_and_their_lines(rt: HostRuntime) -> Result<(), Fail> {
     let alloc = rt.alloc();
     for (head, rest, line) in [
         ("", "capacity 1\n", 1),
@@ -87,6 +87,28 @@ fn shapes_and_places(rt: HostRuntime) -> Result<(), Fail> {
         (ARRAYS, ".pop\n", 3),
         (ARRAYS, ".thread pop\n", 3),
         (ARRAYS, "ret\n", 3),
+        (THREADS, ".pop\n", 10),
+        (THREADS, ".thread pop pop\n", 10),
+        (THREADS, ".thread pop 1\n", 10),
+        (THREADS, ".thread push 1, peek\n", 10),
+        (THREADS, ".thread push rax\n", 10),
+        (THREADS, ".thread pop\n.end\n", 11),
+        (THREADS, ".before\n", 10),
+        (THREADS, ".before pop\n.before push 1\n", 11),
+    ] {
+        assert_eq!(rt;
+            refusal(alloc, head, rest)?,
+            Some((Code::E03, line)),
+            "{head}{rest}"
+        );
+    }
+    Ok(())
+}
+
+#[test]
+fn lines_of_procedures(rt: HostRuntime) -> Result<(), Fail> {
+    let alloc = rt.alloc();
+    for (head, rest, line) in [
         (PUSH, ".array m 1\n", 5),
         (PUSH, ".push\n", 5),
         (PUSH, ".end\n", 5),
@@ -110,26 +132,15 @@ fn shapes_and_places(rt: HostRuntime) -> Result<(), Fail> {
         (PUSH, "mov rax, qword ptr [n + rcx*8 + -8]\n", 5),
         (PUSH, "mov rax, 1 + 1\n", 5),
         (PUSH, "mov rax, ?\n", 5),
-        (PUSH, "jmp out bound\n", 4),
         (PUSH, "ret\n.end extra\n", 6),
         (PUSH, "ret\n.end\n.push\n", 7),
         (PUSH, "ret\n.end\n.thread pop\n", 7),
-        (THREADS, ".pop\n", 10),
-        (THREADS, ".thread pop pop\n", 10),
-        (THREADS, ".thread pop 1\n", 10),
-        (THREADS, ".thread push 1, peek\n", 10),
-        (THREADS, ".thread push rax\n", 10),
-        (THREADS, ".thread pop\n.end\n", 11),
-        (THREADS, ".before\n", 10),
-        (THREADS, ".before pop\n.before push 1\n", 11),
     ] {
-        if line > 4 || head != PUSH {
-            assert_eq!(rt;
-                refusal(alloc, head, rest)?,
-                Some((Code::E03, line)),
-                "{head}{rest}"
-            );
-        }
+        assert_eq!(rt;
+            refusal(alloc, head, rest)?,
+            Some((Code::E03, line)),
+            "{head}{rest}"
+        );
     }
     Ok(())
 }
