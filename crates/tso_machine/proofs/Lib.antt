@@ -1,7 +1,13 @@
 pub mod CallLists
+pub mod Counts
+pub mod Fine
 pub mod FirstThreads
 pub mod Outside
+pub mod PlaceBounds
 pub mod QueueLemmas
+pub mod Ranked
+pub mod RunLaws
 pub mod StepLemmas
+pub mod StepLimits
 pub mod UndoLemmas
 pub mod Views

@@ -4,11 +4,13 @@ pub mod Changes
 pub mod Frames
 pub mod Initial
 pub mod Instructions
+pub mod Laws
 pub mod Machines
 pub mod Offers
 pub mod Places
 pub mod Programs
 pub mod Queue
 pub mod Registers
+pub mod Soundness
 pub mod Stepping
 pub mod Undone

@@ -1,6 +1,7 @@
 -- Runs of a client's labels (Sewell and others 2010), and the faults in them.
-use Rattle.std.specs.Prelude.{◌≡◌, ℕ, ◌+◌, ◌<◌, Bool, false, true, List, [], ◌∷◌, length, map, take, Some, slice_get}
-use Rattle.std.specs.List.{list_any}
+use Rattle.std.specs.Prelude.{◌≡◌, ℕ, ◌+◌, ◌<◌, Bool, false, true, List, [], ◌∷◌, length, map, take, Option, Some, None, slice_get}
+use Rattle.std.specs.List.{find, list_any}
+use Rattle.std.specs.Option.{option_map}
 use Rattle.tso_prog.specs.declared.client.Client.{Client}
 use Rattle.tso_machine.specs.Activations.{Activation}
 use Rattle.tso_machine.specs.Machines.{label_of}
@@ -11,6 +12,8 @@ use Rattle.tso_machine.specs.declared.label.Label.{Label}
 use Rattle.tso_machine.specs.declared.label.LabelKind.{LabelKind}
 use Rattle.tso_machine.specs.declared.label.LabelKind.TheVariants as kinds
 use Rattle.tso_model.specs.Labels.{Machine, Run, first_machine}
+use Rattle.tso_trace.specs.declared.trace.Violation.{Violation}
+use Rattle.tso_trace.specs.declared.trace.Violation.TheVariants as violations
 use Rattle.tso_trace.specs.declared.fault.TraceFault.{TraceFault}
 use Rattle.tso_trace.specs.declared.fault.TraceFault.TheVariants.{NotAStep, NoError, Grammar, Memory}
 
@@ -40,6 +43,15 @@ is_fault _ = false
 -- some thread stops at a fault
 abbrev pub has_fault : List Label → Bool
 has_fault labels = list_any (λ (l : Label). is_fault l.kind) labels
+
+-- the thread that the first fault stops
+abbrev pub first_fault : List Label → Option ℕ
+first_fault labels = option_map (λ (l : Label). l.thread) (find (λ (l : Label). is_fault l.kind) labels)
+
+-- the first fault, or that no order of the calls is allowed
+abbrev pub violation_of : Option ℕ → Violation
+violation_of (Some thread) = violations.Fault thread
+violation_of None = violations.NoOrder
 
 -- the run is an error: a fault stands in it
 pub record IsErrorTrace (c : Client) (labels : List Label) : Type 0 where

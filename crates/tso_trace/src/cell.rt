@@ -1,6 +1,7 @@
 //! Cells of memory by array and index.
 
-ghost use Rattle.std.specs.Prelude.{◌≡◌, ◌<◌, ◌≤◌, length, sum_by, IfSome};
+ghost use Rattle.std.specs.Prelude.{◌≡◌, ◌<◌, ◌≤◌, length, pos, sum_by, Some, IfSome, IfNone};
+ghost use Rattle.tso_machine.specs.Places.{place_of};
 
 use tso_prog::Array;
 
@@ -15,7 +16,9 @@ pub struct Cell {
 
 /// The cell at a place of memory, if memory has so many words.
 pub fn cell_of(arrays: &[Array], place: usize) -> Option<Cell>
-    ensures { IfSome result (λ cell. cell.array < length arrays.now) }
+    ensures array { IfSome result (λ cell. cell.array < length arrays.now) }
+    ensures place { IfSome result (λ cell. place_of arrays.now cell.array (pos cell.index) ≡ Some place) }
+    ensures none { IfNone result (sum_by (λ a. length a.words) arrays.now ≤ place) }
 {
     let mut index = place;
     for (array, declared) in arrays.iter().enumerate() {

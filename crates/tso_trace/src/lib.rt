@@ -7,6 +7,8 @@ mod fault;
 mod grammar;
 mod run;
 mod spelling;
+#[cfg(test)]
+mod tests;
 mod trace;
 
 pub use cell::{Cell, cell_of};

@@ -1,7 +1,7 @@
 //! Runs of labels.
 
 ghost use Rattle.std.specs.Prelude.{◌≡◌, OnOk, IfErr};
-ghost use Rattle.tso_trace.specs.Runs.{has_fault, is_fault, IsRun, IsTraceFault};
+ghost use Rattle.tso_trace.specs.Runs.{first_fault, has_fault, is_fault, IsRun, IsTraceFault};
 
 use crate::fault::TraceFault;
 use std::alloc::Global;
@@ -41,4 +41,12 @@ pub fn has_fault(labels: &[Label]) -> bool
     ensures { result ≡ has_fault labels.now }
 {
     labels.iter().any(|label| is_fault(label.kind))
+}
+
+/// The thread that the first fault among the labels stops.
+pub fn first_fault(labels: &[Label]) -> Option<usize>
+    ensures { result ≡ first_fault labels.now }
+{
+    let label = labels.iter().find(|label| is_fault(label.kind))?;
+    Some(label.thread)
 }

@@ -1,18 +1,18 @@
 //! Traces.
 
 ghost use Rattle.std.specs.Prelude.{◌≡◌, ◌<◌, ◌≤◌, length, IfOk, IfErr};
-ghost use Rattle.tso_trace.specs.Runs.{IsErrorTrace, IsTraceFault};
+ghost use Rattle.tso_trace.specs.Runs.{first_fault, violation_of, IsErrorTrace, IsTraceFault};
 
 use crate::fault::TraceFault;
 use crate::grammar::{HEADER, labels_of};
-use crate::run::{has_fault, take_steps};
+use crate::run::{first_fault, has_fault, take_steps};
 use crate::spelling::line_of;
 use std::alloc::{AllocError, Global};
 use std::io;
 use std::io::Write;
 use tso_flow::Checked;
 use tso_list::Seq;
-use tso_machine::{Label, LabelKind};
+use tso_machine::Label;
 
 /// What is wrong with a run.
 #[derive(Clone, Copy, Debug, PartialEq, Eq)]
@@ -86,13 +86,13 @@ impl Trace {
         Ok(())
     }
 
-    /// What is wrong with the run.
-    pub fn violation(&self) -> Violation {
-        for label in self.labels.as_slice() {
-            if let LabelKind::Fault(_) = label.kind {
-                return Violation::Fault(label.thread);
-            }
+    /// What is wrong with the run: its first fault.
+    pub fn violation(&self) -> Violation
+        ensures { result ≡ violation_of (first_fault self.now.labels) }
+    {
+        match first_fault(self.labels.as_slice()) {
+            Some(thread) => Violation::Fault(thread),
+            None => Violation::NoOrder,
         }
-        Violation::NoOrder
     }
 }

@@ -1,0 +1,65 @@
+-- What is known of the runs of a checked client's machine.
+use Rattle.std.specs.Prelude.{◌≡◌, ◌⊎◌, ℕ, ◌≤◌, List, length}
+use Rattle.tso_prog.specs.declared.client.Client.{Client}
+use Rattle.tso_flow.specs.Calls.{calls_of_client, step_limit}
+use Rattle.tso_machine.specs.Activations.{Activation}
+use Rattle.tso_machine.specs.Places.{first_memory}
+use Rattle.tso_machine.specs.Programs.{program_of}
+use Rattle.tso_model.specs.Bounds.{AreLabelsFew, Follows}
+use Rattle.tso_model.specs.Faults.{HasFaultOf, IsStoppedAt}
+use Rattle.tso_model.specs.Invariants.{AllWithin, IsGuarded}
+use Rattle.tso_model.specs.Labels.{Ended, Label, Machine, Run, first_machine}
+
+-- the labels lead from the client's machine before any step to this one
+abbrev pub IsRunOf : Client → List Label → Machine Activation → Type 0
+IsRunOf c ls m = Run (program_of c) (first_machine (program_of c) (first_memory c.arrays)) ls m
+
+-- ---- bounds
+
+-- no run has more labels than the client's limit
+abbrev pub RunsAreShort : Client → Type 0
+RunsAreShort c = (ls : List Label) (m : Machine Activation) → IsRunOf c ls m → length ls ≤ step_limit c
+
+-- every run goes on to an ended one
+abbrev pub RunsEnd : Client → Type 0
+RunsEnd c =
+    (ls : List Label) (m : Machine Activation) → IsRunOf c ls m
+    → (more : List Label) × (end : Machine Activation) × Run (program_of c) m more end × Ended (program_of c) end
+
+-- at each machine at most two labels follow for each thread, one of its core and one of its buffer
+abbrev pub LabelsAreFew : Client → Type 0
+LabelsAreFew c = (m : Machine Activation) → AreLabelsFew (program_of c) m
+
+-- some label follows, or none does: this is decided for each machine
+abbrev pub EndsAreDecided : Client → Type 0
+EndsAreDecided c = (m : Machine Activation) → Ended (program_of c) m ⊎ Follows (program_of c) m
+
+-- ---- what holds of each machine that a run leads to
+
+-- memory has the words of all arrays, and there is a thread for each list of calls
+pub record HasSizes (c : Client) (m : Machine Activation) : Type 0 where
+  pub memory : length m.memory ≡ length (first_memory c.arrays)
+  pub threads : length m.threads ≡ length (calls_of_client c)
+
+abbrev pub SizesStay : Client → Type 0
+SizesStay c = (ls : List Label) (m : Machine Activation) → IsRunOf c ls m → HasSizes c m
+
+-- each buffered place is that of a word of an array
+abbrev pub BuffersStayWithin : Client → Type 0
+BuffersStayWithin c = (ls : List Label) (m : Machine Activation) → IsRunOf c ls m → AllWithin (length (first_memory c.arrays)) m
+
+-- the lock's holder is in its section, with at most the section's own entry in its buffer, and no other thread is in a section
+abbrev pub SectionsAreGuarded : Client → Type 0
+SectionsAreGuarded c = (ls : List Label) (m : Machine Activation) → IsRunOf c ls m → IsGuarded (program_of c) m
+
+-- a stopped core stays stopped, whatever follows
+abbrev pub StopsAreFinal : Client → Type 0
+StopsAreFinal c = (m m' : Machine Activation) (ls : List Label) (i : ℕ) → Run (program_of c) m ls m' → IsStoppedAt m i → IsStoppedAt m' i
+
+-- a core is stopped after a run exactly where its thread has a fault in the run
+pub record IsStoppedByFault (ls : List Label) (m : Machine Activation) (i : ℕ) : Type 0 where
+  pub stops : HasFaultOf ls i → IsStoppedAt m i
+  pub faults : IsStoppedAt m i → HasFaultOf ls i
+
+abbrev pub StopsAreFaults : Client → Type 0
+StopsAreFaults c = (ls : List Label) (m : Machine Activation) (i : ℕ) → IsRunOf c ls m → IsStoppedByFault ls m i

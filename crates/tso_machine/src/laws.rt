@@ -1,0 +1,51 @@
+//! What is known of the runs of a checked client's machine, label by label. These functions do nothing when they run.
+
+ghost use Rattle.tso_machine.specs.Laws.{BuffersStayWithin, EndsAreDecided, LabelsAreFew, RunsAreShort, RunsEnd, SectionsAreGuarded, SizesStay, StopsAreFaults, StopsAreFinal};
+
+use tso_flow::Checked;
+
+/// A run has at most as many labels as `Checked::step_limit` says.
+pub fn runs_are_short(checked: &Checked)
+    ensures { RunsAreShort checked.now.client }
+{}
+
+/// Every run goes on to an ended one.
+pub fn runs_end(checked: &Checked)
+    ensures { RunsEnd checked.now.client }
+{}
+
+/// At most two labels follow a machine for each thread, one of its core and one of its buffer.
+pub fn labels_are_few(checked: &Checked)
+    ensures { LabelsAreFew checked.now.client }
+{}
+
+/// Some label follows a machine, or none does.
+pub fn ends_are_decided(checked: &Checked)
+    ensures { EndsAreDecided checked.now.client }
+{}
+
+/// Memory has the words of all arrays, and there is one thread for each list of calls, however a run goes on.
+pub fn sizes_stay(checked: &Checked)
+    ensures { SizesStay checked.now.client }
+{}
+
+/// Each place in a buffer is that of a word of an array.
+pub fn buffers_stay_within(checked: &Checked)
+    ensures { BuffersStayWithin checked.now.client }
+{}
+
+/// The lock's holder is in its locked instruction, with at most that instruction's own entry in its buffer, and no other
+/// thread is in one.
+pub fn sections_are_guarded(checked: &Checked)
+    ensures { SectionsAreGuarded checked.now.client }
+{}
+
+/// A stopped thread stays stopped.
+pub fn stops_are_final(checked: &Checked)
+    ensures { StopsAreFinal checked.now.client }
+{}
+
+/// A thread is stopped after a run exactly where the run has a fault of it.
+pub fn stops_are_faults(checked: &Checked)
+    ensures { StopsAreFaults checked.now.client }
+{}

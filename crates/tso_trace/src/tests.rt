@@ -1,0 +1,147 @@
+//! Traces as texts, and walks along them.
+
+use super::*;
+use std::alloc::Global;
+use std::process::Abort;
+use std::test::Fail;
+use tso_flow::Checked;
+
+const EXCHANGE: &str = ".capacity 1
+.mode weak
+.array n 1
+.push
+  mov rbx, 5
+  xchg qword ptr [n], rbx
+  cmp rbx, 5
+  assert e
+  mov rax, 0
+  ret
+.end
+.pop
+  mov rbx, qword ptr [n]
+  mov rdx, 0
+  mov rax, 0
+  ret
+.end
+.thread push 7
+.thread pop
+";
+
+const EXCHANGE_TRACE: &str = "tso-trace 1
+0 call push 7
+0 reg
+0 lock
+0 read n[0] = 0
+0 write n[0] = 5
+0 drain n[0] = 5
+0 unlock
+0 reg
+0 fault assert
+";
+
+const FUSED_TRACE: &str = "tso-trace 1
+0 call push 7
+0 reg
+0 write n[0] = 5
+0 reg
+0 fault assert
+";
+
+const OWN_STORE: &str = ".capacity 1
+.mode weak
+.array n 1
+.push
+  mov qword ptr [n], 5
+  mov rax, qword ptr [n]
+  cmp rax, 5
+  assert ne
+  mov rax, 0
+  ret
+.end
+.pop
+  mov rbx, qword ptr [n]
+  mov rdx, 0
+  mov rax, 0
+  ret
+.end
+.thread push 7
+.thread pop
+";
+
+const OWN_STORE_TRACE: &str = "tso-trace 1
+0 call push 7
+0 write n[0] = 5
+1 call pop
+1 read n[0] = 0
+0 read n[0] = 5
+0 reg
+0 fault assert
+";
+
+fn checked_of(alloc: Global, program: &str) -> Result<Checked, Fail> {
+    let client = tso_prog::read(alloc, program.as_bytes())?;
+    Ok(tso_flow::check(alloc, client)?)
+}
+
+// The trace goes forwards to its end and back to its start, and shows the same machine at each place both times.
+fn walks(rt: &impl Abort, alloc: Global, trace: &Trace) -> Result<(), Fail> {
+    let mut cursor = Cursor::new(alloc, trace)?;
+    let mut seen = Vec::new(alloc);
+    for position in 0..trace.labels.len() {
+        assert_eq!(rt; cursor.position(), position);
+        seen.push(format!(in alloc; "{:?}", cursor.machine())?)?;
+        assert!(rt; cursor.forward()?);
+    }
+    assert!(rt; !cursor.forward()?);
+    while let Some(before) = seen.pop() {
+        assert!(rt; cursor.back());
+        assert_eq!(rt; format!(in alloc; "{:?}", cursor.machine())?.as_str(), before.as_str());
+        assert_eq!(rt; cursor.position(), seen.len());
+    }
+    assert!(rt; !cursor.back());
+    Ok(())
+}
+
+#[test]
+fn texts_are_read_back(rt: HostRuntime) -> Result<(), Fail> {
+    let alloc = rt.alloc();
+    for (program, text, labels) in [
+        (EXCHANGE, EXCHANGE_TRACE, 9),
+        (OWN_STORE, OWN_STORE_TRACE, 7),
+    ] {
+        let checked = checked_of(alloc, program)?;
+        let trace = Trace::read(alloc, &checked, text.as_bytes())?;
+        assert_eq!(rt; trace.labels.len(), labels);
+        assert!(rt; matches!(trace.violation(), Violation::Fault(0)));
+        let mut printed = Vec::new(alloc);
+        trace.print(alloc, &mut printed)?;
+        assert_eq!(rt; printed.as_slice(), text.as_bytes());
+        walks(&rt, alloc, &trace)?;
+    }
+    Ok(())
+}
+
+#[test]
+fn fused_steps_are_refused(rt: HostRuntime) -> Result<(), Fail> {
+    let alloc = rt.alloc();
+    let checked = checked_of(alloc, EXCHANGE)?;
+    let refusal = Trace::read(alloc, &checked, FUSED_TRACE.as_bytes()).err();
+    assert_eq!(rt; refusal, Some(TraceFault::NotAStep { label: 3 }));
+    Ok(())
+}
+
+#[test]
+fn cells_are_named_by_array(rt: HostRuntime) -> Result<(), Fail> {
+    let alloc = rt.alloc();
+    let program = ".capacity 1\n.mode weak\n.array a 2\n.array b 3\n.push\n mov rax, 0\n ret\n.end\n.pop\n mov rax, 0\n mov rdx, 0\n ret\n.end\n.thread push 7\n";
+    let checked = checked_of(alloc, program)?;
+    let arrays = checked.client.arrays.as_slice();
+    assert_eq!(rt; cell_of(arrays, 1), Some(Cell { array: 0, index: 1 }));
+    assert_eq!(rt; cell_of(arrays, 2), Some(Cell { array: 1, index: 0 }));
+    assert_eq!(rt; cell_of(arrays, 4), Some(Cell { array: 1, index: 2 }));
+    assert_eq!(rt; cell_of(arrays, 5), None);
+    let mut text = String::new(alloc);
+    push_cell(&mut text, arrays, 4)?;
+    assert_eq!(rt; text.as_str(), "b[2]");
+    Ok(())
+}
