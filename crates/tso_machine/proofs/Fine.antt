@@ -134,7 +134,6 @@ targets_in c procedures.Pop = c.pop.targets_within
 
 module _ (c : Client) (name : ProcedureKind) (f : Frame) (i : Instruction ℕ ℕ) (there : slice_get (instructions_of c name) f.pc ≡ Some i)
     (lt : f.pc < length (instructions_of c name)) (within : are_within f.taken (bounds_in c name) ≡ true) where
-
   abbrev Fine : Action Activation → Type 0
   Fine action = IsFine (length (instructions_of c name)) (bounds_in c name) (length (first_memory c.arrays)) name f action
 
@@ -180,16 +179,16 @@ module _ (c : Client) (name : ProcedureKind) (f : Frame) (i : Instruction ℕ �
       let g : Frame = record f { pc = target } in
       let there' : slice_get (instructions_of c name) f.pc ≡ Some (the.Jump when target bound) = there ∙ ap Some is in
       let passes : nat_le target (length (instructions_of c name)) ≡ true =
-          passes_at (has_target_within (length (instructions_of c name))) (instructions_of c name) f.pc (the.Jump when target bound) (targets_in c name) there' in
+      passes_at (has_target_within (length (instructions_of c name))) (instructions_of c name) f.pc (the.Jump when target bound) (targets_in c name) there' in
       let inside : target ≤ length (instructions_of c name) = leb-true target (length (instructions_of c name)) passes in
       let none : 0 + f.pc ≡ f.pc = omega arith in
       let counted : nat_le target f.pc ≡ true → Fine (counted_jump name f target (unwrap_or bound 0) n (slice_get f.taken n)) = λ back.
-          let back' : nat_le target (0 + f.pc) ≡ true = rw none back in
-          let here : slice_get (bounds_in c name) n ≡ Some (unwrap_or bound 0) =
-              bound_at 0 f.pc (instructions_of c name) (the.Jump when target bound) there' back' ∙ ap Some (sym (bound_is when target bound)) in
-          counted_fine target (unwrap_or bound 0) (slice_get f.taken n) refl inside here in
+      let back' : nat_le target (0 + f.pc) ≡ true = rw none back in
+      let here : slice_get (bounds_in c name) n ≡ Some (unwrap_or bound 0) =
+      bound_at 0 f.pc (instructions_of c name) (the.Jump when target bound) there' back' ∙ ap Some (sym (bound_is when target bound)) in
+      counted_fine target (unwrap_or bound 0) (slice_get f.taken n) refl inside here in
       let ahead : nat_le target f.pc ≡ false → On g = λ no_back.
-          record { procedure = refl; goes = forward (length (instructions_of c name)) (bounds_in c name) f g refl (leb-false target f.pc no_back) inside within } in
+      record { procedure = refl; goes = forward (length (instructions_of c name)) (bounds_in c name) f g refl (leb-false target f.pc no_back) inside within } in
       cond_both (nat_le target f.pc) (counted_jump name f target (unwrap_or bound 0) n (slice_get f.taken n)) (Silent (activation name g)) Fine counted ahead
 
 -- each instruction of a procedure is fine at a frame that can occur before it

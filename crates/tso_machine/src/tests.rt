@@ -260,7 +260,10 @@ fn refuses(
     let Some((step, rest)) = steps.split_first() else {
         return Ok(());
     };
-    assert!(rt; is_refused(alloc, checked, machine, *step), "{step:?} is a step");
+    assert!(rt;
+        is_refused(alloc, checked, machine, *step),
+        "{step:?} is a step"
+    );
     refuses(rt, alloc, checked, machine, rest)
 }
 
@@ -382,8 +385,20 @@ fn exchanges_are_five_steps(rt: HostRuntime) -> Result<(), Fail> {
 #[test]
 fn a_failing_compare_writes_the_old_word(rt: HostRuntime) -> Result<(), Fail> {
     let alloc = rt.alloc();
-    goes(&rt, alloc, COMPARE_EXCHANGE, &COMPARED, &[(0, REFUSED), (0, DONE)])?;
-    goes(&rt, alloc, COMPARE_EXCHANGE, &COMPARED[..5], &[(0, writes!(0, 9))])?;
+    goes(
+        &rt,
+        alloc,
+        COMPARE_EXCHANGE,
+        &COMPARED,
+        &[(0, REFUSED), (0, DONE)],
+    )?;
+    goes(
+        &rt,
+        alloc,
+        COMPARE_EXCHANGE,
+        &COMPARED[..5],
+        &[(0, writes!(0, 9))],
+    )?;
     let before = machine_after(alloc, COMPARE_EXCHANGE, &COMPARED[..7])?;
     let frame = frame_of(&before, 0).ok_or("no call")?;
     assert_eq!(rt; frame.register(Register::Rax), 3);
@@ -417,7 +432,13 @@ fn sums_wrap(rt: HostRuntime) -> Result<(), Fail> {
 fn stores_wait_for_a_fence(rt: HostRuntime) -> Result<(), Fail> {
     let alloc = rt.alloc();
     let both = [(0, PUSH), (1, POP), (0, writes!(0, 1)), (1, writes!(1, 1))];
-    goes(&rt, alloc, FENCED, &both, &[(0, LabelKind::Fence), (0, reads!(1, 0))])?;
+    goes(
+        &rt,
+        alloc,
+        FENCED,
+        &both,
+        &[(0, LabelKind::Fence), (0, reads!(1, 0))],
+    )?;
     let neither = [
         (0, PUSH),
         (1, POP),
@@ -430,7 +451,13 @@ fn stores_wait_for_a_fence(rt: HostRuntime) -> Result<(), Fail> {
         (1, REG),
         (1, REFUSED),
     ];
-    goes(&rt, alloc, STORE_BUFFERING, &neither, &[(0, PUSH), (1, reads!(0, 1))])?;
+    goes(
+        &rt,
+        alloc,
+        STORE_BUFFERING,
+        &neither,
+        &[(0, PUSH), (1, reads!(0, 1))],
+    )?;
     let fenced = [
         (0, PUSH),
         (1, POP),
@@ -493,11 +520,24 @@ fn back_jumps_are_counted_in_each_call(rt: HostRuntime) -> Result<(), Fail> {
         (0, writes!(0, 1)),
         (0, REG),
     ];
-    goes(&rt, alloc, BOUNDED, &cut, &[(0, REG), (0, REFUSED), (0, writes!(0, 1))])?;
+    goes(
+        &rt,
+        alloc,
+        BOUNDED,
+        &cut,
+        &[(0, REG), (0, REFUSED), (0, writes!(0, 1))],
+    )?;
     let checked = checked_of(alloc, BOUNDED)?;
     let mut machine = machine_after(alloc, BOUNDED, &cut)?;
     let drains = [(0, drains!(0, 1)), (0, drains!(0, 1))];
-    walk(&rt, alloc, &checked, &mut machine, &drains, &[(0, REG), (0, drains!(0, 1))])?;
+    walk(
+        &rt,
+        alloc,
+        &checked,
+        &mut machine,
+        &drains,
+        &[(0, REG), (0, drains!(0, 1))],
+    )?;
     let value = LabelKind::Return(Answer::Value(2));
     let call = [POP, REG, REG, REG, REG, REG, REG, REG, REG, REG, value];
     let mut calls = Vec::new(alloc);
@@ -526,7 +566,13 @@ fn prologues_run_and_drain_first(rt: HostRuntime) -> Result<(), Fail> {
         (0, LabelKind::Return(Answer::Value(8))),
     ];
     for count in 0..5 {
-        goes(&rt, alloc, PROLOGUE, &run[..count], &[(0, POP), (1, PUSH), (2, PUSH)])?;
+        goes(
+            &rt,
+            alloc,
+            PROLOGUE,
+            &run[..count],
+            &[(0, POP), (1, PUSH), (2, PUSH)],
+        )?;
     }
     goes(&rt, alloc, PROLOGUE, &run, &[(0, POP), (2, PUSH)])
 }

@@ -95,7 +95,10 @@ fn walks(rt: &impl Abort, alloc: Global, trace: &Trace) -> Result<(), Fail> {
     assert!(rt; !cursor.forward()?);
     while let Some(before) = seen.pop() {
         assert!(rt; cursor.back());
-        assert_eq!(rt; format!(in alloc; "{:?}", cursor.machine())?.as_str(), before.as_str());
+        assert_eq!(rt;
+            format!(in alloc; "{:?}", cursor.machine())?.as_str(),
+            before.as_str()
+        );
         assert_eq!(rt; cursor.position(), seen.len());
     }
     assert!(rt; !cursor.back());
@@ -133,7 +136,8 @@ fn fused_steps_are_refused(rt: HostRuntime) -> Result<(), Fail> {
 #[test]
 fn cells_are_named_by_array(rt: HostRuntime) -> Result<(), Fail> {
     let alloc = rt.alloc();
-    let program = ".capacity 1\n.mode weak\n.array a 2\n.array b 3\n.push\n mov rax, 0\n ret\n.end\n.pop\n mov rax, 0\n mov rdx, 0\n ret\n.end\n.thread push 7\n";
+    let program =
+        ".capacity 1\n.mode weak\n.array a 2\n.array b 3\n.push\n mov rax, 0\n ret\n.end\n.pop\n mov rax, 0\n mov rdx, 0\n ret\n.end\n.thread push 7\n";
     let checked = checked_of(alloc, program)?;
     let arrays = checked.client.arrays.as_slice();
     assert_eq!(rt; cell_of(arrays, 1), Some(Cell { array: 0, index: 1 }));

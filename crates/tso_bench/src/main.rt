@@ -1,0 +1,117 @@
+//! Benchmarks: how long a text of the greatest length is read, and how long a trace is walked forwards and back. The time is
+//! that of the whole process.
+#![tactic(auto)]
+
+use std::alloc::{AllocError, Global};
+use std::io;
+use std::process::ExitCode;
+use tso_trace::{Cursor, Trace};
+
+const PROGRAM: &str = ".capacity 1
+.mode weak
+.array n 1
+.push
+  mov qword ptr [n], 5
+  mov rax, qword ptr [n]
+  cmp rax, 5
+  assert ne
+  mov rax, 0
+  ret
+.end
+.pop
+  mov rbx, qword ptr [n]
+  mov rdx, 0
+  mov rax, 0
+  ret
+.end
+.thread push 7
+.thread pop
+";
+
+const TRACE: &str = "tso-trace 1
+0 call push 7
+0 write n[0] = 5
+1 call pop
+1 read n[0] = 0
+0 read n[0] = 5
+0 reg
+0 fault assert
+";
+
+/// The greatest length of a text.
+const TEXT_BYTES: usize = 65_536;
+
+// A line again and again behind a head, up to the greatest length.
+fn long_text(alloc: Global, head: &str, line: &str) -> Result<String, AllocError> {
+    let mut text = String::from_str(alloc, head)?;
+    for _ in 0..TEXT_BYTES {
+        if text.len().saturating_add(line.len()) > TEXT_BYTES {
+            break;
+        }
+        text.push_str(line)?;
+    }
+    Ok(text)
+}
+
+// A push of as many labels as the text takes, each with a name of its own.
+fn many_labels(alloc: Global) -> Result<String, AllocError> {
+    let mut text = String::from_str(alloc, ".capacity 1\n.mode weak\n.push\n")?;
+    for number in 0..TEXT_BYTES {
+        if text.len().saturating_add(9) > TEXT_BYTES {
+            break;
+        }
+        write!(text, "l{number}:\n")?;
+    }
+    Ok(text)
+}
+
+// Whether the reader refuses each of these texts, which all end too soon.
+fn read_long_texts(alloc: Global) -> Result<bool, AllocError> {
+    let comments = long_text(alloc, PROGRAM, "; a line that says nothing\n")?;
+    let blanks = long_text(alloc, PROGRAM, "\n")?;
+    let labels = many_labels(alloc)?;
+    let comments = tso_prog::read(alloc, comments.as_str().as_bytes());
+    let blanks = tso_prog::read(alloc, blanks.as_str().as_bytes());
+    let labels = tso_prog::read(alloc, labels.as_str().as_bytes());
+    Ok(comments.is_ok() && blanks.is_ok() && labels.is_err())
+}
+
+// Walks along the trace and back until so many labels were taken, and answers their number, or 0 where there is no trace.
+fn walk(alloc: Global, labels: u64) -> Result<u64, AllocError> {
+    let Ok(client) = tso_prog::read(alloc, PROGRAM.as_bytes()) else {
+        return Ok(0);
+    };
+    let Ok(checked) = tso_flow::check(alloc, client) else {
+        return Ok(0);
+    };
+    let Ok(trace) = Trace::read(alloc, &checked, TRACE.as_bytes()) else {
+        return Ok(0);
+    };
+    let mut cursor = Cursor::new(alloc, &trace)?;
+    for _ in 0..labels {
+        if !cursor.forward()? {
+            for _ in 0..trace.labels.len() {
+                let _moved = cursor.back();
+            }
+            let _moved = cursor.forward()?;
+        }
+    }
+    Ok(labels)
+}
+
+fn main(rt: HostRuntime) -> io::Result<ExitCode> {
+    let alloc = rt.alloc();
+    let words: Vec<String> = std::env::args(&rt)?.collect(alloc)?;
+    let labels = match words.as_slice() {
+        [_, labels] => labels.as_str().parse::<u64>().unwrap_or(0),
+        _ => 0,
+    };
+    if labels == 0 {
+        let expected = read_long_texts(alloc)?;
+        println!(rt; "long texts: {expected}")?;
+    } else {
+        let walked = walk(alloc, labels)?;
+        println!(rt; "labels: {walked}")?;
+    }
+    Ok(ExitCode::SUCCESS)
+}
