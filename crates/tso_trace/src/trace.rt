@@ -42,6 +42,7 @@ impl Trace {
         labels: Vec<Label>,
     ) -> Result<Trace, TraceFault>
         ensures ok { IfOk result (λ t. (t.checked.client ≡ checked.now.client) × (t.labels ≡ labels.items)) }
+        ensures erring { IfOk result (λ t. ∥ IsErrorTrace checked.now.client t.labels ∥₁) }
         ensures refused { IfErr result (IsTraceFault checked.now.client labels.items) }
     {
         take_steps(alloc, checked, &labels)?;
@@ -57,7 +58,10 @@ impl Trace {
     /// The trace of a text.
     ///
     /// Errors: `Grammar` at the earliest line that is not of the grammar, before all others; then as `from_labels`.
-    pub fn read(alloc: Global, checked: &Checked, text: &[u8]) -> Result<Trace, TraceFault> {
+    pub fn read(alloc: Global, checked: &Checked, text: &[u8]) -> Result<Trace, TraceFault>
+        ensures client { IfOk result (λ t. t.checked.client ≡ checked.now.client) }
+        ensures erring { IfOk result (λ t. ∥ IsErrorTrace checked.now.client t.labels ∥₁) }
+    {
         let labels = labels_of(alloc, &checked.client, text)?;
         Trace::from_labels(alloc, checked, labels)
     }
