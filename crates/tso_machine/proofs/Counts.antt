@@ -1,11 +1,10 @@
 -- Counts of back jumps and their bounds.
-use Rattle.std.proofs.Common.{◌≡◌, ◌∙◌, ℕ, zero, suc, ◌+◌, ◌-◌, ◌*◌, ◌<◌, ◌≤◌, Bool, true, false, nat_le, List, [], ◌∷◌, length, take, replicate, Some, None, slice_get, slice_set, refl, sym, ap, arith, if◌then◌else◌}
-use Rattle.std.specs.List.{sum, sum_by, list_all}
+use Rattle.std.proofs.Common.{◌≡◌, ◌∙◌, ℕ, zero, suc, ◌+◌, ◌<◌, ◌≤◌, Bool, true, false, nat_le, List, [], ◌∷◌, take, replicate, Some, slice_get, slice_set, refl, arith, if◌then◌else◌}
+use Rattle.std.specs.List.{sum, list_all}
 use Rattle.std.proofs.lemmas.Bool.{and_parts, and_from, leb-true, le-leb, cond_both}
 use Rattle.std.proofs.lemmas.List.Sums.{sum_by-cons}
 use Rattle.std.proofs.lemmas.List.Folds.{sum_by-replicate}
 use Rattle.tso_line.specs.declared.instruction.Instruction.{Instruction}
-use Rattle.tso_line.specs.declared.instruction.Instruction.TheVariants as the
 use Rattle.tso_flow.specs.Calls.{bound_of, bounds_of}
 use Rattle.tso_machine.specs.Instructions.{back_jumps, is_back_jump}
 use Rattle.tso_machine.specs.Soundness.{are_within, back_bounds}

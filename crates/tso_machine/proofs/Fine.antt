@@ -1,5 +1,5 @@
 -- From a frame that can occur, each instruction goes on to such frames from where fewer instructions are left.
-use Rattle.std.proofs.Common.{◌≡◌, ◌∙◌, ℕ, zero, suc, ◌+◌, ◌-◌, ◌*◌, ◌<◌, ◌≤◌, Bool, true, false, nat_le, nat_lt, List, [], ◌∷◌, length, take, Option, Some, None, slice_get, slice_set, refl, sym, ap, arith, subst, if◌then◌else◌, ◌==◌}
+use Rattle.std.proofs.Common.{◌≡◌, ◌∙◌, ℕ, suc, ◌+◌, ◌-◌, ◌*◌, ◌<◌, ◌≤◌, Bool, true, false, nat_le, nat_lt, List, length, take, Option, Some, None, slice_get, slice_set, refl, sym, ap, arith, if◌then◌else◌, ◌==◌}
 use Rattle.std.specs.Prelude.{unwrap_or}
 use Rattle.std.specs.List.{sum}
 use Rattle.std.proofs.lemmas.Bool.{cond_both, leb-true, leb-false, ltb-true}
@@ -21,7 +21,7 @@ use Rattle.tso_machine.proofs.Counts.{bound_at, passes_at, sum_counted, sum_with
 use Rattle.tso_machine.proofs.PlaceBounds.{place_below}
 use Rattle.tso_machine.specs.Activations.{Activation, activation}
 use Rattle.tso_machine.specs.Frames.{register_of}
-use Rattle.tso_machine.specs.Instructions.{action_at, at_place, back_jumps, counted_jump, done_answer, exchanged, instruction_action, instructions_of, is_taken, jump, returned, with_register}
+use Rattle.tso_machine.specs.Instructions.{at_place, back_jumps, counted_jump, done_answer, exchanged, instruction_action, instructions_of, is_taken, jump, returned, with_register}
 use Rattle.tso_machine.specs.Places.{first_memory, index_of, operand_place}
 use Rattle.tso_machine.specs.Soundness.{are_within, bounds_in, instructions_left, runs_procedure}
 use Rattle.tso_machine.specs.declared.frame.Frame.{Frame}
@@ -45,7 +45,6 @@ forward len bounds f g same later inside within = record {
 
 one_jump_less : (len b t p q : ℕ) → t + 1 ≤ b → q < len → instructions_left len (b - (t + 1)) p < instructions_left len (b - t) q
 one_jump_less len b t p q le lt =
-    let d = b - (t + 1) in
     let e : b - t ≡ suc (b - (t + 1)) = omega arith in
     let f : suc (b - (t + 1)) * len ≡ (b - (t + 1)) * len + len = omega arith in
     rw (e, f) (omega arith)

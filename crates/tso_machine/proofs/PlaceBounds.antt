@@ -1,14 +1,11 @@
 -- The places of words of arrays are inside the memory.
-use Rattle.std.proofs.Common.{◌≡◌, ℕ, zero, suc, ◌+◌, ◌<◌, ◌≤◌, Bool, true, false, nat_lt, List, [], ◌∷◌, length, take, Option, Some, None, slice_get, ℤ, pos, negsuc, refl, sym, ap, arith, if◌then◌else◌}
+use Rattle.std.proofs.Common.{◌≡◌, ℕ, zero, suc, ◌+◌, ◌<◌, ◌≤◌, Bool, true, false, nat_lt, List, [], ◌∷◌, length, take, Option, Some, None, slice_get, ℤ, pos, negsuc, refl, ap, arith, if◌then◌else◌}
 use Rattle.std.specs.List.{sum_by}
 use Rattle.std.proofs.lemmas.Bool.{ltb-true}
 use Rattle.std.proofs.lemmas.List.Concat.{length-flat_map}
 use Rattle.std.proofs.lemmas.List.Sums.{sum_by-cons}
 use Rattle.tso_prog.specs.declared.client.Array.{Array}
 use Rattle.tso_machine.specs.Places.{first_memory, first_place, place_in, place_of}
-
-words_of : Array → ℕ
-words_of a = length a.words
 
 before_and_own : (arrays : List Array) (n : ℕ) (a : Array) → slice_get arrays n ≡ Some a → first_place arrays n + length a.words ≤ sum_by (λ (x : Array). length x.words) arrays
 before_and_own [] n a there = absurd cc

@@ -1,7 +1,7 @@
 -- A client's program with the frames that can occur in its calls, and the instructions left from each.
-use Rattle.std.proofs.Common.{◌≡◌, ◌∙◌, ℕ, zero, suc, ◌+◌, ◌-◌, ◌*◌, ◌<◌, ◌≤◌, Bool, true, false, nat_le, ◌&&◌, List, [], ◌∷◌, ◌++◌, length, map, replicate, Option, Some, None, slice_get, refl, sym, ap, arith, subst}
-use Rattle.std.specs.List.{sum, sum_by}
-use Rattle.std.proofs.lemmas.Bool.{and_parts, and_from, leb-true, le-leb, cases_lt}
+use Rattle.std.proofs.Common.{◌≡◌, ℕ, ◌-◌, ◌<◌, ◌≤◌, true, nat_le, ◌&&◌, length, Option, Some, None, slice_get, refl, sym, arith, subst}
+use Rattle.std.specs.List.{sum}
+use Rattle.std.proofs.lemmas.Bool.{and_parts, and_from, leb-true, le-leb}
 use Rattle.std.proofs.lemmas.Option.{slice_get_within}
 use Rattle.tso_line.specs.declared.instruction.Instruction.{Instruction}
 use Rattle.tso_prog.specs.declared.client.Client.{Client}
@@ -16,7 +16,7 @@ use Rattle.tso_machine.specs.Programs.{program_of, start_of}
 use Rattle.tso_machine.specs.Soundness.{are_within, bounds_in, instructions_left, is_sound, rank, runs_procedure}
 use Rattle.tso_machine.specs.declared.frame.Frame.{Frame}
 use Rattle.tso_model.specs.Measure.{IsRanked}
-use Rattle.tso_model.specs.Programs.{Action, Answer, CallKind, FaultKind, IsAnswerOf, Silent, Load, Store, Barrier, Locked, Ret, Fail, Cut, Push, Pop}
+use Rattle.tso_model.specs.Programs.{Action, CallKind, Silent, Load, Store, Barrier, Locked, Ret, Fail, Push, Pop}
 
 -- ---- frames that can occur
 

@@ -1,30 +1,24 @@
 -- The model's laws for the runs of a client's machine.
-use Rattle.std.proofs.Common.{◌≡◌, ◌∙◌, ℕ, List, [], ◌∷◌, ◌++◌, length, map, refl, subst, sym, ap, arith, ◌≤◌}
+use Rattle.std.proofs.Common.{◌≡◌, ◌∙◌, ℕ, List, [], ◌∷◌, ◌++◌, length, map, subst, arith}
 use Rattle.std.proofs.lemmas.List.{length-map}
 use Rattle.tso_line.specs.declared.instruction.CallKind.{CallKind}
 use Rattle.tso_prog.specs.Views.{call_view}
 use Rattle.tso_prog.specs.declared.client.Client.{Client}
 use Rattle.tso_flow.specs.Calls.{as_thread}
-use Rattle.tso_machine.specs.Activations.{Activation}
-use Rattle.tso_machine.specs.Initial.{idle_thread}
-use Rattle.tso_machine.specs.Laws.{BuffersStayWithin, EndsAreDecided, LabelsAreFew, RunsAreShort, RunsEnd, SectionsAreGuarded, SizesStay, StopsAreFaults, StopsAreFinal}
-use Rattle.tso_machine.specs.Places.{first_memory}
-use Rattle.tso_machine.specs.Programs.{program_of, prologue_thread}
 use Rattle.tso_machine.proofs.Ranked.{ranked}
 use Rattle.tso_machine.proofs.StepLimits.{limit_below}
+use Rattle.tso_machine.specs.Initial.{idle_thread}
+use Rattle.tso_machine.specs.Laws.{BuffersStayWithin, EndsAreDecided, FramesStaySound, LabelsAreFew, RunsAreShort, RunsEnd, SectionsAreGuarded, SizesStay, StopsAreFaults, StopsAreFinal}
+use Rattle.tso_machine.specs.Places.{first_memory}
+use Rattle.tso_machine.specs.Programs.{program_of, prologue_thread}
 use Rattle.tso_machine.specs.Soundness.{is_sound, rank}
 use Rattle.tso_model.proofs.Falls as falls
 use Rattle.tso_model.proofs.Faults as faults
 use Rattle.tso_model.proofs.Few as few
 use Rattle.tso_model.proofs.Guards as guards
 use Rattle.tso_model.specs.Invariants.{AllWithin}
-use Rattle.tso_model.specs.Labels.{Thread, first_machine}
+use Rattle.tso_model.specs.Labels.{first_machine}
 use Rattle.tso_model.specs.Programs as model
-
-pub runs_are_short : (c : Client) → RunsAreShort c
-runs_are_short c ls m run =
-    let le = falls.runs_are_short (program_of c) (length (first_memory c.arrays)) (is_sound c) (rank c) (ranked c) (first_memory c.arrays) ls m run in
-    omega (arith, le, limit_below c)
 
 as_many : (threads : List (List CallKind)) (prologue : List CallKind)
     → length (map (λ (calls : List model.CallKind). idle_thread) (map (map call_view) (threads ++ prologue_thread prologue))) ≡ length (threads ++ as_thread prologue)
@@ -59,10 +53,16 @@ buffers_stay_within c ls m run =
     let Q : ℕ → Type 0 = λ size. AllWithin size m in
     subst Q (sizes_stay c ls m run).memory (guards.buffers_stay_within (program_of c) (first_memory c.arrays) (is_sound c) (rank c) (ranked c) ls m run)
 
-pub runs_end : (c : Client) → RunsEnd c
-runs_end c ls m run =
+pub runs_are_short : (c : Client) → RunsAreShort c
+runs_are_short c ls m run =
+    let le = falls.runs_are_short (program_of c) (length (first_memory c.arrays)) (is_sound c) (rank c) (ranked c) (first_memory c.arrays) ls m run in
+    omega (arith, le, limit_below c)
+
+pub frames_stay_sound : (c : Client) → FramesStaySound c
+frames_stay_sound c ls m run =
     let first = first_machine (program_of c) (first_memory c.arrays) in
-    let size = length (first_memory c.arrays) in
     let at_first = falls.first_sound (program_of c) (is_sound c) (first_memory c.arrays) in
-    let here = falls.sound_run (program_of c) size (is_sound c) (rank c) (ranked c) first m ls at_first run in
-    falls.runs_end (program_of c) size (is_sound c) (rank c) (ranked c) m here
+    falls.sound_run (program_of c) (length (first_memory c.arrays)) (is_sound c) (rank c) (ranked c) first m ls at_first run
+
+pub runs_end : (c : Client) → RunsEnd c
+runs_end c ls m run = falls.runs_end (program_of c) (length (first_memory c.arrays)) (is_sound c) (rank c) (ranked c) m (frames_stay_sound c ls m run)

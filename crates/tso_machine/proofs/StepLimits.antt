@@ -1,5 +1,5 @@
 -- The model's limit of labels is at most the client's limit of steps.
-use Rattle.std.proofs.Common.{◌≡◌, ◌∙◌, ℕ, ◌+◌, ◌-◌, ◌*◌, ◌≤◌, List, [], ◌∷◌, ◌++◌, length, map, refl, sym, ap, arith}
+use Rattle.std.proofs.Common.{◌≡◌, ◌∙◌, ℕ, ◌+◌, ◌-◌, ◌*◌, ◌≤◌, List, [], ◌∷◌, ◌++◌, length, map, refl, ap, arith}
 use Rattle.std.specs.List.{sum, sum_by}
 use Rattle.std.proofs.lemmas.List.Sums.{sum_by-cons}
 use Rattle.tso_line.specs.declared.instruction.CallKind.{CallKind}
@@ -10,14 +10,13 @@ use Rattle.tso_flow.specs.Calls.{as_thread, bounds_of, call_limit, procedure_lim
 use Rattle.tso_flow.specs.Calls as flow
 use Rattle.tso_flow.specs.declared.location.ProcedureKind.TheVariants as procedures
 use Rattle.tso_machine.proofs.Counts.{bounds_below, sum_zeros}
-use Rattle.tso_machine.specs.Instructions.{back_jumps, instructions_of}
+use Rattle.tso_machine.specs.Instructions.{instructions_of}
 use Rattle.tso_machine.specs.Programs.{calls_of, jump_count, program_of, prologue_thread, start_of}
 use Rattle.tso_machine.specs.Soundness.{bounds_in, instructions_left, rank}
 use Rattle.tso_model.specs.Measure.{calls_cost, step_limit}
 
 limit_of_call : (len jumps none bounds : ℕ) → none ≡ 0 → jumps ≤ bounds → 5 * instructions_left len (jumps - none) 0 + 1 ≤ 5 * len * (1 + bounds) + 2
 limit_of_call len jumps none bounds zeros le =
-    let d = bounds - jumps in
     let all : bounds ≡ jumps + (bounds - jumps) = omega arith in
     let less : jumps - none ≡ jumps = omega arith in
     let more : 5 * len * (1 + (jumps + (bounds - jumps))) ≡ 5 * len + (5 * (jumps * len) + 5 * ((bounds - jumps) * len)) = omega arith in

@@ -1,8 +1,14 @@
 //! What is known of the runs of a checked client's machine, label by label. These functions do nothing when they run.
 
-ghost use Rattle.tso_machine.specs.Laws.{BuffersStayWithin, EndsAreDecided, LabelsAreFew, RunsAreShort, RunsEnd, SectionsAreGuarded, SizesStay, StopsAreFaults, StopsAreFinal};
+ghost use Rattle.tso_machine.specs.Laws.{AreFramesRanked, BuffersStayWithin, EndsAreDecided, FramesStaySound, LabelsAreFew, RunsAreShort, RunsEnd, SectionsAreGuarded, SizesStay, StopsAreFaults, StopsAreFinal};
 
 use tso_flow::Checked;
+
+/// From a frame that can occur in a call, each instruction goes on, whatever word is read, to frames that can occur and from
+/// which fewer instructions are left; and it stores inside the memory.
+pub fn frames_are_ranked(checked: &Checked)
+    ensures { AreFramesRanked checked.now.client }
+{}
 
 /// A run has at most as many labels as `Checked::step_limit` says.
 pub fn runs_are_short(checked: &Checked)
@@ -32,6 +38,11 @@ pub fn sizes_stay(checked: &Checked)
 /// Each place in a buffer is that of a word of an array.
 pub fn buffers_stay_within(checked: &Checked)
     ensures { BuffersStayWithin checked.now.client }
+{}
+
+/// Each running call stands in its own procedure, and has taken no back jump more often than its bound says.
+pub fn frames_stay_sound(checked: &Checked)
+    ensures { FramesStaySound checked.now.client }
 {}
 
 /// The lock's holder is in its locked instruction, with at most that instruction's own entry in its buffer, and no other
