@@ -14,6 +14,8 @@ mod machine;
 mod offer;
 mod place;
 mod step;
+#[cfg(test)]
+mod tests;
 
 pub use action::{Action, FaultKind, next_action, procedure_of};
 pub use back::Undo;
