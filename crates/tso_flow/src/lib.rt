@@ -9,8 +9,6 @@ mod flow;
 mod limit;
 mod location;
 mod path;
-#[cfg(test)]
-mod tests;
 
 pub use flow::{Checked, FlowError, check};
 pub use location::{Flag, Location, ProcedureKind};

@@ -2,6 +2,8 @@
 
 use std::alloc::Global;
 use std::test::Fail;
+use tso_flow::ProcedureKind;
+use tso_prog::CallKind;
 
 const ONE_REFUSAL: &str = ".capacity 1
 .mode weak
@@ -208,5 +210,52 @@ fn runs_of_queues_are_bounded(rt: HostRuntime) -> Result<(), Fail> {
         let whole = with_calls(alloc, text, calls)?;
         assert_eq!(rt; limit(alloc, whole.as_str()), Some(want), "{calls}");
     }
+    Ok(())
+}
+
+// The text with each occurrence of a part changed.
+fn changed(alloc: Global, text: &str, part: &str, other: &str) -> Result<String, Fail> {
+    let mut result = String::new(alloc);
+    for (number, piece) in text.split(part).enumerate() {
+        if number > 0 {
+            result.push_str(other)?;
+        }
+        result.push_str(piece)?;
+    }
+    Ok(result)
+}
+
+#[test]
+fn bounds_of_zero_bound_one_round(rt: HostRuntime) -> Result<(), Fail> {
+    let alloc = rt.alloc();
+    let whole = with_calls(alloc, SPIN, ".thread push 7, push 8\n.thread pop, pop\n")?;
+    let bounded = changed(alloc, whole.as_str(), "bound 1", "bound 0")?;
+    assert_eq!(rt; limit(alloc, bounded.as_str()), Some(418));
+    Ok(())
+}
+
+#[test]
+fn checked_clients_have_their_parts(rt: HostRuntime) -> Result<(), Fail> {
+    let alloc = rt.alloc();
+    let whole = with_calls(
+        alloc,
+        LAMPORT,
+        ".before push 5\n.thread push 7, pop\n.thread pop\n",
+    )?;
+    let checked = tso_flow::check(alloc, tso_prog::read(alloc, whole.as_str().as_bytes())?)?;
+    assert_eq!(rt; checked.client().capacity, 2);
+    assert_eq!(rt; checked.procedure(CallKind::Push(7)).instructions.len(), 15);
+    assert_eq!(rt; checked.procedure(CallKind::Pop).instructions.len(), 14);
+    let count = checked.thread_count();
+    assert_eq!(rt; count, 3);
+    if count > 2 {
+        assert_eq!(rt;
+            checked.calls(0),
+            [CallKind::Push(7), CallKind::Pop].as_slice()
+        );
+        assert_eq!(rt; checked.calls(2), [CallKind::Push(5)].as_slice());
+    }
+    checked.flow_is_sound(ProcedureKind::from(CallKind::Push(7)));
+    checked.flow_is_sound(ProcedureKind::from(CallKind::Pop));
     Ok(())
 }
