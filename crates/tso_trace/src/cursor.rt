@@ -56,6 +56,7 @@ fn step_on(
     ensures at { IsAt trace.now.checked.client trace.now.labels undos.new.items machine.new }
     ensures moved { result ≡ Ok true → vec_len undos.new ≡ vec_len undos.old + 1 }
     ensures stayed { result ≡ Ok false → (undos.new.items ≡ undos.old.items) × (machine.new ≡ machine.old) }
+    ensures end { result ≡ Ok false → length undos.old.items ≡ length trace.now.labels }
     ensures err { OnErr result ((undos.new.items ≡ undos.old.items) × (machine.new ≡ machine.old)) }
 {
     let Some(label) = label_at(trace, undos) else {
@@ -67,7 +68,7 @@ fn step_on(
             keep(undos, back);
             Ok(true)
         }
-        Err(ApplyError::NotAStep) => Ok(false),
+        Err(ApplyError::NotAStep) => unreachable!(),
         Err(ApplyError::Memory) => Err(AllocError),
     }
 }
@@ -126,6 +127,7 @@ impl<'a> Cursor<'a> {
     pub fn forward(&mut self) -> Result<bool, AllocError>
         ensures moved { result ≡ Ok true → self.new.position ≡ self.old.position + 1 }
         ensures stayed { result ≡ Ok false → self.new ≡ self.old }
+        ensures end { result ≡ Ok false → self.old.position ≡ length self.old.labels }
         ensures err { OnErr result (self.new ≡ self.old) }
         ensures same { (self.new.client ≡ self.old.client) × (self.new.labels ≡ self.old.labels) }
     {

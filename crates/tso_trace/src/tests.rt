@@ -93,13 +93,14 @@ fn walks(rt: &impl Abort, alloc: Global, trace: &Trace) -> Result<(), Fail> {
         assert!(rt; cursor.forward()?);
     }
     assert!(rt; !cursor.forward()?);
-    while let Some(before) = seen.pop() {
+    for position in (0..trace.labels.len()).rev() {
+        let before = seen.pop().ok_or("nothing was seen")?;
         assert!(rt; cursor.back());
         assert_eq!(rt;
             format!(in alloc; "{:?}", cursor.machine())?.as_str(),
             before.as_str()
         );
-        assert_eq!(rt; cursor.position(), seen.len());
+        assert_eq!(rt; cursor.position(), position);
     }
     assert!(rt; !cursor.back());
     Ok(())
