@@ -2,6 +2,8 @@
 //! that of the whole process.
 #![tactic(auto)]
 
+ghost use Rattle.std.specs.Prelude.{◌≡◌, ◌+◌, ◌<◌, ◌≤◌, ◌⊎◌, length, IfOk, IfSome, OnOk, string_len};
+
 use std::alloc::{AllocError, Global};
 use std::io;
 use std::process::ExitCode;
@@ -42,7 +44,10 @@ const TRACE: &str = "tso-trace 1
 const TEXT_BYTES: usize = 65_536;
 
 // A line again and again behind a head, up to the greatest length.
-fn long_text(alloc: Global, head: &str, line: &str) -> Result<String, AllocError> {
+fn long_text(alloc: Global, head: &str, line: &str) -> Result<String, AllocError>
+    requires { length head.now ≤ 65536 }
+    ensures within { IfOk result (λ text. string_len text ≤ 65536) }
+{
     let mut text = String::from_str(alloc, head)?;
     for _ in 0..TEXT_BYTES {
         if text.len().saturating_add(line.len()) > TEXT_BYTES {
@@ -76,27 +81,54 @@ fn read_long_texts(alloc: Global) -> Result<bool, AllocError> {
     Ok(comments.is_ok() && blanks.is_ok() && labels.is_err())
 }
 
-// Walks along the trace and back until so many labels were taken, and answers their number, or 0 where there is no trace.
-fn walk(alloc: Global, labels: u64) -> Result<u64, AllocError> {
-    let Ok(client) = tso_prog::read(alloc, PROGRAM.as_bytes()) else {
-        return Ok(0);
-    };
-    let Ok(checked) = tso_flow::check(alloc, client) else {
-        return Ok(0);
-    };
-    let Ok(trace) = Trace::read(alloc, &checked, TRACE.as_bytes()) else {
-        return Ok(0);
-    };
-    let mut cursor = Cursor::new(alloc, &trace)?;
-    for _ in 0..labels {
-        if !cursor.forward()? {
-            for _ in 0..trace.labels.len() {
-                let _moved = cursor.back();
-            }
-            let _moved = cursor.forward()?;
-        }
+// Goes back to the first label.
+fn to_start(cursor: &mut Cursor, len: usize)
+    requires { cursor.old.position ≤ len }
+    ensures start { cursor.new.position ≡ 0 }
+    ensures same { (cursor.new.client ≡ cursor.old.client) × (cursor.new.labels ≡ cursor.old.labels) }
+{
+    for _ in 0..len {
+        let _moved = cursor.back();
     }
-    Ok(labels)
+}
+
+// Takes the next label, and behind the last one the first again.
+fn take_next(cursor: &mut Cursor, len: usize) -> Result<(), AllocError>
+    requires some { 0 < len }
+    requires all { length cursor.old.labels ≡ len }
+    ensures taken { OnOk result ((cursor.new.position ≡ cursor.old.position + 1) ⊎ ((cursor.old.position ≡ len) × (cursor.new.position ≡ 1))) }
+    ensures same { (cursor.new.client ≡ cursor.old.client) × (cursor.new.labels ≡ cursor.old.labels) }
+{
+    if !cursor.forward()? {
+        to_start(cursor, len);
+        let _moved = cursor.forward()?;
+    }
+    Ok(())
+}
+
+// Walks along the trace and back until so many labels were taken.
+fn walk(alloc: Global, trace: &Trace, labels: u64) -> Result<(), AllocError>
+    requires { 0 < length trace.now.labels }
+{
+    let mut cursor = Cursor::new(alloc, trace)?;
+    for _ in 0..labels {
+        take_next(&mut cursor, trace.labels.len())?;
+    }
+    Ok(())
+}
+
+// The trace of the program above, if there is one.
+fn trace_of(alloc: Global) -> Option<Trace>
+    ensures some { IfSome result (λ trace. 0 < length trace.labels) }
+{
+    let client = tso_prog::read(alloc, PROGRAM.as_bytes()).ok()?;
+    let checked = tso_flow::check(alloc, client).ok()?;
+    let trace = Trace::read(alloc, &checked, TRACE.as_bytes()).ok()?;
+    if trace.labels.is_empty() {
+        None
+    } else {
+        Some(trace)
+    }
 }
 
 fn main(rt: HostRuntime) -> io::Result<ExitCode> {
@@ -110,8 +142,11 @@ fn main(rt: HostRuntime) -> io::Result<ExitCode> {
         let expected = read_long_texts(alloc)?;
         println!(rt; "long texts: {expected}")?;
     } else {
-        let walked = walk(alloc, labels)?;
-        println!(rt; "labels: {walked}")?;
+        let Some(trace) = trace_of(alloc) else {
+            return Ok(ExitCode::FAILURE);
+        };
+        walk(alloc, &trace, labels)?;
+        println!(rt; "labels: {labels}")?;
     }
     Ok(ExitCode::SUCCESS)
 }

@@ -1,9 +1,12 @@
 //! Worked examples that cross crates: whole program texts through the reader, the flow check and the machine.
 #![tactic(auto)]
 
+mod checked;
 #[cfg(test)]
 mod limits;
 #[cfg(test)]
 mod refusals;
 #[cfg(test)]
 mod texts;
+
+pub use checked::{Refusal, checked_of};

@@ -1,8 +1,8 @@
 //! Programs that the flow check refuses.
 
+use crate::{Refusal, checked_of};
 use std::alloc::Global;
 use std::test::Fail;
-use tso_flow::FlowError;
 use tso_prog::Code;
 
 // Push begins on line 4, so that its first instruction stands on line 5.
@@ -10,14 +10,13 @@ const HEAD: &str = ".capacity 1\n.mode weak\n.array n 1\n.push\n";
 
 const POP: &str = ".end\n.pop\n mov rdx, 0\n mov rax, 0\n ret\n.end\n.thread push 7\n.thread pop\n";
 
-// The refusal of the flow check for a push of these lines, none where there is none or where the reader refuses the text.
+// The refusal of a text with a push of these lines, none where there is none.
 fn refusal(alloc: Global, push: &str) -> Result<Option<(Code, u32)>, Fail> {
     let mut text = String::from_str(alloc, HEAD)?;
     text.push_str(push)?;
     text.push_str(POP)?;
-    let client = tso_prog::read(alloc, text.as_str().as_bytes())?;
-    match tso_flow::check(alloc, client) {
-        Err(FlowError::Refused(fault)) => Ok(Some((fault.code, fault.line))),
+    match checked_of(alloc, text.as_str().as_bytes()) {
+        Err(Refusal::Program(fault)) => Ok(Some((fault.code, fault.line))),
         _ => Ok(None),
     }
 }
