@@ -1,0 +1,9 @@
+//! What holds of every list of calls and returns.
+
+ghost use Rattle.tso_hist.specs.Turns.{HistoriesTell};
+
+/// Where each thread calls and returns in turn, the history that `on_call` and `on_return` make of the events has the
+/// calls and answers of the events, and `precedes` says which return stands before which call.
+pub fn histories_tell()
+    ensures { HistoriesTell }
+{}

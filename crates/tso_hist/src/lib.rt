@@ -1,0 +1,13 @@
+//! Histories of calls: which call of which thread had returned when another one began.
+#![tactic(auto)]
+
+mod call;
+mod exact;
+mod history;
+mod laws;
+#[cfg(test)]
+mod tests;
+
+pub use call::Call;
+pub use history::History;
+pub use laws::histories_tell;
