@@ -1,5 +1,5 @@
 -- An index that is no word is outside each array.
-use Rattle.std.proofs.Common.{◌≡◌, ℕ, zero, suc, ◌+◌, ◌<◌, ◌≤◌, ◌^◌, List, [], ◌∷◌, length, sum_by, slice_get, Option, Some, None, ℤ, pos, negsuc, refl, arith, rules, sym, ap}
+use Rattle.std.proofs.Common.{◌≡◌, ℕ, zero, suc, ◌≤◌, ◌^◌, List, [], ◌∷◌, length, sum_by, slice_get, Option, Some, None, ℤ, pos, negsuc, refl, arith, ap}
 use Rattle.std.specs.Int.{FitsUnsigned, w64}
 use Rattle.std.proofs.lemmas.Bool.{le-ltb}
 use Rattle.std.proofs.lemmas.List.Sums.{sum_by-cons}

@@ -1,8 +1,7 @@
 -- What is put into a queue and taken back leaves it as it was.
-use Rattle.std.proofs.Common.{◌≡◌, ℕ, zero, suc, ◌+◌, ◌-◌, ◌<◌, ◌≤◌, List, [], ◌∷◌, ◌++◌, length, take, drop, refl, sym, ap, arith, rules, add-one, sub-one}
-use Rattle.std.proofs.lemmas.Grind.{common_steps}
+use Rattle.std.proofs.Common.{◌≡◌, ℕ, zero, suc, ◌+◌, ◌-◌, ◌<◌, ◌≤◌, List, [], ◌∷◌, ◌++◌, length, take, drop, refl, ap, arith, add-one}
 use Rattle.tso_machine.specs.declared.buffer.Entry.{Entry}
-use Rattle.tso_machine.specs.Queue.{Queue, pushed, popped, drained, undrained}
+use Rattle.tso_machine.specs.Queue.{Queue, drained, undrained}
 
 take-one_more : {X : Type 0} (d : ℕ) (xs : List X) → take (suc d) xs ≡ take d xs ++ take 1 (drop d xs)
 take-one_more zero [] = refl

@@ -1,5 +1,5 @@
 -- Labels and offers: a label is a step exactly where the thread offers it.
-use Rattle.std.proofs.Common.{◌≡◌, ◌∙◌, ℕ, Bool, true, false, Option, Some, None, slice_get, map, refl, sym, ap, subst}
+use Rattle.std.proofs.Common.{◌≡◌, ◌∙◌, ℕ, false, Some, None, slice_get, map, refl, sym, ap}
 use Rattle.std.specs.Option.{option_map}
 use Rattle.std.proofs.lemmas.Option.{slice_get-map}
 use Rattle.tso_line.specs.declared.instruction.CallKind.TheVariants as calls

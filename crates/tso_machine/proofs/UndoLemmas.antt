@@ -1,5 +1,5 @@
 -- A thread that is changed and changed back leaves the list of threads as it was.
-use Rattle.std.proofs.Common.{◌≡◌, ℕ, zero, suc, ◌<◌, List, [], ◌∷◌, length, Option, Some, None, slice_get, slice_set, slice_index_or, refl, sym, ap, arith, ◌∙◌}
+use Rattle.std.proofs.Common.{◌≡◌, ℕ, zero, suc, ◌<◌, List, [], ◌∷◌, length, Option, Some, None, slice_get, slice_set, slice_index_or, refl, ap, arith, ◌∙◌}
 use Rattle.tso_machine.specs.Changes.{thread_before}
 use Rattle.tso_machine.specs.Undone.{threads_before}
 use Rattle.tso_machine.specs.declared.change.ChangeBack.{ChangeBack}

@@ -1,5 +1,5 @@
 -- What the model sees of a machine after a step.
-use Rattle.std.proofs.Common.{◌≡◌, ℕ, suc, add-one, List, [], ◌∷◌, ◌++◌, map, drop, length, ◌≤◌, Option, Some, None, slice_set, slice_get, refl, sym, ap}
+use Rattle.std.proofs.Common.{◌≡◌, ℕ, suc, add-one, List, [], ◌∷◌, ◌++◌, map, drop, slice_set, refl, ap}
 use Rattle.std.proofs.lemmas.List.{map-set}
 use Rattle.tso_machine.specs.Machines.{entry_view, machine_of, thread_view}
 use Rattle.tso_line.specs.declared.instruction.CallKind.{CallKind}

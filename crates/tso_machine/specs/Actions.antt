@@ -1,5 +1,4 @@
 -- The code's actions, which name registers and operations, as actions of the model.
-use Rattle.std.specs.Prelude.{ℕ}
 use Rattle.tso_prog.specs.Views.{answer_view}
 use Rattle.tso_machine.specs.declared.action.Action.{Action}
 use Rattle.tso_machine.specs.declared.action.Action.TheVariants as code

@@ -1,6 +1,5 @@
 -- Changes of a thread, and back.
-use Rattle.std.specs.Prelude.{◌≡◌, ℕ, ◌+◌, ◌-◌, ◌<◌, ◌^◌, false, List, [], ◌∷◌, ◌++◌, length, take, replicate, slice_set}
-use Rattle.tso_word.specs.declared.Flags.{Flags}
+use Rattle.std.specs.Prelude.{◌≡◌, ℕ, ◌+◌, ◌-◌, ◌<◌, ◌^◌, false, length, replicate, slice_set}
 use Rattle.tso_machine.specs.declared.change.Change.{Change}
 use Rattle.tso_machine.specs.declared.change.Change.TheVariants as changes
 use Rattle.tso_machine.specs.declared.change.ChangeBack.{ChangeBack}
@@ -9,7 +8,6 @@ use Rattle.tso_machine.specs.declared.frame.Frame.{Frame}
 use Rattle.tso_flow.specs.declared.location.ProcedureKind.{ProcedureKind}
 use Rattle.tso_machine.specs.declared.machine.Core.{Core}
 use Rattle.tso_machine.specs.declared.machine.Core.TheVariants.{Idle, Running, Stopped}
-use Rattle.tso_machine.specs.declared.buffer.Entry.{Entry}
 use Rattle.tso_machine.specs.declared.machine.Running.{Running as Call}
 use Rattle.tso_machine.specs.declared.machine.Stage.TheVariants.{Outside, HasRead, HasWritten}
 use Rattle.tso_machine.specs.declared.machine.Thread.{Thread}

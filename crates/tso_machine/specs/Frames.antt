@@ -1,15 +1,16 @@
 -- Frames of running procedures: their words, and their changes.
-use Rattle.std.specs.Prelude.{ℕ, ◌<◌, ◌+◌, List, length, Option, Some, None, slice_index, slice_set}
+use Rattle.std.specs.Prelude.{ℕ, slice_index}
 use Rattle.tso_line.specs.declared.instruction.Register.{Register}
 use Rattle.tso_line.specs.declared.instruction.Source.{Source}
 use Rattle.tso_line.specs.declared.instruction.Source.TheVariants as sources
 use Rattle.tso_machine.specs.declared.frame.Frame.{Frame}
 use Rattle.tso_machine.specs.declared.frame.Patch.{Patch}
-use Rattle.tso_machine.specs.Registers.{number_of, registers_after, taken_after, IsCountOf}
+use Rattle.tso_flow.specs.Accesses.{register_number}
+use Rattle.tso_machine.specs.Registers.{registers_after, taken_after, IsCountOf}
 
 -- the word of a register
 abbrev pub register_of : Frame → Register → ℕ
-register_of f r = slice_index f.registers (number_of r)
+register_of f r = slice_index f.registers (register_number r)
 
 -- the word of a register or an immediate
 abbrev pub value_of : Frame → Source → ℕ

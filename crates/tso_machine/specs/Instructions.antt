@@ -16,12 +16,12 @@ use Rattle.tso_line.specs.declared.instruction.Instruction.{Instruction}
 use Rattle.tso_line.specs.declared.instruction.Instruction.TheVariants as the
 use Rattle.tso_prog.specs.declared.client.Client.{Client}
 use Rattle.tso_machine.specs.declared.frame.Frame.{Frame}
+use Rattle.tso_flow.specs.Accesses.{register_number}
 use Rattle.tso_flow.specs.declared.location.ProcedureKind.{ProcedureKind}
 use Rattle.tso_flow.specs.declared.location.ProcedureKind.TheVariants as procedures
 use Rattle.tso_machine.specs.Activations.{Activation, activation}
 use Rattle.tso_machine.specs.Frames.{register_of, value_of}
 use Rattle.tso_machine.specs.Places.{operand_place}
-use Rattle.tso_machine.specs.Registers.{number_of}
 use Rattle.tso_model.specs.Programs.{Action, Answer, Silent, Load, Store, Barrier, Locked, Ret, Fail, Cut, Refused, Done, Value, OutOfRange, FalseAssertion, BadAnswer}
 
 -- ---- frames after an instruction
@@ -34,7 +34,7 @@ abbrev pub advanced : Frame → Frame
 advanced f = at_position (f.pc + 1) f
 
 abbrev pub with_register : Register → ℕ → Frame → Frame
-with_register r w f = record f { registers = slice_set f.registers (number_of r) w }
+with_register r w f = record f { registers = slice_set f.registers (register_number r) w }
 
 abbrev pub with_flags : Flags → Frame → Frame
 with_flags flags f = record f { flags = flags }

@@ -1,5 +1,5 @@
 -- The label that a thread has next, and the machine after it.
-use Rattle.std.specs.Prelude.{◌≡◌, ℕ, List, Option, Some, None, slice_set}
+use Rattle.std.specs.Prelude.{ℕ, List, Option, Some, None, slice_set}
 use Rattle.tso_machine.specs.Activations.{Activation}
 use Rattle.tso_machine.specs.Changes.{thread_after}
 use Rattle.tso_machine.specs.Machines.{kind_view, machine_of}

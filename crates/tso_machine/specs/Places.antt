@@ -1,5 +1,5 @@
 -- Cells of memory: the arrays stand one after another, and a cell is its place among all their words.
-use Rattle.std.specs.Prelude.{ℕ, ◌+◌, nat_lt, if◌then◌else◌, List, [], ◌∷◌, ◌++◌, length, take, sum_by, slice_get, Option, Some, None, ℤ, pos, negsuc, ◌+ℤ◌}
+use Rattle.std.specs.Prelude.{ℕ, ◌+◌, nat_lt, if◌then◌else◌, List, length, take, sum_by, slice_get, Option, Some, None, ℤ, pos, negsuc, ◌+ℤ◌}
 use Rattle.std.specs.List.{flat_map}
 use Rattle.tso_line.specs.declared.instruction.Register.{Register}
 use Rattle.tso_line.specs.declared.instruction.Address.{Address}

@@ -1,5 +1,5 @@
 -- Store buffers as queues: the entries that were drained, and those that were not.
-use Rattle.std.specs.Prelude.{ℕ, ◌-◌, List, [], ◌∷◌, ◌++◌, length, take, drop}
+use Rattle.std.specs.Prelude.{◌-◌, List, [], ◌∷◌, ◌++◌, length, take, drop}
 use Rattle.tso_machine.specs.declared.buffer.Entry.{Entry}
 
 pub record Queue : Type 0 where

@@ -4,7 +4,7 @@ ghost use Rattle.std.specs.Prelude.{◌≡◌, ◌+◌, ◌<◌, length, map, re
 ghost use Rattle.tso_machine.specs.Initial.{idle_thread, thread_count};
 ghost use Rattle.tso_machine.specs.Machines.{machine_of, thread_view};
 ghost use Rattle.tso_machine.specs.Places.{first_memory};
-ghost use Rattle.tso_machine.specs.Programs.{program_of};
+ghost use Rattle.tso_machine.specs.Programs.{calls_of, program_of};
 ghost use Rattle.tso_model.specs.Labels.{first_machine};
 
 use crate::buffer::Buffer;
@@ -25,9 +25,10 @@ fn first_memory(alloc: Global, arrays: &[Array]) -> Result<Seq<u64>, AllocError>
     Ok(Seq::from_vec(words))
 }
 
-// How many threads the machine has, the prologue's too where there is one.
-fn thread_count(client: &Client) -> usize
-    ensures { result ≡ thread_count client.now.threads client.now.prologue }
+/// How many threads the machine has, the prologue's too where there is one.
+pub fn thread_count(client: &Client) -> usize
+    ensures is { result ≡ thread_count client.now.threads client.now.prologue }
+    ensures calls { result ≡ length (calls_of client.now) }
 {
     if client.prologue.is_empty() {
         client.threads.len()

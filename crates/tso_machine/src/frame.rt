@@ -1,7 +1,8 @@
 //! What a running thread knows of itself.
 
 ghost use Rattle.std.specs.Prelude.{◌≡◌, ◌<◌, length, slice_index_or, IfSome, IfNone};
-ghost use Rattle.tso_machine.specs.Registers.{number_of, registers_after, IsCountOf, taken_after};
+ghost use Rattle.tso_flow.specs.Accesses.{register_number};
+ghost use Rattle.tso_machine.specs.Registers.{registers_after, IsCountOf, taken_after};
 
 use tso_line::{Register, Source};
 use tso_list::Seq;
@@ -99,7 +100,7 @@ fn write_count(taken: &mut Seq<u8>, write: Option<(usize, u8)>) -> Option<(usize
 
 // The number of a register in the order of `Register`.
 fn number(register: Register) -> usize
-    ensures is { result ≡ number_of register }
+    ensures is { result ≡ register_number register }
     ensures below { result < 15 }
 {
     register as usize

@@ -22,7 +22,7 @@ pub use back::Undo;
 pub use buffer::{Buffer, Entry};
 pub use calls::{calls_of, next_call};
 pub use change::{Change, ChangeBack};
-pub use first::initial;
+pub use first::{initial, thread_count};
 pub use frame::{Frame, Patch};
 pub use label::{Label, LabelKind};
 pub use laws::{

@@ -1,6 +1,5 @@
-use Rattle.std.proofs.Common.{◌≡◌, ◌<◌, length, Some, None, slice_get, refl, sym, arith, ap}
+use Rattle.std.proofs.Common.{◌≡◌, length, sym, arith}
 use Rattle.tso_machine.proofs.CallLists.{calls_there, calls_last, calls_past, none_past}
-use Rattle.tso_machine.specs.Programs.{calls_in}
 use Rattle.tso_machine.proofs.calls.calls_of.Goals as goal
 
 pub returns-in-Some : goal.returns-in-Some

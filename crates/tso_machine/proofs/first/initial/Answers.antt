@@ -8,6 +8,6 @@ pub returns : goal.returns
 returns c =
     let memory = c.in_ok-first_memory.ensures ∙ ap first_memory c.as_slice.ensures in
     let threads =
-    c.in_ok-idle_threads.ensures ∙ ap (λ n. replicate n idle_thread) c.thread_count.ensures
+    c.in_ok-idle_threads.ensures ∙ ap (λ n. replicate n idle_thread) c.thread_count.ensures.is
     ∙ sym (first_threads c.args.checked.now.client.threads c.args.checked.now.client.prologue) in
     λ i. record { memory = memory i; lock = None; threads = threads i }

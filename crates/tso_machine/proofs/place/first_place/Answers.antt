@@ -1,4 +1,4 @@
-use Rattle.std.proofs.Common.{arith, ◌≤◌, length, sum_by, take}
+use Rattle.std.proofs.Common.{arith, length}
 use Rattle.std.proofs.lemmas.List.Sums.{sum_by-take-le}
 use Rattle.tso_prog.specs.declared.client.Array.{Array}
 use Rattle.tso_machine.proofs.place.first_place.Goals as goal

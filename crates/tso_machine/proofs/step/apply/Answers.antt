@@ -1,4 +1,4 @@
-use Rattle.std.proofs.Common.{◌≡◌, subst, sym}
+use Rattle.std.proofs.Common.{subst, sym}
 use Rattle.tso_machine.specs.Machines.{label_of, machine_of}
 use Rattle.tso_machine.specs.Programs.{program_of}
 use Rattle.tso_machine.specs.declared.machine.Machine.{Machine}

@@ -1,8 +1,6 @@
-use Rattle.std.proofs.Common.{◌≡◌, ◌<◌, length, slice_get, slice_set, slice_index_or, Some, subst, sym, arith}
+use Rattle.std.proofs.Common.{◌≡◌, slice_get, slice_set, Some, subst, sym}
 use Rattle.std.proofs.lemmas.List.{length-set}
 use Rattle.tso_machine.specs.Changes.{FitsBack}
-use Rattle.tso_machine.specs.Undone.{memory_before, threads_before}
-use Rattle.tso_machine.specs.declared.machine.Machine.{Machine}
 use Rattle.tso_machine.specs.declared.machine.Thread.{Thread}
 use Rattle.tso_machine.proofs.UndoLemmas.{changed_back, get_changed}
 use Rattle.tso_machine.proofs.step.perform.Goals as goal
