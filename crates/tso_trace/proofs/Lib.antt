@@ -1,3 +1,4 @@
+mod HistoryLemmas
 pub mod EndLemmas
 pub mod RunLemmas
 pub mod WalkLemmas

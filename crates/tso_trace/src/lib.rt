@@ -5,6 +5,7 @@ mod cell;
 mod cursor;
 mod fault;
 mod grammar;
+mod history;
 mod run;
 mod spelling;
 #[cfg(test)]

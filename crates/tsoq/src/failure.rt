@@ -1,5 +1,8 @@
 //! Why a command does not succeed, and its status.
 
+ghost use Rattle.std.specs.Prelude.{◌≡◌};
+ghost use Rattle.tsoq.specs.Statuses.{status_of};
+
 use std::alloc::{AllocError, AllocFailed};
 use std::fmt;
 use tso_flow::FlowError;
@@ -25,7 +28,9 @@ pub enum Failure {
 
 impl Failure {
     /// The status with which the program ends.
-    pub fn status(&self) -> u8 {
+    pub fn status(&self) -> u8
+        ensures { result ≡ status_of self.now }
+    {
         match self {
             Failure::Program(_) => 2,
             Failure::Trace(_) => 3,

@@ -1,6 +1,8 @@
 //! Files by their paths.
 
-use std::alloc::Global;
+ghost use Rattle.std.specs.Prelude.{◌≤◌, vec_len, IfOk};
+
+use std::alloc::{AllocError, Global};
 use std::io;
 use std::io::{Read, Write};
 
@@ -17,14 +19,33 @@ pub trait Files {
     fn create(&mut self, path: &str) -> io::Result<Self::Writer>;
 }
 
+/// Why a file gave no bytes.
+#[derive(Debug, Drop)]
+pub enum FileFailure {
+    /// It could not be opened, or a read of it failed.
+    Unreadable,
+    /// A growth was refused.
+    Memory,
+}
+
+impl From<AllocError> for FileFailure {
+    fn from(_e: AllocError) -> FileFailure {
+        FileFailure::Memory
+    }
+}
+
 /// The first `limit` bytes of a file, all of it where it has fewer.
 pub fn read_up_to<F: Files>(
     alloc: Global,
     files: &mut F,
     path: &str,
     limit: usize,
-) -> io::Result<Vec<u8>> {
-    let mut reader = files.open(path)?;
+) -> Result<Vec<u8>, FileFailure>
+    ensures short { IfOk result (λ bytes. vec_len bytes ≤ limit) }
+{
+    let Ok(mut reader) = files.open(path) else {
+        return Err(FileFailure::Unreadable);
+    };
     let mut bytes = Vec::new(alloc);
     let mut buffer = [0u8; 4096];
     for _ in 0..u64::MAX {
@@ -33,7 +54,9 @@ pub fn read_up_to<F: Files>(
         if room == 0 {
             break;
         }
-        let count = reader.read(&mut buffer[..room])?;
+        let Ok(count) = reader.read(&mut buffer[..room]) else {
+            return Err(FileFailure::Unreadable);
+        };
         if count == 0 {
             break;
         }

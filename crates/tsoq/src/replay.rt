@@ -1,5 +1,7 @@
 //! The printed replay of a trace.
 
+ghost use Rattle.std.specs.Prelude.{◌≡◌, ◌+◌, ◌≤◌, length, IfOk, OnOk};
+
 use crate::failure::Failure;
 use std::alloc::Global;
 use std::io::Write;
@@ -107,16 +109,39 @@ fn put_violation<W: Write>(alloc: Global, out: &mut W, trace: &Trace) -> Result<
     }
 }
 
-// The cursor behind the last label, and then back to this one.
-fn walked<'a>(alloc: Global, trace: &'a Trace, to: usize) -> Result<Cursor<'a>, Failure> {
-    let mut cursor = Cursor::new(alloc, trace)?;
-    let len = trace.labels.len();
-    for _ in 0..len {
+// Takes so many labels.
+fn go_forward(cursor: &mut Cursor, count: usize) -> Result<(), Failure>
+    requires { cursor.old.position + count ≤ length cursor.old.labels }
+    ensures at { OnOk result (cursor.new.position ≡ cursor.old.position + count) }
+    ensures same { (cursor.new.client ≡ cursor.old.client) × (cursor.new.labels ≡ cursor.old.labels) }
+{
+    for _ in 0..count {
         let _moved = cursor.forward()?;
     }
-    for _ in to..len {
+    Ok(())
+}
+
+// Takes so many labels back.
+fn go_back(cursor: &mut Cursor, count: usize)
+    requires { count ≤ cursor.old.position }
+    ensures at { cursor.new.position + count ≡ cursor.old.position }
+    ensures same { (cursor.new.client ≡ cursor.old.client) × (cursor.new.labels ≡ cursor.old.labels) }
+{
+    for _ in 0..count {
         let _moved = cursor.back();
     }
+}
+
+// The cursor behind the last label, and then back to this one.
+fn walked<'a>(alloc: Global, trace: &'a Trace, to: usize) -> Result<Cursor<'a>, Failure>
+    requires { to ≤ length trace.now.labels }
+    ensures at { IfOk result (λ c. c.position ≡ to) }
+    ensures same { IfOk result (λ c. (c.client ≡ trace.entry.now.checked.client) × (c.labels ≡ trace.entry.now.labels)) }
+{
+    let mut cursor = Cursor::new(alloc, trace)?;
+    let len = trace.labels.len();
+    go_forward(&mut cursor, len)?;
+    go_back(&mut cursor, len - to);
     Ok(cursor)
 }
 

@@ -2,7 +2,7 @@
 
 use crate::command::{Misuse, Request, request_of};
 use crate::failure::Failure;
-use crate::files::{Files, read_up_to};
+use crate::files::{FileFailure, Files, read_up_to};
 use crate::replay::print_replay;
 use std::alloc::Global;
 use std::io::Write;
@@ -20,7 +20,8 @@ fn read_file<F: Files>(
 ) -> Result<Vec<u8>, Failure> {
     match read_up_to(alloc, files, path, limit) {
         Ok(bytes) => Ok(bytes),
-        Err(_) => Err(Failure::CannotRead(String::from_str(alloc, path)?)),
+        Err(FileFailure::Unreadable) => Err(Failure::CannotRead(String::from_str(alloc, path)?)),
+        Err(FileFailure::Memory) => Err(Failure::Memory),
     }
 }
 

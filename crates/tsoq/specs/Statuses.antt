@@ -1,0 +1,13 @@
+-- The status with which the program ends.
+use Rattle.std.specs.Prelude.{ℕ}
+use Rattle.tsoq.specs.declared.failure.Failure.{Failure}
+use Rattle.tsoq.specs.declared.failure.Failure.TheVariants.{Usage, Program, Trace, CannotRead, CannotPrint, Memory}
+
+-- where it does not succeed
+abbrev pub status_of : Failure → ℕ
+status_of (Program fault) = 2
+status_of (Trace fault) = 3
+status_of Memory = 5
+status_of (CannotRead path) = 6
+status_of CannotPrint = 6
+status_of (Usage text) = 64
