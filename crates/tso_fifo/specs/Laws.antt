@@ -1,0 +1,27 @@
+-- What holds of all histories and their orders.
+use Rattle.std.specs.Prelude.{ℕ, ◌↔◌, List, ◌++◌}
+use Rattle.tso_fifo.specs.Orders.{HasOrder, IsOrderOf}
+use Rattle.tso_hist.specs.declared.call.Call.{Call}
+use Rattle.tso_hist.specs.Turns.{IsHistoryOf, IsInTurn}
+use Rattle.tso_hist.specs.Views.{history_view}
+use Rattle.tso_line.specs.declared.instruction.Mode.{Mode}
+use Rattle.tso_model.specs.Events.{Event}
+use Rattle.tso_model.specs.Linear.{IsLinearization, Placed}
+use Rattle.tso_model.specs.Objects.{Queue}
+use Rattle.tso_model.specs.Strictness.{HistoryAtLeast}
+use Rattle.tso_prog.specs.Views.{mode_view}
+
+-- a history's orders are the linearizations of the events that made it
+abbrev pub OrdersAreLinearizations : Type 0
+OrdersAreLinearizations = (mode : Mode) (capacity n : ℕ) (events : List Event) (h : List (List Call)) (order : List Placed) → IsInTurn n events → IsHistoryOf n events h →
+    IsOrderOf mode capacity h order ↔ IsLinearization (Queue (mode_view mode) capacity) events order
+
+-- a history that a beginning of the events made has an order where the whole one has
+abbrev pub BeginningsAreLinearizable : Type 0
+BeginningsAreLinearizable = (mode : Mode) (capacity n : ℕ) (events more : List Event) (h whole : List (List Call)) → IsInTurn n (events ++ more) → IsHistoryOf n events h → IsHistoryOf n (events ++ more) whole →
+    HasOrder mode capacity whole → HasOrder mode capacity h
+
+-- an order of the stricter history is one of the looser
+abbrev pub StricterOrdersServe : Type 0
+StricterOrdersServe = (mode : Mode) (capacity : ℕ) (strict loose : List (List Call)) (order : List Placed) → HistoryAtLeast (history_view strict) (history_view loose) →
+    IsOrderOf mode capacity strict order → IsOrderOf mode capacity loose order

@@ -1,0 +1,4 @@
+pub mod Check
+pub mod Contents
+pub mod Laws
+pub mod Orders

@@ -1,0 +1,12 @@
+//! Orders of a history's calls that a bounded queue explains.
+#![tactic(auto)]
+
+mod check;
+mod contents;
+mod laws;
+mod order;
+mod queue;
+
+pub use check::is_linearization;
+pub use laws::{beginnings_are_linearizable, orders_are_linearizations, stricter_orders_serve};
+pub use order::{Order, Placed};
