@@ -5,6 +5,8 @@ mod checked;
 #[cfg(test)]
 mod limits;
 #[cfg(test)]
+mod programs;
+#[cfg(test)]
 mod refusals;
 #[cfg(test)]
 mod texts;

@@ -19,13 +19,13 @@ use Rattle.tso_trace.specs.Runs.{IsErrorTrace}
 use Rattle.tso_trace.specs.Walks.{IsAt}
 use Rattle.tso_trace.proofs.WalkLemmas.{stands}
 
-same_machine : (p : Program Activation) (m : Machine Activation) (l : model.Label) (a b : Machine Activation) → Step p m l a → Step p m l b → a ≡ b
+pub same_machine : (p : Program Activation) (m : Machine Activation) (l : model.Label) (a b : Machine Activation) → Step p m l a → Step p m l b → a ≡ b
 same_machine p m (By i k) a b s t =
     let e = (steps_are_offers p m i k a).0 s in
     let f = (steps_are_offers p m i k b).0 t in
     ap (λ (n : Next Activation). n.machine) (same_Some _ _ (sym e ∙ f))
 
-goes_on : (p : Program Activation) (first : Machine Activation) (ls : List Label) (k : ℕ) (l : Label) (end m : Machine Activation)
+pub goes_on : (p : Program Activation) (first : Machine Activation) (ls : List Label) (k : ℕ) (l : Label) (end m : Machine Activation)
     → Run p first (map label_of ls) end → Run p first (map label_of (take k ls)) m → slice_get ls k ≡ Some l → IsNoStep p m (label_of l) → ⊥
 goes_on p first [] k l end m whole part found none = none-some l found
 goes_on p first (h ∷ ls) zero l end m whole part found none =

@@ -1,4 +1,16 @@
-mod HistoryLemmas
+pub mod AccessLemmas
+pub mod CellLemmas
 pub mod EndLemmas
+pub mod GoodLemmas
+pub mod HistoryLemmas
+pub mod InsideLemmas
+pub mod KindLemmas
+pub mod LawLemmas
+pub mod LineLemmas
+pub mod NameLemmas
+pub mod Numbers
+pub mod PrintLemmas
 pub mod RunLemmas
+pub mod SameLemmas
+pub mod TextLemmas
 pub mod WalkLemmas

@@ -1,4 +1,4 @@
--- Runs of a client's labels (Sewell and others 2010), and the faults in them.
+-- Runs of a client's labels (Sewell and others 2010), and which of them are good (Herlihy and Wing 1990).
 use Rattle.std.specs.Prelude.{◌≡◌, ℕ, ◌+◌, ◌<◌, Bool, false, true, List, [], ◌∷◌, length, map, take, Option, Some, None, slice_get}
 use Rattle.std.specs.List.{find, list_any}
 use Rattle.std.specs.Option.{option_map}
@@ -11,7 +11,10 @@ use Rattle.tso_machine.specs.Stepping.{IsNoStep}
 use Rattle.tso_machine.specs.declared.label.Label.{Label}
 use Rattle.tso_machine.specs.declared.label.LabelKind.{LabelKind}
 use Rattle.tso_machine.specs.declared.label.LabelKind.TheVariants as kinds
+use Rattle.tso_model.specs.Certificate.{IsGood}
 use Rattle.tso_model.specs.Labels.{Machine, Run, first_machine}
+use Rattle.tso_model.specs.Objects.{Object, Queue}
+use Rattle.tso_prog.specs.Views.{mode_view}
 use Rattle.tso_trace.specs.declared.trace.Violation.{Violation}
 use Rattle.tso_trace.specs.declared.trace.Violation.TheVariants as violations
 use Rattle.tso_trace.specs.declared.fault.TraceFault.{TraceFault}
@@ -53,14 +56,22 @@ abbrev pub violation_of : Option ℕ → Violation
 violation_of (Some thread) = violations.Fault thread
 violation_of None = violations.NoOrder
 
--- the run is an error: a fault stands in it
+-- the bounded queue whose answers the client's calls are held against
+abbrev pub queue_of : Client → Object
+queue_of c = Queue (mode_view c.mode) c.capacity
+
+-- the run is good: no fault stands in it, and its calls and returns have a linearization
+abbrev pub IsGoodRun : Client → List Label → Type 0
+IsGoodRun c labels = IsGood (queue_of c) (map label_of labels)
+
+-- the run is an error: it is not good
 pub record IsErrorTrace (c : Client) (labels : List Label) : Type 0 where
   pub run : IsRun c labels
-  pub fault : has_fault labels ≡ true
+  pub errs : IsGoodRun c labels → ⊥
 
 -- why a list of labels is refused as a trace
 abbrev pub IsTraceFault : Client → List Label → TraceFault → Type 0
 IsTraceFault c labels (NotAStep number) = IsFirstNonStep c labels number
-IsTraceFault c labels NoError = IsRun c labels × (has_fault labels ≡ false)
+IsTraceFault c labels NoError = IsRun c labels × IsGoodRun c labels
 IsTraceFault c labels (Grammar line) = ⊥
 IsTraceFault c labels Memory = Unit {0}

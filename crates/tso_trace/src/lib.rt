@@ -3,9 +3,15 @@
 
 mod cell;
 mod cursor;
+#[cfg(test)]
+mod damaged;
 mod fault;
+mod good;
 mod grammar;
 mod history;
+mod laws;
+mod parts;
+mod reading;
 mod run;
 mod spelling;
 #[cfg(test)]
@@ -15,5 +21,9 @@ mod trace;
 pub use cell::{Cell, cell_of};
 pub use cursor::Cursor;
 pub use fault::TraceFault;
+pub use laws::{
+    back_is_inverse, cells_are_named, lines_are_unique, places_show_one_state,
+    printed_traces_are_read, texts_are_unique,
+};
 pub use spelling::push_cell;
 pub use trace::{Trace, Violation};

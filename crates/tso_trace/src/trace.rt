@@ -1,12 +1,20 @@
 //! Traces.
 
-ghost use Rattle.std.specs.Prelude.{◌≡◌, ◌<◌, ◌≤◌, length, IfOk, IfErr};
-ghost use Rattle.tso_trace.specs.Runs.{first_fault, violation_of, IsErrorTrace, IsTraceFault};
+ghost use Rattle.std.specs.Prelude.{◌≡◌, ◌<◌, ◌≤◌, ◌-◌, length, map, slice_get, string_bytes, IfOk, IfErr, IfSome, IsTrue, OnOk};
+ghost use Rattle.std.specs.List.{list_all};
+ghost use Rattle.std.specs.Io.KnownBytes.{Appends};
+ghost use Rattle.tso_trace.specs.Grammar.{is_proper, line_text, trace_text, IsReadFault, IsTextOf};
+ghost use Rattle.tso_machine.specs.Machines.{label_of};
+ghost use Rattle.tso_model.specs.Events.{events_of};
+ghost use Rattle.tso_model.specs.Linear.{IsLinearizable};
+ghost use Rattle.tso_trace.specs.Runs.{first_fault, queue_of, violation_of, IsErrorTrace, IsTraceFault};
+ghost use Rattle.tso_trace.specs.declared.trace.Violation.TheVariants.{NoOrder};
 
 use crate::fault::TraceFault;
+use crate::good::is_good;
 use crate::grammar::{HEADER, labels_of};
-use crate::run::{first_fault, has_fault, take_steps};
-use crate::spelling::line_of;
+use crate::run::{first_fault, take_steps};
+use crate::spelling::{line_of, print_lines};
 use std::alloc::{AllocError, Global};
 use std::io;
 use std::io::Write;
@@ -23,7 +31,8 @@ pub enum Violation {
     NoOrder,
 }
 
-/// A run of a client that errs: labels that are steps one after the other, in which a thread faults.
+/// A run of a client that errs: labels that are steps one after the other, in which a thread faults or whose calls and
+/// returns have no linearization.
 #[derive(Debug, Drop)]
 pub struct Trace {
     pub checked: Checked,
@@ -34,8 +43,7 @@ pub struct Trace {
 impl Trace {
     /// The trace of these labels.
     ///
-    /// Errors: `NotAStep` with the first label that is no step; `NoError` where all are steps and nothing is wrong with the
-    /// run; `Memory`.
+    /// Errors: `NotAStep` with the first label that is no step; `NoError` where all are steps and the run is good; `Memory`.
     pub fn from_labels(
         alloc: Global,
         checked: &Checked,
@@ -46,7 +54,7 @@ impl Trace {
         ensures refused { IfErr result (IsTraceFault checked.now.client labels.items) }
     {
         take_steps(alloc, checked, &labels)?;
-        if !has_fault(&labels) {
+        if is_good(alloc, &checked.client, &labels)? {
             return Err(TraceFault::NoError);
         }
         Ok(Trace {
@@ -60,7 +68,9 @@ impl Trace {
     /// Errors: `Grammar` at the earliest line that is not of the grammar, before all others; then as `from_labels`.
     pub fn read(alloc: Global, checked: &Checked, text: &[u8]) -> Result<Trace, TraceFault>
         ensures client { IfOk result (λ t. t.checked.client ≡ checked.now.client) }
+        ensures labels { IfOk result (λ t. IsTextOf checked.now.client.arrays text.now t.labels) }
         ensures erring { IfOk result (λ t. ∥ IsErrorTrace checked.now.client t.labels ∥₁) }
+        ensures refused { IfErr result (IsReadFault checked.now.client text.now) }
     {
         let labels = labels_of(alloc, &checked.client, text)?;
         Trace::from_labels(alloc, checked, labels)
@@ -70,6 +80,7 @@ impl Trace {
     pub fn line(&self, alloc: Global, number: usize) -> Result<String, AllocError>
         requires above { 0 < number }
         requires there { number ≤ length self.now.labels }
+        ensures { IfOk result (λ line. IfSome (slice_get self.now.labels (number - 1)) (λ l. string_bytes line ≡ line_text self.now.checked.client.arrays l)) }
     {
         line_of(
             alloc,
@@ -79,20 +90,23 @@ impl Trace {
     }
 
     /// Writes the text of the trace. After an error a beginning of it may have gone out.
-    pub fn print<W: Write>(&self, alloc: Global, out: &mut W) -> io::Result<()> {
-        out.write_all(HEADER.as_bytes())?;
-        out.write_all(b"\n")?;
-        for label in self.labels.as_slice() {
-            let line = line_of(alloc, self.checked.client.arrays.as_slice(), *label)?;
-            out.write_all(line.as_bytes())?;
-            out.write_all(b"\n")?;
-        }
-        Ok(())
+    pub fn print<W: Write>(&self, alloc: Global, out: &mut W) -> io::Result<()>
+        ensures proper { OnOk result (IsTrue (list_all (is_proper self.now.checked.client.arrays) self.now.labels)) }
+        ensures text { OnOk result (Appends (W.contents out.old) (W.contents out.new) (trace_text self.now.checked.client.arrays self.now.labels)) }
+    {
+        out.write_all(HEADER)?;
+        print_lines(
+            alloc,
+            out,
+            self.checked.client.arrays.as_slice(),
+            self.labels.as_slice(),
+        )
     }
 
-    /// What is wrong with the run: its first fault.
+    /// What is wrong with the run: its first fault, or that no order of its calls is allowed.
     pub fn violation(&self) -> Violation
-        ensures { result ≡ violation_of (first_fault self.now.labels) }
+        ensures is { result ≡ violation_of (first_fault self.now.labels) }
+        ensures no_order { result ≡ NoOrder → IsLinearizable (queue_of self.now.checked.client) (events_of (map label_of self.now.labels)) → ⊥ }
     {
         match first_fault(self.labels.as_slice()) {
             Some(thread) => Violation::Fault(thread),

@@ -95,6 +95,89 @@ thread 0 at push 1 locked
 thread 1 idle
 ";
 
+// A queue after Lamport, with no fence behind the store of tail.
+const LAMPORT: &str = ".capacity 2
+.mode strict
+.array head 1
+.array tail 1
+.array buf 2
+.push
+  mov rcx, qword ptr [tail]
+  mov rbx, qword ptr [head]
+  mov rax, rcx
+  sub rax, rbx
+  cmp rax, 2
+  je full
+  mov rdx, rcx
+  and rdx, 1
+  mov qword ptr [buf + rdx*8], rdi
+  inc rcx
+  mov qword ptr [tail], rcx
+  mov rax, 1
+  ret
+full:
+  mov rax, 0
+  ret
+.end
+.pop
+  mov rcx, qword ptr [head]
+  mov rbx, qword ptr [tail]
+  cmp rcx, rbx
+  je empty
+  mov rsi, rcx
+  and rsi, 1
+  mov rdx, qword ptr [buf + rsi*8]
+  inc rcx
+  mov qword ptr [head], rcx
+  mov rax, 1
+  ret
+empty:
+  mov rdx, 0
+  mov rax, 0
+  ret
+.end
+.thread push 7
+.thread pop
+";
+
+// A push of 7 returns while its stores are still in its buffer, and a pop that begins after that finds the queue empty.
+const LAMPORT_TRACE: &str = "tso-trace 1
+0 call push 7
+0 read tail[0] = 0
+0 read head[0] = 0
+0 reg
+0 reg
+0 reg
+0 reg
+0 reg
+0 reg
+0 write buf[0] = 7
+0 reg
+0 write tail[0] = 1
+0 reg
+0 return done
+1 call pop
+1 read head[0] = 0
+1 read tail[0] = 0
+1 reg
+1 reg
+1 reg
+1 reg
+1 return refused
+";
+
+const LAMPORT_END: &str = "state after 22
+head[0] = 0
+tail[0] = 0
+buf[0] = 0
+buf[1] = 0
+thread 0 idle
+  buffer buf[0] = 7
+  buffer tail[0] = 1
+thread 1 idle
+violation: no order
+";
+
 // A program file and a trace file, called `program` and `trace`.
 struct MemoryFiles<'a> {
     program: &'a [u8],
@@ -236,6 +319,24 @@ fn replays_go_back(rt: HostRuntime) -> Result<(), Fail> {
     let whole = replayed(alloc, OWN_STORE, OWN_STORE_TRACE)?;
     assert_eq!(rt; past.out.as_slice(), whole.out.as_slice());
     Ok(())
+}
+
+#[test]
+fn late_stores_leave_no_order(rt: HostRuntime) -> Result<(), Fail> {
+    let alloc = rt.alloc();
+    let whole = replayed(alloc, LAMPORT, LAMPORT_TRACE)?;
+    assert_eq!(rt; whole.status, 0);
+    assert!(rt; whole.out.ends_with(LAMPORT_END.as_bytes()));
+    let weak = changed(alloc, LAMPORT, ".mode strict", ".mode weak")?;
+    refuses(&rt, alloc, weak.as_str(), LAMPORT_TRACE, 3, "T02\n")?;
+    let called_before = changed(alloc, LAMPORT_TRACE, "1 call pop\n", "")?;
+    let called_before = changed(
+        alloc,
+        called_before.as_str(),
+        "0 return done\n",
+        "1 call pop\n0 return done\n",
+    )?;
+    refuses(&rt, alloc, LAMPORT, called_before.as_str(), 3, "T02\n")
 }
 
 #[test]
