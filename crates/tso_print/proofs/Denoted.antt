@@ -1,26 +1,24 @@
 -- A printed text denotes its client.
-use Rattle.std.proofs.Common.{◌≡◌, ℕ, ◌+◌, ◌≤◌, Bool, true, false, List, [], ◌∷◌, length, Option, None, Result, Ok, Err, refl, sym, ap, ◌∙◌, arith}
-use Rattle.std.specs.Prelude.{nat_lt, sum_by, IsTrue}
+use Rattle.std.proofs.Common.{◌≡◌, ℕ, ◌+◌, false, List, [], ◌∷◌, length, Result, Ok, Err, refl, sym, ap, ◌∙◌, arith}
+use Rattle.std.specs.Prelude.{nat_lt, sum_by}
 use Rattle.std.proofs.lemmas.List.Sums.{sum_by-cons}
-use Rattle.tso_text.specs.Lexing.{first_bad_line, tokens_of}
+use Rattle.tso_text.specs.Lexing.{tokens_of}
 use Rattle.tso_line.specs.declared.instruction.CallKind.{CallKind}
 use Rattle.tso_prog.specs.declared.client.Array.{Array}
 use Rattle.tso_prog.specs.declared.client.Client.{Client}
 use Rattle.tso_prog.specs.declared.fault.Fault.{Fault}
-use Rattle.tso_prog.specs.declared.fault.ReadError.{ReadError}
 use Rattle.tso_prog.specs.declared.fault.ReadError.TheVariants.{Refused, Memory}
 use Rattle.tso_prog.specs.Client.{client}
 use Rattle.tso_prog.specs.Clients.{ClientOf}
 use Rattle.tso_prog.specs.Contents.{Content}
 use Rattle.tso_prog.specs.Finish.{finished}
-use Rattle.tso_prog.specs.Program.{◌>>=◌, Gives, Numbered, read_from, lines_of}
+use Rattle.tso_prog.specs.Program.{◌>>=◌, Numbered, read_from, lines_of}
 use Rattle.tso_prog.specs.Start.{start}
-use Rattle.tso_prog.specs.Text.{bytes_or_lines, program_of}
-use Rattle.tso_print.specs.Denotes.{Denotes, IsReadAs, ReadsBack}
+use Rattle.tso_prog.specs.Text.{program_of}
+use Rattle.tso_print.specs.Denotes.{Denotes, ReadsBack}
 use Rattle.tso_print.specs.Layout.{client_lines, printed}
-use Rattle.tso_print.specs.Pieces.{text_of}
-use Rattle.tso_print.proofs.Placing.{numbered_from, lines_read}
-use Rattle.tso_print.proofs.Reading.{Reads, not_over, words_in}
+use Rattle.tso_print.proofs.Placing.{lines_read}
+use Rattle.tso_print.proofs.Reading.{not_over, words_in}
 use Rattle.tso_print.proofs.Whole.{IsSound, calls_in, lines_said, client_reads}
 use Rattle.tso_print.proofs.Said.{client_are}
 use Rattle.tso_print.proofs.Sizes.{printed_bytes, printed_fits}

@@ -1,16 +1,15 @@
 -- A number that is printed in decimal is read as itself.
-use Rattle.std.proofs.Common.{◌≡◌, ℕ, zero, suc, ◌+◌, ◌*◌, ◌-◌, ◌^◌, ◌<◌, ◌≤◌, Bool, true, false, cond, List, [], ◌∷◌, length, get_or, Option, Some, None, refl, sym, ap, subst, ◌∙◌, eqb, ltb, arith, rules}
+use Rattle.std.proofs.Common.{◌≡◌, ℕ, zero, suc, ◌+◌, ◌*◌, ◌-◌, ◌^◌, ◌<◌, true, false, List, [], ◌∷◌, length, get_or, Some, refl, arith, rules}
 use Rattle.std.specs.Prelude.{◌==◌, nat_lt, fold}
 use Rattle.std.specs.List.{list_all}
 use Rattle.std.specs.Char.{is_ascii_digit}
 use Rattle.std.specs.Fmt.{decimal}
-use Rattle.std.proofs.lemmas.Bool.{and_parts, le-leb}
+use Rattle.std.proofs.lemmas.Bool.{le-leb}
 use Rattle.std.proofs.lemmas.Bool.Decides.{nat_tests}
 use Rattle.std.proofs.lemmas.Fmt.{decimal_digit, digits_decimal, digits_value-decimal, decimal_nonempty, first_decimal}
 use Rattle.std.proofs.lemmas.Str.Parse.{IsNumeralModel, numerals_by_fold}
-use Rattle.tso_line.specs.declared.lexeme.Lexeme.{Lexeme}
 use Rattle.tso_line.specs.declared.lexeme.Lexeme.TheVariants as lexemes
-use Rattle.tso_line.specs.Words.{decimal as value, word, decimal_of, number_or_other, behind_zero, number_of}
+use Rattle.tso_line.specs.Words.{decimal as value, decimal_of, number_of}
 
 abbrev value_after : ℕ → List ℕ → ℕ
 value_after n ds = fold (λ n d. n * 10 + (d - 48)) n ds

@@ -1,32 +1,23 @@
 -- A printed client is read as itself.
-use Rattle.std.proofs.Common.{◌≡◌, ℕ, zero, suc, ◌+◌, ◌^◌, ◌<◌, ◌≤◌, Bool, true, false, cond, not, List, [], ◌∷◌, ◌++◌, length, map, Option, Some, None, Result, Ok, Err, refl, sym, ap, subst, ◌∙◌, append_assoc, eq-eqb, arith}
-use Rattle.std.specs.Prelude.{◌&&◌, ◌||◌, ◌==◌, nat_lt, nat_le}
+use Rattle.std.proofs.Common.{◌≡◌, ℕ, ◌+◌, ◌≤◌, Bool, true, false, cond, List, [], ◌∷◌, ◌++◌, length, map, Some, Result, Ok, refl, sym, ap, subst, ◌∙◌, append_assoc, eq-eqb, arith}
+use Rattle.std.specs.Prelude.{◌||◌, ◌==◌}
 use Rattle.std.specs.List.{list_all, list_any, AllByRecursion}
-use Rattle.std.proofs.lemmas.Bool.{and_parts, and_from, or_parts, leb-true, le-leb, eqb-true}
+use Rattle.std.proofs.lemmas.Bool.{and_parts, leb-true, eqb-true}
 use Rattle.std.proofs.lemmas.Bool.Decides.{nat_tests}
-use Rattle.std.proofs.lemmas.List.{append-nil, length-append}
+use Rattle.std.proofs.lemmas.List.{append-nil}
 use Rattle.std.proofs.lemmas.List.Folds.{list_any-append}
-use Rattle.tso_line.specs.declared.instruction.CallKind.{CallKind}
 use Rattle.tso_line.specs.declared.instruction.Instruction.{Instruction}
 use Rattle.tso_line.specs.declared.instruction.Instruction.TheVariants as instructions
-use Rattle.tso_line.specs.declared.line.Kind.TheVariants as kinds
-use Rattle.tso_line.specs.Instructions.{renamed, label_of}
-use Rattle.tso_line.specs.Lines.{Name, Line, capacity, mode, push, pop, end, before, thread}
-use Rattle.tso_line.specs.Proper.{is_call, are_calls}
-use Rattle.tso_prog.specs.declared.client.Array.{Array}
-use Rattle.tso_prog.specs.declared.draft.Part.{Part}
-use Rattle.tso_prog.specs.declared.draft.Part.TheVariants as parts
+use Rattle.tso_line.specs.Instructions.{label_of}
+use Rattle.tso_line.specs.Lines.{Name}
 use Rattle.tso_prog.specs.declared.fault.Fault.{Fault}
-use Rattle.tso_prog.specs.Clients.{ClientOf}
-use Rattle.tso_prog.specs.Contents.{LabelOf, StepOf, BodyOf, Content}
-use Rattle.tso_prog.specs.Faults.{may_stand, repeats, lacks_array, passes_limit, fault_at}
-use Rattle.tso_prog.specs.Finish.{label_place, jump_to, placed, labelled_step, labelled, finished}
-use Rattle.tso_prog.specs.Limits.{are_arrays_below, are_targets_within, are_in_range, are_distinct, are_words, has_array_below, has_target_within, is_short_name, is_prologue, is_thread}
+use Rattle.tso_prog.specs.Contents.{LabelOf, StepOf}
+use Rattle.tso_prog.specs.Finish.{label_place, jump_to, labelled_step, labelled}
+use Rattle.tso_prog.specs.Limits.{has_target_within}
 use Rattle.tso_prog.specs.Program.{◌>>=◌}
-use Rattle.tso_prog.specs.Start.{start}
 use Rattle.tso_print.specs.Layout.{label_name, is_target, is_jumped_to}
 use Rattle.tso_print.proofs.Naming.{label_at, Before, before_none, place_behind, place_here}
-use Rattle.tso_print.proofs.Reading.{Reads, reads_none, reads_line, too_few, not_over, at_arrays, head_reads, array_said, words_in, arrays_read, at_body, others, body, end_clean, labelled_by, body_said, label_made, labels_from, is_placed, body_reads}
+use Rattle.tso_print.proofs.Reading.{labelled_by, label_made, labels_from}
 
 -- ---- labels
 

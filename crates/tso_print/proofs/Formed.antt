@@ -1,12 +1,11 @@
 -- Printed lines are made of signs that stand apart, and are short.
-use Rattle.std.proofs.Common.{◌≡◌, ℕ, zero, suc, ◌+◌, ◌-◌, ◌*◌, ◌^◌, ◌<◌, ◌≤◌, Bool, true, false, cond, not, List, [], ◌∷◌, ◌++◌, length, replicate, map, Option, Some, None, ℤ, pos, refl, sym, ap, subst, ◌∙◌, arith}
-use Rattle.std.specs.Prelude.{◌&&◌, ◌||◌, ◌==◌, nat_lt, nat_le, negsuc}
+use Rattle.std.proofs.Common.{◌≡◌, ℕ, suc, ◌+◌, ◌-◌, ◌*◌, ◌^◌, ◌<◌, ◌≤◌, Bool, true, false, cond, List, [], ◌∷◌, ◌++◌, length, Option, Some, None, ℤ, pos, refl, sym, subst, arith}
+use Rattle.std.specs.Prelude.{◌==◌, nat_lt, nat_le, negsuc}
 use Rattle.std.specs.List.{list_all}
 use Rattle.std.specs.Fmt.{decimal}
 use Rattle.std.proofs.lemmas.Bool.{and_parts, and_from, leb-true, leb-false, le-leb}
 use Rattle.std.proofs.lemmas.Bool.Decides.{nat_tests}
 use Rattle.std.proofs.lemmas.Fmt.{length-decimal-le}
-use Rattle.std.proofs.lemmas.List.{length-append, length-replicate}
 use Rattle.tso_word.specs.declared.Condition.{Condition}
 use Rattle.tso_line.specs.declared.instruction.Register.{Register}
 use Rattle.tso_line.specs.declared.instruction.Mode.{Mode}
@@ -23,16 +22,16 @@ use Rattle.tso_line.specs.declared.lexeme.Directive.TheVariants as directives
 use Rattle.tso_line.specs.declared.lexeme.Mnemonic.{Mnemonic}
 use Rattle.tso_line.specs.declared.lexeme.Mnemonic.TheVariants as mnemonics
 use Rattle.tso_line.specs.declared.lexeme.Meaning.TheVariants as meanings
-use Rattle.tso_line.specs.Proper.{is_letter, goes_on, is_name, is_in_range, is_near, is_small, is_word, is_word_source, is_narrow, is_narrow_source, is_call}
+use Rattle.tso_line.specs.Proper.{is_name, is_in_range, is_near, is_small, is_word, is_word_source, is_narrow, is_narrow_source, is_call}
 use Rattle.tso_prog.specs.declared.client.Array.{Array}
-use Rattle.tso_prog.specs.Limits.{is_short_name, has_array_below, has_target_within}
-use Rattle.tso_print.specs.Signs.{Sign, directive, keyword, name, number, colon, comma, bracket, end_bracket, plus, minus, star, equals, sign_text}
-use Rattle.tso_print.specs.Pieces.{Piece, tight, spaced, indented, spelled}
-use Rattle.tso_print.specs.Layout.{register_sign, source_pieces, index_pieces, offset_pieces, array_name, label_name, bound_pieces, locked_pieces, instruction_pieces, mode_sign, more_values, value_pieces, array_pieces, call_pieces, more_calls, calls_pieces, thread_pieces}
+use Rattle.tso_prog.specs.Limits.{is_short_name}
+use Rattle.tso_print.specs.Signs.{directive, keyword, name, number, colon, comma, bracket, end_bracket, equals}
+use Rattle.tso_print.specs.Pieces.{Piece, tight, spaced}
+use Rattle.tso_print.specs.Layout.{register_sign, source_pieces, index_pieces, array_name, label_name, locked_pieces, instruction_pieces, mode_sign, more_values, value_pieces, array_pieces, call_pieces, more_calls, calls_pieces, thread_pieces}
 use Rattle.tso_print.proofs.Digits.{decimal_all}
-use Rattle.tso_print.proofs.Lexed.{is_sign, is_solid, digits_go}
-use Rattle.tso_print.proofs.Tokens.{is_apart, is_piece, are_pieces}
-use Rattle.tso_print.proofs.Ranges.{Offset, none, up, down, offset_of, pieces_of_offset, offset_is, Origin, register, word, negative, origin_of, pieces_of_origin, source_is}
+use Rattle.tso_print.proofs.Lexed.{digits_go}
+use Rattle.tso_print.proofs.Tokens.{is_apart, are_pieces}
+use Rattle.tso_print.proofs.Ranges.{Offset, none, up, down, offset_of, pieces_of_offset, offset_is, Origin, register, word, negative, origin_of, source_is}
 use Rattle.tso_print.proofs.Shapes.{mnemonic, two_pieces, load_pieces, store_pieces, pieces_of_locked, jump_pieces}
 
 -- ---- numbers that fit

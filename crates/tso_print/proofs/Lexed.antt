@@ -1,14 +1,13 @@
 -- The tokens of one sign, whatever stands behind it.
-use Rattle.std.proofs.Common.{◌≡◌, ℕ, zero, suc, ◌+◌, ◌^◌, ◌<◌, ◌≤◌, Bool, true, false, cond, not, List, [], ◌∷◌, ◌++◌, length, drop, refl, sym, ap, subst, ◌∙◌, arith}
+use Rattle.std.proofs.Common.{◌≡◌, ℕ, suc, ◌+◌, ◌^◌, ◌<◌, Bool, true, false, not, List, [], ◌∷◌, ◌++◌, length, drop, refl, sym, ap, arith}
 use Rattle.std.specs.Prelude.{◌&&◌, ◌||◌, ◌==◌, nat_lt, nat_le, codes}
 use Rattle.std.specs.List.{list_all}
-use Rattle.std.specs.Char.{is_ascii_digit, is_ascii_alphabetic}
+use Rattle.std.specs.Char.{is_ascii_digit}
 use Rattle.std.specs.Fmt.{decimal}
 use Rattle.std.proofs.Math.Seq.{drop-append_seam}
 use Rattle.std.proofs.lemmas.Bool.{and_parts, leb-true}
 use Rattle.std.proofs.lemmas.Bool.Decides.{nat_tests}
 use Rattle.std.proofs.lemmas.Fmt.{decimal_nonempty}
-use Rattle.tso_text.specs.declared.token.Token.{Token}
 use Rattle.tso_text.specs.declared.token.TokenKind.{TokenKind}
 use Rattle.tso_text.specs.declared.token.TokenKind.TheVariants as kinds
 use Rattle.tso_text.specs.Lexing.{class_of, continues, is_letter as is_letter_class, first_class, token, tokens_from}
@@ -19,6 +18,7 @@ use Rattle.tso_line.specs.Proper.{is_letter, goes_on, is_name}
 use Rattle.tso_print.specs.Signs.{Sign, directive, keyword, name, number, colon, comma, bracket, end_bracket, plus, minus, star, equals, sign_text, keyword_word, directive_word}
 use Rattle.tso_print.proofs.Meant.{has_word, keyword_named}
 use Rattle.tso_print.proofs.Digits.{decimal_all}
+use Rattle.tso_print.proofs.Names.{name_goes}
 
 -- ---- classes of bytes
 
@@ -139,15 +139,6 @@ dotted_first : (text rest : List ℕ) → is_name text ≡ true → is_letter_cl
 unfolding is_name
 dotted_first [] rest e = absurd cc
 dotted_first (b ∷ bs) rest e = let p = and_parts (is_letter b) (list_all goes_on bs) e in letter_first b p.0
-
-name_goes : (text : List ℕ) → is_name text ≡ true → list_all goes_on text ≡ true
-unfolding is_name
-name_goes [] e = absurd cc
-name_goes (b ∷ bs) e = let p = and_parts (is_letter b) (list_all goes_on bs) e in rw (left (is_letter b) (is_ascii_digit b) p.0) p.1
-  where
-    left : (c d : Bool) → c ≡ true → (c || d) ≡ true
-    left true d e = refl
-    left false d e = absurd cc
 
 pub dotted_cut : (text rest : List ℕ) → is_name text ≡ true → stops rest ≡ true → Cut kinds.Word (46 ∷ text) rest
 dotted_cut text rest e s line at =

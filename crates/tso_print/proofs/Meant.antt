@@ -1,5 +1,5 @@
 -- Each word of the language means what it is printed for.
-use Rattle.std.proofs.Common.{◌≡◌, ℕ, Bool, true, false, List, Option, Some, None, refl}
+use Rattle.std.proofs.Common.{◌≡◌, Bool, true, false, Some, None, refl}
 use Rattle.tso_word.specs.declared.Condition.TheVariants as conds
 use Rattle.tso_word.specs.declared.BitOperation.TheVariants as bits
 use Rattle.tso_line.specs.declared.instruction.Register.TheVariants as registers

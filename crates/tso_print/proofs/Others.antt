@@ -1,32 +1,28 @@
 -- What each printed line says that is no instruction.
-use Rattle.std.proofs.Common.{◌≡◌, ℕ, zero, suc, ◌+◌, ◌-◌, ◌^◌, ◌<◌, ◌≤◌, Bool, true, false, cond, List, [], ◌∷◌, ◌++◌, length, replicate, map, Option, Some, None, refl, sym, ap, subst, ◌∙◌, eq-eqb, arith}
-use Rattle.std.specs.Prelude.{◌&&◌, ◌==◌, nat_lt, nat_le, option_and_then}
-use Rattle.std.specs.Option.{option_map}
+use Rattle.std.proofs.Common.{◌≡◌, ℕ, suc, ◌-◌, ◌^◌, ◌<◌, ◌≤◌, Bool, true, false, cond, List, [], ◌∷◌, ◌++◌, length, replicate, map, Option, Some, refl, sym, ap, ◌∙◌, eq-eqb, arith}
+use Rattle.std.specs.Prelude.{◌==◌, nat_le}
 use Rattle.std.specs.List.{list_all}
-use Rattle.std.proofs.lemmas.Bool.{and_parts, and_from, leb-true, le-leb, eqb-true}
-use Rattle.std.proofs.lemmas.List.{length-map, length-replicate}
+use Rattle.std.proofs.lemmas.Bool.{and_parts, leb-true, le-leb, eqb-true}
+use Rattle.std.proofs.lemmas.List.{length-map}
 use Rattle.tso_line.specs.declared.instruction.Mode.{Mode}
 use Rattle.tso_line.specs.declared.instruction.Mode.TheVariants as modes
 use Rattle.tso_line.specs.declared.instruction.CallKind.{CallKind}
 use Rattle.tso_line.specs.declared.instruction.CallKind.TheVariants as calls
 use Rattle.tso_line.specs.declared.lexeme.Directive.TheVariants as directives
-use Rattle.tso_line.specs.declared.lexeme.Span.{Span}
-use Rattle.tso_line.specs.declared.lexeme.Meaning.TheVariants as meanings
 use Rattle.tso_line.specs.declared.lexeme.Lexeme.{Lexeme}
 use Rattle.tso_line.specs.declared.lexeme.Lexeme.TheVariants as lexemes
 use Rattle.tso_line.specs.declared.line.Kind.{Kind}
 use Rattle.tso_line.specs.declared.line.Kind.TheVariants as kinds
-use Rattle.tso_line.specs.Forms.{text_at}
 use Rattle.tso_line.specs.Lexemes.{is_comma, split_by}
 use Rattle.tso_line.specs.Lines.{Name, Line, capacity, mode, array, push, pop, end, label, before, thread}
 use Rattle.tso_line.specs.Proper.{is_word, is_call}
 use Rattle.tso_line.specs.Reading.{value_of, call_of, each, all_some, array_line, values_or_none, calls_of, calls_line, directive_line as read_directive}
 use Rattle.tso_prog.specs.declared.client.Array.{Array}
-use Rattle.tso_print.specs.Signs.{Sign, directive, keyword, name, number, colon, comma, equals}
+use Rattle.tso_print.specs.Signs.{directive, name, number, colon, comma, equals}
 use Rattle.tso_print.specs.Pieces.{Piece, tight, spaced}
 use Rattle.tso_print.specs.Layout.{label_name, mode_sign, more_values, value_pieces, array_pieces, call_pieces, more_calls, calls_pieces, thread_pieces}
 use Rattle.tso_print.proofs.Tokens.{sign_end}
-use Rattle.tso_print.proofs.Placing.{span_at, lexemes_at, Placed, Says}
+use Rattle.tso_print.proofs.Placing.{lexemes_at, Says}
 
 -- ---- the head
 

@@ -1,14 +1,13 @@
 -- The lexemes of printed lines, and the lines that they make.
-use Rattle.std.proofs.Common.{◌≡◌, ℕ, zero, suc, ◌+◌, ◌-◌, ◌^◌, ◌<◌, ◌≤◌, Bool, true, false, cond, not, List, [], ◌∷◌, ◌++◌, length, take, drop, replicate, map, Some, refl, sym, ap, subst, ◌∙◌, append_assoc, arith}
-use Rattle.std.specs.Prelude.{◌&&◌, ◌||◌, ◌==◌, nat_lt, nat_le}
+use Rattle.std.proofs.Common.{◌≡◌, ℕ, suc, ◌+◌, ◌-◌, ◌^◌, ◌<◌, true, false, List, [], ◌∷◌, ◌++◌, length, drop, replicate, map, Some, refl, sym, ap, subst, ◌∙◌, append_assoc, arith}
+use Rattle.std.specs.Prelude.{◌==◌, nat_le}
 use Rattle.std.specs.List.{list_all, flat_map}
 use Rattle.std.proofs.Math.Seq.{drop-append_seam, take-append_seam}
 use Rattle.std.proofs.lemmas.Bool.{and_parts, and_from, le-leb, leb-true}
 use Rattle.std.proofs.lemmas.Bool.Decides.{nat_tests}
 use Rattle.std.proofs.lemmas.List.{drop-drop, length-append, length-replicate}
 use Rattle.tso_text.specs.declared.token.Token.{Token}
-use Rattle.tso_text.specs.declared.token.TokenKind.TheVariants as kinds
-use Rattle.tso_text.specs.Lexing.{token, tokens_of}
+use Rattle.tso_text.specs.Lexing.{tokens_of}
 use Rattle.tso_line.specs.declared.lexeme.Span.{Span}
 use Rattle.tso_line.specs.declared.lexeme.Lexeme.{Lexeme}
 use Rattle.tso_line.specs.declared.lexeme.Lexeme.TheVariants as lexemes
@@ -22,8 +21,8 @@ use Rattle.tso_prog.specs.Program.{ends_line, Numbered, numbered, lines_of}
 use Rattle.tso_print.specs.Signs.{Sign, directive, keyword, name, number, colon, comma, bracket, end_bracket, plus, minus, star, equals, sign_text, keyword_word}
 use Rattle.tso_print.specs.Pieces.{Piece, spelled, text_of}
 use Rattle.tso_print.proofs.Digits.{number_read}
-use Rattle.tso_print.proofs.Meant.{has_word, keyword_meant, keyword_named, directive_meant}
-use Rattle.tso_print.proofs.Lexed.{kind_of, is_solid, is_sign}
+use Rattle.tso_print.proofs.Meant.{keyword_meant, keyword_named, directive_meant}
+use Rattle.tso_print.proofs.Lexed.{kind_of, is_sign}
 use Rattle.tso_print.proofs.Tokens.{is_piece, are_pieces, sign_start, sign_end, piece_tokens, end_of, text_tokens, are_lines, tokens_of_text, line_cut}
 
 -- ---- the lexeme of a sign

@@ -1,8 +1,8 @@
 -- Numbers that are printed are read as the same words and displacements.
-use Rattle.std.proofs.Common.{◌≡◌, ℕ, zero, suc, ◌+◌, ◌-◌, ◌*◌, ◌/◌, ◌%◌, ◌^◌, ◌<◌, ◌≤◌, Bool, true, false, cond, not, List, [], ◌∷◌, Option, Some, None, ℤ, pos, refl, sym, ap, subst, ◌∙◌, ◌⊎◌, inl, inr, ⊎_elim, arith}
-use Rattle.std.specs.Prelude.{◌&&◌, ◌||◌, ◌==◌, nat_lt, nat_le, negsuc}
+use Rattle.std.proofs.Common.{◌≡◌, ℕ, suc, ◌+◌, ◌-◌, ◌*◌, ◌/◌, ◌%◌, ◌^◌, ◌<◌, ◌≤◌, Bool, true, false, cond, List, [], ◌∷◌, Option, Some, None, ℤ, pos, refl, sym, ap, arith}
+use Rattle.std.specs.Prelude.{◌==◌, nat_lt, nat_le, negsuc}
 use Rattle.std.specs.Option.{option_map}
-use Rattle.std.proofs.lemmas.Bool.{and_parts, leb-true, leb-false, le-leb, eqb-true}
+use Rattle.std.proofs.lemmas.Bool.{leb-true, leb-false, le-leb, eqb-true}
 use Rattle.std.proofs.lemmas.Bool.Decides.{nat_tests}
 use Rattle.tso_line.specs.declared.instruction.Register.{Register}
 use Rattle.tso_line.specs.declared.instruction.Source.{Source}
@@ -12,10 +12,10 @@ use Rattle.tso_line.specs.declared.form.RawSource.{RawSource}
 use Rattle.tso_line.specs.declared.form.RawSource.TheVariants as raws
 use Rattle.tso_line.specs.declared.form.Form.TheVariants as forms
 use Rattle.tso_line.specs.declared.instruction.Instruction.TheVariants as instructions
-use Rattle.tso_line.specs.Proper.{is_near, is_narrow, is_word, is_word_source, is_narrow_source}
+use Rattle.tso_line.specs.Proper.{is_near, is_narrow, is_word_source, is_narrow_source}
 use Rattle.tso_line.specs.Lexemes.{signed}
-use Rattle.tso_line.specs.Forms.{in_range, word_of, narrow, from_of, cells_at, cells_of, instruction_of}
-use Rattle.tso_print.specs.Signs.{Sign, number, plus, minus}
+use Rattle.tso_line.specs.Forms.{word_of, from_of, cells_at, cells_of, instruction_of}
+use Rattle.tso_print.specs.Signs.{number, plus, minus}
 use Rattle.tso_print.specs.Pieces.{Piece, tight, spaced}
 use Rattle.tso_print.specs.Layout.{register_sign, source_pieces, offset_pieces}
 

@@ -1,37 +1,31 @@
 -- The lines of a client, read one after the other.
-use Rattle.std.proofs.Common.{◌≡◌, ℕ, zero, suc, ◌+◌, ◌^◌, ◌<◌, ◌≤◌, Bool, true, false, cond, not, List, [], ◌∷◌, ◌++◌, length, map, Option, Some, None, Result, Ok, Err, refl, sym, ap, subst, ◌∙◌, append_assoc, eq-eqb, arith}
-use Rattle.std.specs.Prelude.{◌&&◌, ◌||◌, ◌==◌, nat_lt, nat_le, is_some, is_none, unwrap_or, position, find, sum_by}
+use Rattle.std.proofs.Common.{◌≡◌, ℕ, suc, ◌+◌, ◌<◌, ◌≤◌, Bool, true, false, cond, List, [], ◌∷◌, ◌++◌, length, map, Option, Some, None, Ok, refl, sym, ap, subst, ◌∙◌, append_assoc, arith}
+use Rattle.std.specs.Prelude.{◌&&◌, ◌||◌, nat_lt, nat_le, is_none, unwrap_or}
 use Rattle.std.specs.List.{list_all, list_any}
 use Rattle.std.specs.Str.{bytes_eq}
-use Rattle.std.proofs.lemmas.Bool.{and_parts, and_from, or_parts, leb-true, le-leb}
+use Rattle.std.proofs.lemmas.Bool.{and_parts, leb-true, le-leb}
 use Rattle.std.proofs.lemmas.Bool.Decides.{nat_tests}
 use Rattle.std.proofs.lemmas.List.{append-nil, length-append}
-use Rattle.tso_line.specs.declared.instruction.Mode.{Mode}
-use Rattle.tso_line.specs.declared.instruction.CallKind.{CallKind}
 use Rattle.tso_line.specs.declared.instruction.Instruction.{Instruction}
 use Rattle.tso_line.specs.declared.instruction.Instruction.TheVariants as instructions
-use Rattle.tso_line.specs.declared.line.Kind.TheVariants as kinds
 use Rattle.tso_line.specs.declared.instruction.Address.{Address}
 use Rattle.tso_line.specs.Instructions.{renamed, label_of, address_of}
-use Rattle.tso_line.specs.Lines.{Name, Line, capacity, mode, array, push, pop, end, label, instruction, before, thread}
+use Rattle.tso_line.specs.Lines.{Name, Line, capacity, mode, array, end, label, instruction}
 use Rattle.tso_prog.specs.declared.client.Array.{Array}
-use Rattle.tso_prog.specs.declared.draft.Part.{Part}
 use Rattle.tso_prog.specs.declared.draft.Part.TheVariants as parts
 use Rattle.tso_prog.specs.declared.fault.Code.{Code}
-use Rattle.tso_prog.specs.declared.fault.Fault.{Fault}
 use Rattle.tso_prog.specs.Clients.{ClientOf}
 use Rattle.tso_prog.specs.Contents.{LabelOf, StepOf, BodyOf, Content}
-use Rattle.tso_prog.specs.Faults.{may_stand, has, codes, repeats, lacks_array, passes_limit, fault_at, array_number, lacks_at, long_label}
-use Rattle.tso_prog.specs.After.{after, with_label, with_step, step, numbered, number_or_0}
-use Rattle.tso_prog.specs.Finish.{label_place, labelled_step, labelled, finished}
+use Rattle.tso_prog.specs.Faults.{repeats, lacks_array, passes_limit, fault_at, lacks_at, long_label}
+use Rattle.tso_prog.specs.After.{after, step, numbered}
 use Rattle.tso_prog.specs.Limits.{are_distinct, has_array_below, has_target_within, is_short_name}
 use Rattle.tso_prog.specs.Program.{◌>>=◌, next, Numbered, read_from}
 use Rattle.tso_prog.specs.Start.{start}
-use Rattle.tso_print.specs.Layout.{array_name, label_name, is_target, is_jumped_to}
+use Rattle.tso_print.specs.Layout.{label_name, is_jumped_to}
 use Rattle.tso_print.proofs.Placing.{numbered_from}
 use Rattle.tso_print.proofs.Saying.{named, instruction_said}
 use Rattle.tso_print.proofs.Formed.{label_short}
-use Rattle.tso_print.proofs.Naming.{nowhere, distinct_before, array_found, label_at, Before, before_more, before_push, before_none, place_behind, place_here}
+use Rattle.tso_print.proofs.Naming.{nowhere, distinct_before, array_found, label_at, Before, before_more, before_push, before_none}
 
 -- ---- one line after the other
 

@@ -1,22 +1,21 @@
 -- The lines of a printed client say what they should.
-use Rattle.std.proofs.Common.{◌≡◌, ℕ, zero, suc, ◌+◌, ◌^◌, ◌<◌, ◌≤◌, Bool, true, false, cond, not, List, [], ◌∷◌, ◌++◌, length, map, refl, sym, ap, subst, ◌∙◌, arith}
-use Rattle.std.specs.Prelude.{◌&&◌, nat_lt, nat_le}
+use Rattle.std.proofs.Common.{◌≡◌, ℕ, suc, ◌+◌, ◌<◌, ◌≤◌, Bool, true, false, cond, List, [], ◌∷◌, ◌++◌, length, map, refl, arith}
+use Rattle.std.specs.Prelude.{nat_le}
 use Rattle.std.specs.List.{list_all}
-use Rattle.std.proofs.lemmas.Bool.{and_parts, and_from, leb-true, le-leb}
+use Rattle.std.proofs.lemmas.Bool.{and_parts, leb-true, le-leb}
 use Rattle.tso_line.specs.declared.instruction.CallKind.{CallKind}
-use Rattle.tso_line.specs.declared.instruction.LockedOperation.{LockedOperation}
 use Rattle.tso_line.specs.declared.instruction.LockedOperation.TheVariants as locked
 use Rattle.tso_line.specs.declared.instruction.Instruction.{Instruction}
 use Rattle.tso_line.specs.declared.instruction.Instruction.TheVariants as instructions
 use Rattle.tso_line.specs.declared.lexeme.Directive.TheVariants as directives
-use Rattle.tso_line.specs.Lines.{Name, Line, capacity, mode, push, pop, end, label, before, thread}
+use Rattle.tso_line.specs.Lines.{Line, push, pop, end, label, thread}
 use Rattle.tso_line.specs.Proper.{is_in_range, is_word, is_call, are_calls}
 use Rattle.tso_prog.specs.declared.client.Array.{Array}
 use Rattle.tso_prog.specs.Clients.{ClientOf}
 use Rattle.tso_prog.specs.Limits.{are_arrays_below, are_targets_within, are_in_range, are_words, has_array_below, has_target_within, is_short_name, is_prologue, is_thread}
 use Rattle.tso_print.specs.Signs.{Sign, directive, name, colon}
-use Rattle.tso_print.specs.Pieces.{Piece, tight, spaced}
-use Rattle.tso_print.specs.Layout.{label_name, is_jumped_to, label_lines, instruction_pieces, body_lines, array_pieces, calls_pieces, prologue_lines, thread_pieces, directive_line, procedure_lines, client_lines}
+use Rattle.tso_print.specs.Pieces.{Piece, tight}
+use Rattle.tso_print.specs.Layout.{label_name, is_jumped_to, label_lines, instruction_pieces, body_lines, array_pieces, prologue_lines, thread_pieces, directive_line, procedure_lines, client_lines}
 use Rattle.tso_print.proofs.Placing.{IsLine, AreLines, AreLines-append}
 use Rattle.tso_print.proofs.Saying.{instruction_said, instruction_says}
 use Rattle.tso_print.proofs.Others.{capacity_says, mode_says, push_says, pop_says, end_says, label_says, array_says, before_says, thread_says}

@@ -1,35 +1,31 @@
 -- What each printed instruction says.
-use Rattle.std.proofs.Common.{◌≡◌, ℕ, ◌+◌, ◌-◌, ◌*◌, ◌^◌, ◌<◌, ◌≤◌, Bool, true, false, cond, List, [], ◌∷◌, ◌++◌, length, Option, Some, None, ℤ, pos, refl, sym, ap, subst, ◌∙◌, arith}
-use Rattle.std.specs.Prelude.{◌&&◌, ◌==◌, nat_lt, nat_le, negsuc, option_and_then}
+use Rattle.std.proofs.Common.{◌≡◌, ℕ, true, false, List, [], ◌∷◌, ◌++◌, Option, Some, None, ℤ, refl, sym, ap, subst, ◌∙◌}
+use Rattle.std.specs.Prelude.{option_and_then}
 use Rattle.std.specs.Option.{option_map}
-use Rattle.std.proofs.lemmas.Bool.{and_parts, and_from, leb-true, leb-false, le-leb}
+use Rattle.std.proofs.lemmas.Bool.{and_parts}
 use Rattle.tso_line.specs.declared.instruction.Register.{Register}
 use Rattle.tso_line.specs.declared.instruction.Address.{Address}
 use Rattle.tso_line.specs.declared.instruction.Source.{Source}
-use Rattle.tso_line.specs.declared.instruction.Source.TheVariants as sources
 use Rattle.tso_line.specs.declared.instruction.LockedOperation.{LockedOperation}
 use Rattle.tso_line.specs.declared.instruction.LockedOperation.TheVariants as locked
 use Rattle.tso_line.specs.declared.instruction.Instruction.{Instruction}
 use Rattle.tso_line.specs.declared.instruction.Instruction.TheVariants as instructions
 use Rattle.tso_line.specs.declared.lexeme.Span.{Span}
-use Rattle.tso_line.specs.declared.lexeme.Mnemonic.{Mnemonic}
 use Rattle.tso_line.specs.declared.lexeme.Mnemonic.TheVariants as mnemonics
 use Rattle.tso_line.specs.declared.lexeme.Meaning.TheVariants as meanings
-use Rattle.tso_line.specs.declared.form.Form.TheVariants as forms
-use Rattle.tso_line.specs.declared.form.RawCell.{RawCell}
-use Rattle.tso_line.specs.Forms.{raw_cell, cells_of, from_of, bound_value, instruction_of, text_at}
+use Rattle.tso_line.specs.Forms.{from_of, bound_value, text_at}
 use Rattle.tso_line.specs.Instructions.{renamed}
 use Rattle.tso_line.specs.Lexemes.{split_by, operands_after}
 use Rattle.tso_line.specs.Lines.{Name, Line, instruction}
 use Rattle.tso_line.specs.Proper.{is_in_range, is_near, is_small, is_narrow_source}
 use Rattle.tso_line.specs.Reading.{instruction_line, by_instruction}
 use Rattle.tso_prog.specs.declared.client.Array.{Array}
-use Rattle.tso_print.specs.Signs.{Sign, keyword, name, number, comma, bracket, end_bracket}
-use Rattle.tso_print.specs.Pieces.{Piece, tight, spaced, indented}
-use Rattle.tso_print.specs.Layout.{register_sign, source_pieces, index_pieces, offset_pieces, array_name, label_name, bound_pieces, locked_pieces, instruction_pieces}
+use Rattle.tso_print.specs.Signs.{keyword, name, comma, bracket, end_bracket}
+use Rattle.tso_print.specs.Pieces.{Piece, tight, spaced}
+use Rattle.tso_print.specs.Layout.{register_sign, source_pieces, index_pieces, array_name, label_name, locked_pieces, instruction_pieces}
 use Rattle.tso_print.proofs.Placing.{Placed, Says}
-use Rattle.tso_print.proofs.Ranges.{Offset, none, up, down, offset_of, pieces_of_offset, signed_of_offset, offset_is, cells_is, Origin, register, word, negative, origin_of, pieces_of_origin, raw_of_origin, source_is, from_is, move_is}
-use Rattle.tso_print.proofs.Shapes.{mnemonic, pieces_of_cell, two_pieces, load_pieces, store_pieces, pieces_of_locked, jump_pieces, name_span, move_shape, compute_shape, compare_shape, load_shape, store_shape, locked_shape, jump_shape}
+use Rattle.tso_print.proofs.Ranges.{Offset, offset_of, pieces_of_offset, offset_is, cells_is, origin_of, raw_of_origin, source_is, from_is, move_is}
+use Rattle.tso_print.proofs.Shapes.{mnemonic, load_pieces, store_pieces, pieces_of_locked, jump_pieces, name_span, move_shape, compute_shape, compare_shape, load_shape, store_shape, locked_shape, jump_shape}
 
 -- the line of an instruction whose array and label have these names
 abbrev pub named : List Array → Instruction ℕ ℕ → Instruction Name Name

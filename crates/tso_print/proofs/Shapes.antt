@@ -1,5 +1,5 @@
 -- The shape of each printed instruction.
-use Rattle.std.proofs.Common.{◌≡◌, ℕ, Bool, true, false, List, [], ◌∷◌, ◌++◌, Option, Some, None, refl}
+use Rattle.std.proofs.Common.{◌≡◌, ℕ, false, List, [], ◌∷◌, ◌++◌, Option, Some, None, refl}
 use Rattle.std.specs.Option.{option_map}
 use Rattle.tso_word.specs.declared.Condition.{Condition}
 use Rattle.tso_line.specs.declared.instruction.Register.{Register}
@@ -13,14 +13,12 @@ use Rattle.tso_line.specs.declared.lexeme.Mnemonic.TheVariants as mnemonics
 use Rattle.tso_line.specs.declared.lexeme.Meaning.{Meaning}
 use Rattle.tso_line.specs.declared.lexeme.Meaning.TheVariants as meanings
 use Rattle.tso_line.specs.declared.lexeme.Lexeme.TheVariants as lexemes
-use Rattle.tso_line.specs.declared.form.Form.{Form}
 use Rattle.tso_line.specs.declared.form.Form.TheVariants as forms
-use Rattle.tso_line.specs.declared.form.RawCell.{RawCell}
 use Rattle.tso_line.specs.Lexemes.{split_by, operands_after}
 use Rattle.tso_line.specs.Forms.{raw_cell, instruction_of}
 use Rattle.tso_line.specs.Words.{meaning_of}
 use Rattle.tso_line.specs.Reading.{line_of, instruction_line, by_instruction}
-use Rattle.tso_print.specs.Signs.{Sign, directive, keyword, name, number, colon, comma, bracket, end_bracket, plus, minus, star, equals}
+use Rattle.tso_print.specs.Signs.{Sign, keyword, name, comma, bracket, end_bracket}
 use Rattle.tso_print.specs.Pieces.{Piece, tight, spaced, indented}
 use Rattle.tso_print.specs.Layout.{register_sign, index_pieces, bound_pieces, locked_pieces}
 use Rattle.tso_print.proofs.Tokens.{sign_end}

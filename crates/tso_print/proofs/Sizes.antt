@@ -1,10 +1,10 @@
 -- A printed client is short, and all its bytes may stand in a text.
-use Rattle.std.proofs.Common.{◌≡◌, ℕ, zero, suc, ◌+◌, ◌-◌, ◌*◌, ◌^◌, ◌<◌, ◌≤◌, Bool, true, false, cond, not, List, [], ◌∷◌, ◌++◌, length, replicate, map, Option, Some, None, ℤ, pos, refl, sym, ap, subst, ◌∙◌, arith}
-use Rattle.std.specs.Prelude.{◌&&◌, ◌||◌, ◌==◌, nat_lt, nat_le, negsuc, codes}
+use Rattle.std.proofs.Common.{◌≡◌, ℕ, zero, suc, ◌+◌, ◌-◌, ◌*◌, ◌^◌, ◌<◌, ◌≤◌, Bool, true, false, cond, List, [], ◌∷◌, ◌++◌, length, replicate, map, Option, Some, None, ℤ, pos, refl, arith}
+use Rattle.std.specs.Prelude.{◌==◌, nat_lt, nat_le, negsuc}
 use Rattle.std.specs.List.{list_all}
 use Rattle.std.specs.Char.{is_ascii_digit}
 use Rattle.std.specs.Fmt.{decimal}
-use Rattle.std.proofs.lemmas.Bool.{and_parts, and_from, leb-true, leb-false, le-leb}
+use Rattle.std.proofs.lemmas.Bool.{and_parts, and_from, leb-true}
 use Rattle.std.proofs.lemmas.Bool.Decides.{nat_tests}
 use Rattle.std.proofs.lemmas.Fmt.{length-decimal-le}
 use Rattle.std.proofs.lemmas.List.{length-append, length-replicate}
@@ -32,19 +32,18 @@ use Rattle.tso_line.specs.declared.lexeme.Mnemonic.TheVariants as mnemonics
 use Rattle.tso_line.specs.declared.lexeme.Meaning.{Meaning}
 use Rattle.tso_line.specs.declared.lexeme.Meaning.TheVariants as meanings
 use Rattle.tso_line.specs.Lines.{Line}
-use Rattle.tso_line.specs.Proper.{is_letter, goes_on, is_name}
+use Rattle.tso_line.specs.Proper.{goes_on, is_name}
 use Rattle.tso_prog.specs.declared.client.Array.{Array}
 use Rattle.tso_prog.specs.Clients.{ClientOf}
 use Rattle.tso_print.specs.Signs.{Sign, directive, keyword, name, number, colon, comma, bracket, end_bracket, plus, minus, star, equals, sign_text, keyword_word, directive_word}
-use Rattle.tso_print.specs.Pieces.{Piece, tight, spaced, indented, spelled, text_of}
+use Rattle.tso_print.specs.Pieces.{Piece, tight, spaced, spelled, text_of}
 use Rattle.tso_print.specs.Layout.{source_pieces, index_pieces, offset_pieces, bound_pieces, locked_pieces, cell_pieces, instruction_pieces, is_jumped_to, label_name, label_lines, body_lines, mode_sign, more_values, value_pieces, array_pieces, call_pieces, more_calls, calls_pieces, prologue_lines, thread_pieces, procedure_lines, client_lines, printed}
 use Rattle.tso_print.proofs.Digits.{decimal_all}
-use Rattle.tso_print.proofs.Joins.{text_of-append}
 use Rattle.tso_print.proofs.Meant.{has_word, keyword_named}
 use Rattle.tso_print.proofs.Names.{name_goes}
 use Rattle.tso_print.proofs.Lexed.{is_sign}
 use Rattle.tso_print.proofs.Tokens.{is_piece, are_pieces}
-use Rattle.tso_print.proofs.Placing.{IsLine, AreLines}
+use Rattle.tso_print.proofs.Placing.{AreLines}
 use Rattle.tso_print.proofs.Reading.{words_in}
 use Rattle.tso_print.proofs.Whole.{IsSound, calls_in, lines_said}
 use Rattle.tso_print.proofs.Said.{client_are}

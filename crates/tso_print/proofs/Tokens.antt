@@ -1,13 +1,12 @@
 -- The tokens of printed lines.
-use Rattle.std.proofs.Common.{◌≡◌, ℕ, zero, suc, ◌+◌, Bool, true, false, cond, not, List, [], ◌∷◌, ◌++◌, length, replicate, map, refl, sym, ap, subst, ◌∙◌, append_assoc, arith}
-use Rattle.std.specs.Prelude.{◌&&◌, ◌||◌, ◌==◌, nat_lt}
+use Rattle.std.proofs.Common.{◌≡◌, ℕ, zero, suc, ◌+◌, Bool, true, false, not, List, [], ◌∷◌, ◌++◌, length, replicate, refl, ap, ◌∙◌, append_assoc, arith}
+use Rattle.std.specs.Prelude.{◌&&◌, ◌||◌}
 use Rattle.std.proofs.lemmas.Bool.{and_parts}
 use Rattle.tso_text.specs.declared.token.Token.{Token}
-use Rattle.tso_text.specs.declared.token.TokenKind.{TokenKind}
 use Rattle.tso_text.specs.declared.token.TokenKind.TheVariants as kinds
-use Rattle.tso_text.specs.Lexing.{class_of, continues, first_class, token, tokens_from}
+use Rattle.tso_text.specs.Lexing.{class_of, token, tokens_from}
 use Rattle.tso_text.proofs.Pieces.{opened}
-use Rattle.tso_line.specs.Lexemes.{split_by, onto}
+use Rattle.tso_line.specs.Lexemes.{split_by}
 use Rattle.tso_prog.specs.Program.{ends_line}
 use Rattle.tso_print.specs.Signs.{Sign, directive, keyword, name, number, colon, comma, bracket, end_bracket, plus, minus, star, equals, sign_text}
 use Rattle.tso_print.specs.Pieces.{Piece, spelled, text_of}
@@ -37,9 +36,6 @@ are_pieces (p ∷ ps) = is_piece p ps && are_pieces ps
 space_stops : (bs : List ℕ) → stops (32 ∷ bs) ≡ true
 unfolding class_of
 space_stops bs = refl
-
-directive_no : (b : Bool) → not true ≡ true → b ≡ true
-directive_no b e = absurd cc
 
 sign_stops : (s : Sign) (rest : List ℕ) → not (is_solid s) ≡ true → stops (sign_text s ++ rest) ≡ true
 unfolding class_of

@@ -1,25 +1,23 @@
 -- The lines of a printed client are read, and make it.
-use Rattle.std.proofs.Common.{◌≡◌, ℕ, zero, suc, ◌+◌, ◌^◌, ◌<◌, ◌≤◌, Bool, true, false, cond, not, List, [], ◌∷◌, ◌++◌, length, map, Option, Some, None, Result, Ok, Err, refl, sym, ap, subst, ◌∙◌, append_assoc, arith}
-use Rattle.std.specs.Prelude.{◌&&◌, ◌||◌, ◌==◌, nat_lt, nat_le}
-use Rattle.std.specs.List.{list_all, list_any, AllByRecursion}
-use Rattle.std.proofs.lemmas.Bool.{and_parts, and_from, or_parts, leb-true, le-leb}
+use Rattle.std.proofs.Common.{◌≡◌, ℕ, suc, ◌+◌, ◌<◌, ◌≤◌, Bool, true, false, List, [], ◌∷◌, ◌++◌, length, map, None, Ok, refl, sym, ap, subst, ◌∙◌, append_assoc, arith}
+use Rattle.std.specs.Prelude.{nat_lt, nat_le}
+use Rattle.std.specs.List.{list_all}
+use Rattle.std.proofs.lemmas.Bool.{and_parts, and_from, leb-true, le-leb}
 use Rattle.std.proofs.lemmas.List.{append-nil, length-append, length-map}
 use Rattle.tso_line.specs.declared.instruction.CallKind.{CallKind}
 use Rattle.tso_line.specs.declared.instruction.Instruction.{Instruction}
 use Rattle.tso_line.specs.declared.line.Kind.TheVariants as kinds
-use Rattle.tso_line.specs.Lines.{Name, Line, capacity, mode, push, pop, end, before, thread}
+use Rattle.tso_line.specs.Lines.{Line, capacity, mode, push, pop, end, before, thread}
 use Rattle.tso_line.specs.Proper.{is_call, are_calls}
 use Rattle.tso_prog.specs.declared.client.Array.{Array}
 use Rattle.tso_prog.specs.declared.draft.Part.{Part}
 use Rattle.tso_prog.specs.declared.draft.Part.TheVariants as parts
-use Rattle.tso_prog.specs.declared.fault.Fault.{Fault}
 use Rattle.tso_prog.specs.Clients.{ClientOf}
-use Rattle.tso_prog.specs.Contents.{LabelOf, StepOf, BodyOf, Content}
+use Rattle.tso_prog.specs.Contents.{StepOf, BodyOf, Content}
 use Rattle.tso_prog.specs.Faults.{may_stand, repeats, lacks_array, passes_limit, fault_at}
 use Rattle.tso_prog.specs.After.{after}
 use Rattle.tso_prog.specs.Finish.{labelled, finished}
 use Rattle.tso_prog.specs.Limits.{are_arrays_below, are_targets_within, are_in_range, are_distinct, are_words, has_array_below, has_target_within, is_short_name, is_prologue, is_thread}
-use Rattle.tso_prog.specs.Program.{◌>>=◌}
 use Rattle.tso_prog.specs.Start.{start}
 use Rattle.tso_print.proofs.Reading.{Reads, reads_none, reads_line, too_few, not_over, at_arrays, head_reads, array_said, words_in, arrays_read, at_body, others, body, end_clean, labelled_by, body_said, labels_from, is_placed, body_reads}
 use Rattle.tso_print.proofs.Finishing.{all_found, all_labelled}

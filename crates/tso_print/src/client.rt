@@ -52,7 +52,7 @@ fn push_values(text: &mut String, values: &[u64]) -> Result<(), AllocError>
 #[tactic(auto, using(crate::proofs::Joins::joins))]
 fn push_array(text: &mut String, array: &Array) -> Result<(), AllocError>
     requires name { IsTrue (is_short_name array.now.name) }
-    ensures { OnOk result (string_bytes text.new ≡ string_bytes text.old ++ (spelled (array_pieces array.now) ++ 10 ∷ [])) }
+    ensures { OnOk result (string_bytes text.new ≡ string_bytes text.old ++ (spelled (array_pieces array.now) ++ codes "\n")) }
 {
     text.push_str(".array ")?;
     push_name(text, array.name.as_slice())?;
@@ -99,7 +99,7 @@ fn push_more_calls(text: &mut String, calls: &[CallKind]) -> Result<(), AllocErr
 // Calls behind a directive, with the end of the line.
 #[tactic(auto, using(crate::proofs::Joins::joins))]
 fn push_calls(text: &mut String, directive: &str, calls: &[CallKind]) -> Result<(), AllocError>
-    ensures { OnOk result (string_bytes text.new ≡ string_bytes text.old ++ (directive.now ++ (spelled (calls_pieces calls.now) ++ 10 ∷ []))) }
+    ensures { OnOk result (string_bytes text.new ≡ string_bytes text.old ++ (directive.now ++ (spelled (calls_pieces calls.now) ++ codes "\n"))) }
 {
     text.push_str(directive)?;
     if let [first, rest @ ..] = calls {
@@ -151,7 +151,7 @@ fn push_procedure(
 ) -> Result<(), AllocError>
     requires names { IsTrue (list_all (λ a. is_short_name a.name) arrays.now) }
     requires below { IsTrue (are_arrays_below (length arrays.now) procedure.now.instructions) }
-    ensures { OnOk result (string_bytes text.new ≡ string_bytes text.old ++ (directive.now ++ (10 ∷ (text_of (body_lines arrays.now procedure.now.instructions 0 procedure.now.instructions) ++ codes ".end\n")))) }
+    ensures { OnOk result (string_bytes text.new ≡ string_bytes text.old ++ (directive.now ++ (codes "\n" ++ (text_of (body_lines arrays.now procedure.now.instructions 0 procedure.now.instructions) ++ codes ".end\n")))) }
 {
     text.push_str(directive)?;
     text.push_str("\n")?;

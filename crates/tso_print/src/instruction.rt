@@ -28,7 +28,7 @@ pub fn push_label_name(text: &mut String, at: usize) -> Result<(), AllocError>
 // A mnemonic with the register behind it.
 #[tactic(auto, using(crate::proofs::Joins::joins))]
 fn push_one(text: &mut String, word: &str, register: Register) -> Result<(), AllocError>
-    ensures { OnOk result (string_bytes text.new ≡ string_bytes text.old ++ (32 ∷ 32 ∷ (word.now ++ spelled (spaced (register_sign register) ∷ [])))) }
+    ensures { OnOk result (string_bytes text.new ≡ string_bytes text.old ++ (codes "  " ++ (word.now ++ spelled (spaced (register_sign register) ∷ [])))) }
 {
     text.push_str("  ")?;
     text.push_str(word)?;
@@ -40,7 +40,7 @@ fn push_one(text: &mut String, word: &str, register: Register) -> Result<(), All
 // A mnemonic with a register and a source.
 #[tactic(auto, using(crate::proofs::Joins::joins))]
 fn push_two(text: &mut String, word: &str, left: Register, right: Source) -> Result<(), AllocError>
-    ensures { OnOk result (string_bytes text.new ≡ string_bytes text.old ++ (32 ∷ 32 ∷ (word.now ++ spelled (spaced (register_sign left) ∷ tight comma ∷ source_pieces right)))) }
+    ensures { OnOk result (string_bytes text.new ≡ string_bytes text.old ++ (codes "  " ++ (word.now ++ spelled (spaced (register_sign left) ∷ tight comma ∷ source_pieces right)))) }
 {
     push_one(text, word, left)?;
     text.push_str(",")?;
@@ -98,7 +98,7 @@ fn push_bound(text: &mut String, bound: Option<u8>) -> Result<(), AllocError>
 }
 
 fn push_jump_word(text: &mut String, when: Option<Condition>) -> Result<(), AllocError>
-    ensures { OnOk result (string_bytes text.new ≡ string_bytes text.old ++ (32 ∷ 32 ∷ jump_word when)) }
+    ensures { OnOk result (string_bytes text.new ≡ string_bytes text.old ++ (codes "  " ++ jump_word when)) }
 {
     match when {
         None => text.push_str("  jmp"),
@@ -116,7 +116,7 @@ fn push_jump(
     target: usize,
     bound: Option<u8>,
 ) -> Result<(), AllocError>
-    ensures { OnOk result (string_bytes text.new ≡ string_bytes text.old ++ (32 ∷ 32 ∷ (jump_word when ++ spelled (spaced (name (label_name target)) ∷ bound_pieces bound)))) }
+    ensures { OnOk result (string_bytes text.new ≡ string_bytes text.old ++ (codes "  " ++ (jump_word when ++ spelled (spaced (name (label_name target)) ∷ bound_pieces bound)))) }
 {
     push_jump_word(text, when)?;
     text.push_str(" ")?;

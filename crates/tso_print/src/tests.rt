@@ -1,141 +1,7 @@
 use super::*;
+use crate::programs;
 use std::test::*;
 use tso_prog::{Array, Client, Procedure, read};
-
-// Each program of the examples, with its labels named by their places.
-const SPIN: &str = ".capacity 2
-.mode strict
-.array held 1
-.array head 1
-.array tail 1
-.array buf 2
-.push
-l0:
-  mov rbx, 1
-  xchg qword ptr [held], rbx
-  test rbx, rbx
-  jne l0 bound 1
-  mov rcx, qword ptr [tail]
-  mov rsi, qword ptr [head]
-  mov rdx, rcx
-  sub rdx, rsi
-  cmp rdx, 2
-  je l18
-  mov rdx, rcx
-  and rdx, 1
-  mov qword ptr [buf + rdx*8], rdi
-  inc rcx
-  mov qword ptr [tail], rcx
-  mov qword ptr [held], 0
-  mov rax, 1
-  ret
-l18:
-  mov qword ptr [held], 0
-  mov rax, 0
-  ret
-.end
-.pop
-l0:
-  mov rbx, 1
-  xchg qword ptr [held], rbx
-  test rbx, rbx
-  jne l0 bound 1
-  mov rcx, qword ptr [head]
-  mov rsi, qword ptr [tail]
-  cmp rcx, rsi
-  je l16
-  mov rsi, rcx
-  and rsi, 1
-  mov rdx, qword ptr [buf + rsi*8]
-  inc rcx
-  mov qword ptr [head], rcx
-  mov qword ptr [held], 0
-  mov rax, 1
-  ret
-l16:
-  mov qword ptr [held], 0
-  mov rdx, 0
-  mov rax, 0
-  ret
-.end
-.thread push 7, push 8
-.thread pop, pop
-";
-
-const VYUKOV: &str = ".capacity 2
-.mode strict
-.array seq 2 = 0, 1
-.array data 2
-.array enq 1
-.array deq 1
-.push
-l0:
-  mov rcx, qword ptr [enq]
-  mov rbx, rcx
-  and rbx, 1
-  mov rdx, qword ptr [seq + rbx*8]
-  cmp rdx, rcx
-  jl l16
-  jne l0 bound 2
-  mov rax, rcx
-  mov rsi, rcx
-  inc rsi
-  lock cmpxchg qword ptr [enq], rsi
-  jne l0 bound 2
-  mov qword ptr [data + rbx*8], rdi
-  mov qword ptr [seq + rbx*8], rsi
-  mov rax, 1
-  ret
-l16:
-  mov rax, 0
-  ret
-.end
-.pop
-l0:
-  mov rcx, qword ptr [deq]
-  mov rbx, rcx
-  and rbx, 1
-  mov rdx, qword ptr [seq + rbx*8]
-  mov rsi, rcx
-  inc rsi
-  cmp rdx, rsi
-  jl l17
-  jne l0 bound 2
-  mov rax, rcx
-  lock cmpxchg qword ptr [deq], rsi
-  jne l0 bound 2
-  mov rdx, qword ptr [data + rbx*8]
-  add rcx, 2
-  mov qword ptr [seq + rbx*8], rcx
-  mov rax, 1
-  ret
-l17:
-  mov rdx, 0
-  mov rax, 0
-  ret
-.end
-.thread push 1
-.thread push 2
-.thread pop
-";
-
-const TWO_CELLS: &str = ".capacity 1
-.mode weak
-.array n 2
-.push
-  mov qword ptr [n], 5
-  mov rax, 0
-  ret
-.end
-.pop
-  mov qword ptr [n + 8], 6
-  mov rdx, 0
-  mov rax, 0
-  ret
-.end
-.thread push 7
-.thread pop
-";
 
 // Every form of an instruction, and what a text may have in other words.
 const ALL_FORMS: &str = ".capacity 16 ; sixteen
@@ -251,15 +117,21 @@ fn is_same_client(a: &Client, b: &Client) -> bool {
 #[test]
 fn what_is_printed_is_read_again(rt: HostRuntime) -> Result<(), Fail> {
     let alloc = rt.alloc();
-    for (text, expected) in [
-        (SPIN, SPIN),
-        (VYUKOV, VYUKOV),
-        (TWO_CELLS, TWO_CELLS),
-        (ALL_FORMS, ALL_FORMS_PRINTED),
-    ] {
+    let client = read(alloc, ALL_FORMS.as_bytes())?;
+    let printed = print(alloc, &client)?;
+    assert_eq!(rt; printed.as_str(), ALL_FORMS_PRINTED);
+    let again = read(alloc, printed.as_str().as_bytes())?;
+    assert!(rt; is_same_client(&client, &again));
+    Ok(())
+}
+
+#[test]
+fn programs_are_printed_as_they_are(rt: HostRuntime) -> Result<(), Fail> {
+    let alloc = rt.alloc();
+    for text in programs::ALL {
         let client = read(alloc, text.as_bytes())?;
         let printed = print(alloc, &client)?;
-        assert_eq!(rt; printed.as_str(), expected);
+        assert_eq!(rt; printed.as_str(), text);
         let again = read(alloc, printed.as_str().as_bytes())?;
         assert!(rt; is_same_client(&client, &again));
     }
