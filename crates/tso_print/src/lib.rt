@@ -12,6 +12,4 @@ pub use client::print;
 pub use laws::printed_is_read_back;
 
 #[cfg(test)]
-mod programs;
-#[cfg(test)]
 mod tests;

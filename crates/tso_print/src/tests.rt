@@ -1,5 +1,4 @@
 use super::*;
-use crate::programs;
 use std::test::*;
 use tso_prog::{Array, Client, Procedure, read};
 
@@ -122,18 +121,5 @@ fn what_is_printed_is_read_again(rt: HostRuntime) -> Result<(), Fail> {
     assert_eq!(rt; printed.as_str(), ALL_FORMS_PRINTED);
     let again = read(alloc, printed.as_str().as_bytes())?;
     assert!(rt; is_same_client(&client, &again));
-    Ok(())
-}
-
-#[test]
-fn programs_are_printed_as_they_are(rt: HostRuntime) -> Result<(), Fail> {
-    let alloc = rt.alloc();
-    for text in programs::ALL {
-        let client = read(alloc, text.as_bytes())?;
-        let printed = print(alloc, &client)?;
-        assert_eq!(rt; printed.as_str(), text);
-        let again = read(alloc, printed.as_str().as_bytes())?;
-        assert!(rt; is_same_client(&client, &again));
-    }
     Ok(())
 }
