@@ -1,13 +1,10 @@
 -- Cells by array and index, and by place.
-use Rattle.std.proofs.Common.{◌≡◌, ◌≢◌, ◌∙◌, ℕ, zero, suc, ◌+◌, ◌-◌, ◌<◌, ◌≤◌, ◌^◌, ◌↔◌, Bool, true, false, not, ◌&&◌, cond, ltb, Option, Some, None, List, [], ◌∷◌, ◌++◌, length, map, take, get_or, sum_by, slice_get, IsTrue, pos, sym, ap, subst, refl, arith, decimal, inl, inr}
-use Rattle.std.specs.List.{list_all, list_any, position}
-use Rattle.std.specs.Str.{bytes_eq}
-use Rattle.std.proofs.lemmas.Bool.{and_parts, and_from, ltb-true, ltb-false, lt-ltb, le-ltb, both_ways, cases_Bool, cases_lt, cond-true, cond-false}
+use Rattle.std.proofs.Common.{◌≡◌, ◌∙◌, ℕ, zero, suc, ◌+◌, ◌-◌, ◌<◌, ◌≤◌, ltb, Some, None, List, [], ◌∷◌, length, take, sum_by, slice_get, sym, ap, subst, refl, arith, inl, inr}
+use Rattle.std.proofs.lemmas.Bool.{lt-ltb, le-ltb, cases_lt, cond-true, cond-false}
 use Rattle.std.proofs.lemmas.List.Sums.{sum_by-cons}
 use Rattle.std.proofs.lemmas.Option.{none-some, same_Some}
 use Rattle.tso_prog.specs.declared.client.Array.{Array}
-use Rattle.tso_prog.specs.Limits.{are_distinct, is_short_name}
-use Rattle.tso_machine.specs.Places.{first_place, place_of}
+use Rattle.tso_machine.specs.Places.{first_place}
 use Rattle.tso_trace.specs.Grammar.{cell_in, named_cell}
 
 -- how many words arrays have

@@ -1,9 +1,8 @@
 -- The places of a run's labels are those of memory.
-use Rattle.std.proofs.Common.{◌≡◌, ◌∙◌, ℕ, ◌<◌, ◌+◌, Bool, true, false, ◌&&◌, nat_le, nat_lt, ◌==◌, if◌then◌else◌, List, [], ◌∷◌, ◌++◌, length, map, sum_by, take, slice_get, slice_set, Option, Some, None, sym, ap, subst, refl, arith}
+use Rattle.std.proofs.Common.{◌≡◌, ℕ, ◌<◌, ◌+◌, true, nat_le, nat_lt, ◌==◌, if◌then◌else◌, List, [], ◌∷◌, ◌++◌, length, map, take, slice_get, slice_set, Option, Some, None, subst, refl}
 use Rattle.std.specs.Prelude.{unwrap_or}
 use Rattle.std.specs.List.{list_all}
 use Rattle.std.proofs.lemmas.Bool.{and_from, and_parts, both_ways, cond_both, lt-ltb, true_from_ne_false}
-use Rattle.std.proofs.lemmas.List.{append_assoc}
 use Rattle.std.proofs.lemmas.List.Concat.{length-flat_map}
 use Rattle.std.proofs.Math.Logic.{∥∥₁_elim}
 use Rattle.tso_line.specs.declared.instruction.Address.{Address}
@@ -28,9 +27,9 @@ use Rattle.tso_machine.specs.declared.label.LabelKind.TheVariants as kinds
 use Rattle.tso_model.proofs.Labelled.{run_append}
 use Rattle.tso_model.specs.Labels as model
 use Rattle.tso_model.specs.Labels.{By, Kind, Machine, Rule, Run, Thread, call, drain, fault, fence, first_machine, lock, read, read_locked, reg, return, unlock, write, write_locked}
-use Rattle.tso_model.specs.Programs.{Action, Silent, Load, Store, Barrier, Locked, Ret, Fail, Cut, Refused, BadAnswer, FalseAssertion}
+use Rattle.tso_model.specs.Programs.{Action, Silent, Load, Store, Locked, Ret, Fail, Cut, Refused, BadAnswer, FalseAssertion}
 use Rattle.tso_model.specs.WellFormed.{Within}
-use Rattle.tso_trace.specs.Grammar.{is_access, is_proper, is_proper_kind}
+use Rattle.tso_trace.specs.Grammar.{is_proper, is_proper_kind}
 use Rattle.tso_trace.specs.Parts.{has_words, is_inside, kind_has_words}
 use Rattle.tso_trace.specs.Runs.{IsErrorTrace}
 

@@ -1,5 +1,5 @@
 -- What threads do, by its text.
-use Rattle.std.proofs.Common.{◌≡◌, ◌≢◌, ◌∙◌, ℕ, ◌+◌, ◌<◌, ◌^◌, Bool, true, false, List, [], ◌∷◌, ◌++◌, Option, Some, None, codes, decimal, IsTrue, sym, ap, refl, arith}
+use Rattle.std.proofs.Common.{◌≡◌, ◌≢◌, ℕ, ◌<◌, ◌^◌, false, List, ◌++◌, codes, decimal, IsTrue}
 use Rattle.std.proofs.lemmas.Bool.{ltb-true, true≢false}
 use Rattle.tso_line.specs.declared.instruction.CallKind.TheVariants as calls
 use Rattle.tso_prog.specs.declared.answer.Answer.TheVariants as answers

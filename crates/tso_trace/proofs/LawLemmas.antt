@@ -1,5 +1,5 @@
 -- The laws of the text of traces, and of walks along them.
-use Rattle.std.proofs.Common.{◌≡◌, ◌≢◌, ◌∙◌, ◌⊎◌, ℕ, zero, suc, ◌+◌, ◌<◌, Bool, true, false, List, [], ◌∷◌, ◌++◌, length, map, take, Some, slice_get, sym, ap, subst, refl, arith, inl, inr, IsTrue}
+use Rattle.std.proofs.Common.{◌≡◌, ◌≢◌, ◌∙◌, ℕ, suc, true, List, [], ◌∷◌, ◌++◌, length, map, take, sym, ap, subst, refl, arith, inl, inr}
 use Rattle.std.specs.List.{list_all}
 use Rattle.std.proofs.lemmas.Bool.{and_parts, both_ways}
 use Rattle.std.proofs.lemmas.List.{append_assoc, append_cancel_left, append-nil, length-append, length_push}
@@ -13,10 +13,9 @@ use Rattle.tso_model.specs.Labels.{Machine, Run, first_machine}
 use Rattle.tso_model.specs.Programs.{Program}
 use Rattle.tso_trace.specs.declared.fault.TraceFault.{TraceFault}
 use Rattle.tso_trace.specs.declared.fault.TraceFault.TheVariants.{NotAStep, NoError, Grammar, Memory}
-use Rattle.tso_trace.specs.Grammar.{ended, header, is_proper, line_text, lines_text, trace_text, GoesWrong, HasHeader, HasLine, IsFirstBadLine, IsLineOf, IsReadFault, IsTextOf}
+use Rattle.tso_trace.specs.Grammar.{ended, header, is_proper, line_text, lines_text, GoesWrong, HasHeader, HasLine, IsFirstBadLine, IsTextOf}
 use Rattle.tso_trace.specs.Laws.{AreTextsUnique, BackIsInverse, LinesAreUnique, PlacesShowOneState, ReadsBack}
 use Rattle.tso_trace.specs.Runs.{IsErrorTrace, IsTraceFault, LeadsTo}
-use Rattle.tso_trace.specs.Walks.{Shown, StandsAt}
 use Rattle.tso_trace.proofs.EndLemmas.{goes_on, same_machine}
 use Rattle.tso_trace.proofs.SameLemmas.{same_label}
 use Rattle.tso_trace.proofs.TextLemmas.{same_first}

@@ -1,5 +1,5 @@
 -- Where a byte stands first in a text.
-use Rattle.std.proofs.Common.{◌≡◌, ◌≢◌, ◌∙◌, ℕ, ◌+◌, ◌<◌, ◌≤◌, ◌^◌, Bool, true, false, not, ◌&&◌, eqb, leb, Option, Some, None, MatchOption, List, [], ◌∷◌, ◌++◌, length, sym, ap, refl, arith, decimal}
+use Rattle.std.proofs.Common.{◌≡◌, ◌≢◌, ◌∙◌, ℕ, ◌<◌, ◌≤◌, ◌^◌, true, false, not, eqb, Option, Some, None, MatchOption, List, [], ◌∷◌, ◌++◌, sym, ap, refl, decimal}
 use Rattle.std.specs.Char.{is_ascii_digit}
 use Rattle.std.specs.Str.Parse.{AllDigits}
 use Rattle.std.proofs.lemmas.Bool.{and_parts, and_from, eqb-false, le-leb, ne_eqb, not_from_false, not-true, both_ways}

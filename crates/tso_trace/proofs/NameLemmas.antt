@@ -1,5 +1,5 @@
 -- Names of arrays: no two are the same, and each is a name.
-use Rattle.std.proofs.Common.{◌≡◌, ◌≢◌, ◌∙◌, ℕ, zero, suc, ◌+◌, ◌-◌, ◌<◌, ◌≤◌, ◌^◌, Bool, true, false, not, ◌&&◌, ◌||◌, cond, eqb, leb, ltb, Option, Some, None, List, [], ◌∷◌, ◌++◌, length, map, get_or, sum_by, slice_get, IsTrue, sym, ap, subst, refl, arith, inl, inr, ⊎_elim}
+use Rattle.std.proofs.Common.{◌≡◌, ◌≢◌, ◌∙◌, ℕ, zero, suc, ◌+◌, ◌<◌, ◌≤◌, Bool, true, false, cond, eqb, Some, None, List, [], ◌∷◌, length, map, get_or, slice_get, sym, ap, refl, arith, inl, inr}
 use Rattle.std.specs.Char.{is_ascii_digit, is_ascii_alphabetic}
 use Rattle.std.specs.Int.{is_in_range}
 use Rattle.std.specs.List.{list_all, list_any, position, position_or_len}
@@ -10,7 +10,6 @@ use Rattle.std.proofs.lemmas.Option.{get_or_from_slice_get, none-some, same_Some
 use Rattle.std.proofs.lemmas.Slice.Eq.{bytes_eq-Decides}
 use Rattle.tso_line.specs.Proper.{goes_on, is_letter, is_name}
 use Rattle.tso_prog.specs.declared.client.Array.{Array}
-use Rattle.tso_prog.specs.declared.client.Client.{Client}
 use Rattle.tso_prog.specs.Limits.{are_distinct, is_short_name}
 use Rattle.tso_trace.specs.Parts.{lacks}
 

@@ -1,23 +1,21 @@
 -- A line spells one label at most.
-use Rattle.std.proofs.Common.{◌≡◌, ◌≢◌, ◌∙◌, ℕ, ◌+◌, ◌<◌, ◌^◌, Bool, true, false, cond, eqb, List, [], ◌∷◌, ◌++◌, Option, Some, None, codes, decimal, IsTrue, sym, ap, refl, arith}
+use Rattle.std.proofs.Common.{◌≡◌, ◌∙◌, ℕ, ◌<◌, ◌^◌, Bool, true, false, cond, eqb, List, [], ◌∷◌, ◌++◌, Some, codes, decimal, sym, ap, refl}
 use Rattle.std.proofs.lemmas.Bool.{and_parts, both_ways, cond-true, eq-eqb, ltb-true}
 use Rattle.std.proofs.lemmas.Fmt.{decimal_injective}
 use Rattle.std.proofs.lemmas.List.{append_cancel_left}
-use Rattle.std.proofs.lemmas.Option.{same_Some}
 use Rattle.tso_line.specs.Proper.{is_call}
 use Rattle.tso_line.specs.declared.instruction.CallKind.{CallKind}
 use Rattle.tso_line.specs.declared.instruction.CallKind.TheVariants as calls
 use Rattle.tso_prog.specs.declared.answer.Answer.{Answer}
 use Rattle.tso_prog.specs.declared.answer.Answer.TheVariants as answers
-use Rattle.tso_prog.specs.declared.client.Array.{Array}
 use Rattle.tso_prog.specs.declared.client.Client.{Client}
 use Rattle.tso_machine.specs.declared.action.FaultKind.{FaultKind}
 use Rattle.tso_machine.specs.declared.action.FaultKind.TheVariants as faults
 use Rattle.tso_machine.specs.declared.label.Label.{Label}
 use Rattle.tso_machine.specs.declared.label.LabelKind.{LabelKind}
 use Rattle.tso_machine.specs.declared.label.LabelKind.TheVariants as kinds
-use Rattle.tso_trace.specs.Grammar.{access_text, answer_text, call_text, fault_text, is_answer, cell_in, is_access, is_proper, is_proper_kind, kind_text, line_text, named_cell, IsLineOf}
-use Rattle.tso_trace.proofs.AccessLemmas.{AccessOf, access_of, same_place, same_split}
+use Rattle.tso_trace.specs.Grammar.{access_text, answer_text, call_text, fault_text, is_answer, is_access, is_proper_kind, kind_text, IsLineOf}
+use Rattle.tso_trace.proofs.AccessLemmas.{access_of, same_place, same_split}
 use Rattle.tso_trace.proofs.LineLemmas.{decimal_lacks, same_cut}
 
 -- one of the texts has another byte, or ends, where the other goes on

@@ -1,4 +1,4 @@
-use Rattle.std.proofs.Common.{sym, refl, ◌∙◌, ap, List, ℕ, ◌++◌, ◌∷◌}
+use Rattle.std.proofs.Common.{sym, ◌∙◌}
 use Rattle.std.proofs.lemmas.Option.{none-some}
 use Rattle.tso_trace.proofs.LineLemmas.{same_cut}
 use Rattle.tso_trace.proofs.TextLemmas.{ended_parts, line_lacks}

@@ -1,4 +1,4 @@
-use Rattle.std.proofs.Common.{◌≡◌, ◌++◌, length, IsTrue, true}
+use Rattle.std.proofs.Common.{◌≡◌, ◌++◌, length, true}
 use Rattle.std.specs.List.{list_all}
 use Rattle.tso_trace.specs.Grammar.{is_proper, trace_text}
 use Rattle.tso_trace.proofs.grammar.labels_of.Given as goal

@@ -1,5 +1,5 @@
-use Rattle.std.proofs.Common.{rules, ◌≡◌, ◌<◌, ◌^◌, ℕ, List, decimal, subst, sym, Ok, Err, ap, true, IsTrue, ◌∙◌}
-use Rattle.tso_trace.proofs.Numbers.{IsPlain, decimal_is_plain, decimal_is_text, none_read, read_is}
+use Rattle.std.proofs.Common.{rules, sym, ◌∙◌}
+use Rattle.tso_trace.proofs.Numbers.{decimal_is_plain, decimal_is_text, none_read, read_is}
 use Rattle.tso_trace.proofs.parts.number.Goals as goal
 
 pub returns-then-not-is_plain : goal.returns-then-not-is_plain

@@ -1,7 +1,6 @@
-use Rattle.std.proofs.Common.{◌≡◌, ◌∙◌, Some, ap, sym, subst, refl, List, ℕ, ◌∷◌, ◌++◌, decimal}
+use Rattle.std.proofs.Common.{◌∙◌, Some, ap, sym, subst, refl, List, ℕ, ◌∷◌, ◌++◌, decimal}
 use Rattle.std.proofs.lemmas.Bool.{and_from, and_parts, lt-ltb, ltb-true}
 use Rattle.std.proofs.lemmas.Option.{none-some, same_Some}
-use Rattle.tso_machine.specs.declared.label.Label.{Label}
 use Rattle.tso_trace.specs.Grammar.{IsLineOf}
 use Rattle.tso_trace.proofs.LineLemmas.{decimal_lacks, same_cut}
 use Rattle.tso_trace.proofs.SameLemmas.{same_label}

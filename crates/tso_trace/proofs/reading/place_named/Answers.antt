@@ -1,4 +1,4 @@
-use Rattle.std.proofs.Common.{◌≡◌, ◌∙◌, sym, Some}
+use Rattle.std.proofs.Common.{◌∙◌, sym}
 use Rattle.std.proofs.lemmas.Option.{none-some}
 use Rattle.tso_trace.proofs.AccessLemmas.{nowhere, somewhere}
 use Rattle.tso_trace.proofs.reading.place_named.Goals as goal

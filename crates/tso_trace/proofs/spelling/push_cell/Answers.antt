@@ -1,4 +1,4 @@
-use Rattle.std.proofs.Common.{◌≡◌, ◌∙◌, ◌++◌, List, ℕ, ap, get_or, sym, string_bytes, IsTrue, true}
+use Rattle.std.proofs.Common.{◌∙◌, ◌++◌, List, ℕ, ap, get_or, sym, string_bytes, IsTrue}
 use Rattle.std.proofs.lemmas.List.{append_assoc}
 use Rattle.std.proofs.lemmas.Option.{slice_get-get_or}
 use Rattle.std.proofs.lemmas.Result.{on_ok_weaker}

@@ -1,4 +1,4 @@
-use Rattle.std.proofs.Common.{◌≡◌, ◌∙◌, ◌++◌, List, ℕ, ap, sym, string_bytes, take}
+use Rattle.std.proofs.Common.{◌∙◌, ◌++◌, List, ℕ, ap, sym, string_bytes}
 use Rattle.std.proofs.lemmas.List.{append_assoc, take_more}
 use Rattle.tso_trace.proofs.NameLemmas.{name_ascii}
 use Rattle.tso_trace.proofs.spelling.push_name.Goals as goal
