@@ -1,5 +1,5 @@
 -- A run goes on to each of its labels, so a walk along it stops at its end alone.
-use Rattle.std.proofs.Common.{◌≡◌, ◌∙◌, ℕ, zero, suc, arith, Some, slice_get, List, [], ◌∷◌, length, map, take, sym, ap, subst}
+use Rattle.std.proofs.Common.{◌≡◌, ◌∙◌, ℕ, zero, suc, Some, slice_get, List, [], ◌∷◌, length, map, take, sym, ap, subst}
 use Rattle.std.proofs.lemmas.Option.{same_Some, none-some}
 use Rattle.tso_prog.specs.declared.client.Client.{Client}
 use Rattle.tso_machine.specs.Activations.{Activation}

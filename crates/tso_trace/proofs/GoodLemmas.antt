@@ -14,7 +14,6 @@ use Rattle.tso_machine.specs.declared.label.LabelKind.{LabelKind}
 use Rattle.tso_machine.specs.declared.label.LabelKind.TheVariants as kinds
 use Rattle.tso_model.proofs.Theorems.{orders_are_linearizations}
 use Rattle.tso_model.specs.Faults.{HasFaultOf, IsFaultOf}
-use Rattle.tso_model.specs.Labels as model
 use Rattle.tso_model.specs.Events.{events_of}
 use Rattle.tso_model.specs.Linear.{IsLinearizable, IsLinearization, IsOrder, Placed}
 use Rattle.tso_model.specs.Objects.{Object, Queue}

@@ -1,7 +1,7 @@
 -- The laws of the text of traces, and of walks along them.
 use Rattle.std.proofs.Common.{◌≡◌, ◌≢◌, ◌∙◌, ℕ, suc, true, List, [], ◌∷◌, ◌++◌, length, map, take, sym, ap, subst, refl, arith, inl, inr}
 use Rattle.std.specs.List.{list_all}
-use Rattle.std.proofs.lemmas.Bool.{and_parts, both_ways}
+use Rattle.std.proofs.lemmas.Bool.{and_parts}
 use Rattle.std.proofs.lemmas.List.{append_assoc, append_cancel_left, append-nil, length-append, length_push}
 use Rattle.tso_prog.specs.declared.client.Client.{Client}
 use Rattle.tso_machine.specs.Activations.{Activation}

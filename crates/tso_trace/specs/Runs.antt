@@ -1,5 +1,5 @@
 -- Runs of a client's labels (Sewell and others 2010), and which of them are good (Herlihy and Wing 1990).
-use Rattle.std.specs.Prelude.{◌≡◌, ℕ, ◌+◌, ◌<◌, Bool, false, true, List, [], ◌∷◌, length, map, take, Option, Some, None, slice_get}
+use Rattle.std.specs.Prelude.{◌≡◌, ℕ, ◌+◌, Bool, false, true, List, map, take, Option, Some, None, slice_get}
 use Rattle.std.specs.List.{find, list_any}
 use Rattle.std.specs.Option.{option_map}
 use Rattle.tso_prog.specs.declared.client.Client.{Client}

@@ -1,6 +1,5 @@
-use Rattle.std.proofs.Common.{sym, ap, arith, length, Err}
+use Rattle.std.proofs.Common.{sym, ap, Err}
 use Rattle.std.proofs.Math.Logic.{∥∥₁_elim}
-use Rattle.tso_machine.proofs.CallLists.{none_past}
 use Rattle.tso_trace.proofs.EndLemmas.{never_stuck}
 use Rattle.tso_trace.proofs.WalkLemmas.{at_more}
 use Rattle.tso_trace.proofs.cursor.step_on.Goals as goal

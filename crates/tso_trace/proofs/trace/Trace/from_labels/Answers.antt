@@ -5,5 +5,5 @@ use Rattle.tso_trace.proofs.trace.Trace.from_labels.Goals as goal
 pub invariant_of-result : goal.invariant_of-result
 invariant_of-result c = record {
   erring = merely (erring_copy c.args.checked.now.client _ _ c.args.labels.items _ _ c.in_ok-copied.ensures c.deref-2.ensures.value c.deref.ensures.value c.from_vec.ensures
-    c.in_ok-take_steps.ensures.run (c.in_ok-is_good.ensures.errs c.if-branch.false));
+      c.in_ok-take_steps.ensures.run (c.in_ok-is_good.ensures.errs c.if-branch.false));
 }
