@@ -344,6 +344,9 @@ open_less (false ∷ taken) zero e = omega arith
 open_less (true ∷ taken) (suc i) e = open_less taken i e
 open_less (false ∷ taken) (suc i) e = omega (arith, open_less taken i e)
 
+pub open_falls : (at next : Configuration) (i : ℕ) (kind : kinds.CallKind) (answer : Answer) → next ≡ next_at at i kind answer → slice_get at.taken i ≡ Some false → open_count next.taken < open_count at.taken
+open_falls at next i kind answer is down = omega (arith, ap (λ (a : Configuration). open_count a.taken) is, open_less at.taken i down)
+
 -- an element pushed and then popped
 pub pushed_popped : {X : Type 0} (before now after : List X) (x : X) → now ≡ before ++ x ∷ [] → after ≡ take (length now - 1) now → after ≡ before
 pushed_popped before now after x p q =

@@ -1,13 +1,16 @@
 -- What holds of all histories and their orders.
-use Rattle.std.specs.Prelude.{ℕ, ◌↔◌, List, ◌++◌}
+use Rattle.std.specs.Prelude.{◌≡◌, ℕ, ◌↔◌, List, ◌++◌}
 use Rattle.tso_fifo.specs.Orders.{HasOrder, IsOrderOf}
 use Rattle.tso_hist.specs.declared.call.Call.{Call}
 use Rattle.tso_hist.specs.Turns.{IsHistoryOf, IsInTurn}
 use Rattle.tso_hist.specs.Views.{history_view}
 use Rattle.tso_line.specs.declared.instruction.Mode.{Mode}
-use Rattle.tso_model.specs.Events.{Event}
+use Rattle.tso_model.specs.Events.{Event, after_events, events_of}
+use Rattle.tso_model.specs.Labels.{Label, Machine, Run, first_machine}
 use Rattle.tso_model.specs.Linear.{IsLinearization, Placed}
 use Rattle.tso_model.specs.Objects.{Queue}
+use Rattle.tso_model.specs.Programs.{Program}
+use Rattle.tso_model.specs.States.{first_history}
 use Rattle.tso_model.specs.Strictness.{HistoryAtLeast}
 use Rattle.tso_prog.specs.Views.{mode_view}
 
@@ -15,6 +18,11 @@ use Rattle.tso_prog.specs.Views.{mode_view}
 abbrev pub OrdersAreLinearizations : Type 0
 OrdersAreLinearizations = (mode : Mode) (capacity n : ℕ) (events : List Event) (h : List (List Call)) (order : List Placed) → IsInTurn n events → IsHistoryOf n events h →
     IsOrderOf mode capacity h order ↔ IsLinearization (Queue (mode_view mode) capacity) events order
+
+-- the same of the history that a run's events made, from that of a program's threads without a call on
+abbrev pub OrdersOfRuns : Type 0 → Type 0
+OrdersOfRuns F = (P : Program F) (memory : List ℕ) (labels : List Label) (m : Machine F) (mode : Mode) (capacity : ℕ) (h : List (List Call)) (order : List Placed) → Run P (first_machine P memory) labels m → history_view h ≡ after_events (first_history P) (events_of labels) →
+    IsOrderOf mode capacity h order ↔ IsLinearization (Queue (mode_view mode) capacity) (events_of labels) order
 
 -- a history that a beginning of the events made has an order where the whole one has
 abbrev pub BeginningsAreLinearizable : Type 0

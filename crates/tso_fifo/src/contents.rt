@@ -1,5 +1,5 @@
 //! What a queue holds after the calls of an order, read from the order alone.
-ghost use Rattle.std.specs.Prelude.{◌≡◌, ◌+◌, length, slice_get};
+ghost use Rattle.std.specs.Prelude.{◌≡◌, length, slice_get};
 ghost use Rattle.tso_hist.specs.Views.{history_view};
 ghost use Rattle.tso_fifo.specs.Contents.{pushed_by, pushed, taken_by};
 

@@ -1,11 +1,16 @@
 //! What holds of all histories.
 
-ghost use Rattle.tso_fifo.specs.Laws.{BeginningsAreLinearizable, OrdersAreLinearizations, StricterOrdersServe};
+ghost use Rattle.tso_fifo.specs.Laws.{BeginningsAreLinearizable, OrdersAreLinearizations, OrdersOfRuns, StricterOrdersServe};
 
 /// The orders of the history that events make, each thread calling and returning in turn, are exactly the linearizations
 /// of the events.
 pub fn orders_are_linearizations()
     ensures { OrdersAreLinearizations }
+{}
+
+/// The orders of the history that a run's calls and returns make are exactly the linearizations of the run's events.
+pub fn orders_of_runs<F>()
+    ensures { OrdersOfRuns F }
 {}
 
 /// Where the history of a list of events has an order, so has that of each beginning of the list.

@@ -3,6 +3,8 @@
 
 mod candidate;
 mod check;
+#[cfg(test)]
+mod compare;
 mod contents;
 mod laws;
 mod memory;
@@ -13,6 +15,8 @@ mod search;
 mod tests;
 
 pub use check::is_linearization;
-pub use laws::{beginnings_are_linearizable, orders_are_linearizations, stricter_orders_serve};
+pub use laws::{
+    beginnings_are_linearizable, orders_are_linearizations, orders_of_runs, stricter_orders_serve,
+};
 pub use order::{Order, Placed};
 pub use search::linearize;

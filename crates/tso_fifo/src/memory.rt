@@ -1,5 +1,5 @@
 //! What a search remembers of where it has been.
-ghost use Rattle.std.specs.Prelude.{◌≡◌, ◌⊎◌, ◌∷◌, OnOk, IsTrue, Contains};
+ghost use Rattle.std.specs.Prelude.{◌≡◌, ◌↔◌, ◌⊎◌, ◌∷◌, OnOk, OnErr, IsTrue, Contains};
 ghost use Rattle.std.specs.List.Sorted.{IsPermutation};
 
 use std::alloc::AllocError;
@@ -27,14 +27,16 @@ impl Exact for Key {
 
 // The key is among these.
 pub(crate) fn is_known(keys: &HashSet<Key>, key: &Key) -> bool
-    ensures { IsTrue result → Contains keys.now.keys key.now }
+    ensures { IsTrue result ↔ Contains keys.now.keys key.now }
 {
     keys.contains(key)
 }
 
-// Adds the key.
+// Adds the key. Want of memory leaves the keys as they were.
 pub(crate) fn remember(keys: &mut HashSet<Key>, key: Key) -> Result<(), AllocError>
-    ensures { OnOk result (IsPermutation (key ∷ keys.old.keys) keys.new.keys ⊎ (keys.new.keys ≡ keys.old.keys)) }
+    ensures added { OnOk result (Contains keys.new.keys key) }
+    ensures others { OnOk result (IsPermutation (key ∷ keys.old.keys) keys.new.keys ⊎ (keys.new.keys ≡ keys.old.keys)) }
+    ensures err { OnErr result (keys.new.keys ≡ keys.old.keys) }
 {
     keys.insert(key)?;
     Ok(())

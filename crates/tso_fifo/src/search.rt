@@ -2,8 +2,7 @@
 //! another, and remembers from where no order can be completed.
 //! After Wing, Gong, "Testing and verifying concurrent objects", JPDC 17, 1993, and Lowe, "Testing for linearizability",
 //! Concurrency and Computation 29(4), 2017.
-ghost use Rattle.std.specs.Prelude.{◌≡◌, ◌↔◌, ℕ, ◌<◌, false, Some, None, List, [], ◌∷◌, length, map, take, replicate, IsTrue, IfOk, IfSome, IfNone, OnOk, All, option_map, slice_get, slice_set};
-ghost use Rattle.tso_fifo.specs.declared.search.Configuration.{Configuration as Reached};
+ghost use Rattle.std.specs.Prelude.{◌≡◌, ◌↔◌, ℕ, ◌<◌, false, Some, None, List, ◌∷◌, length, IsTrue, IfOk, IfSome, IfNone, OnOk, All, option_map, slice_get};
 ghost use Rattle.tso_fifo.specs.Candidates.{AreCandidates};
 ghost use Rattle.tso_fifo.specs.Orders.{HasOrder, IsOrderOf, order_view};
 ghost use Rattle.tso_fifo.specs.Search.{Completes, HasAllTaken, IsDead, IsDeadKey, IsOfUse, IsStart, Lets, MayBeNext, StandsNext, items_after, key_of, likely_answer, next_at, pops_left, pops_of, problem_of};

@@ -131,3 +131,51 @@ fn twelve_pushes_fill_a_queue(rt: HostRuntime) -> Result<(), Fail> {
     assert!(rt; linearize(rt.alloc(), &history, Mode::Strict, 11)?.is_none());
     Ok(())
 }
+
+// Seven pushes and five pops of five threads, each thread's next call after its last one: the pops have the words of the
+// first five pushes, but for the first of them, which has this one.
+fn pushes_and_pops(alloc: Global, first: u64) -> Result<History, AllocError> {
+    let mut history = History::new(alloc, 5)?;
+    for word in 0..7u64 {
+        let thread = (word % 5) as usize;
+        if word >= 5 {
+            history.on_return(thread, Answer::Done);
+        }
+        history.on_call(alloc, thread, CallKind::Push(word))?;
+    }
+    for (turn, word) in [first, 1, 2, 3, 4].iter().enumerate() {
+        let thread = (turn + 2) % 5;
+        history.on_return(thread, Answer::Done);
+        history.on_call(alloc, thread, CallKind::Pop)?;
+        history.on_return(thread, Answer::Value(*word));
+    }
+    Ok(history)
+}
+
+#[test]
+fn twelve_calls_have_an_order_or_none(rt: HostRuntime) -> Result<(), Fail> {
+    let history = pushes_and_pops(rt.alloc(), 0)?;
+    let order = linearize(rt.alloc(), &history, Mode::Strict, 7)?.ok_or("an order")?;
+    assert!(rt; is_linearization(&history, Mode::Strict, 7, &order));
+    let history = pushes_and_pops(rt.alloc(), 99)?;
+    assert!(rt; linearize(rt.alloc(), &history, Mode::Strict, 7)?.is_none());
+    Ok(())
+}
+
+#[test]
+fn refused_memory_is_no_answer(rt: HostRuntime) -> Result<(), Fail> {
+    if let Ok(history) = pushes_and_pops(rt.alloc(), 0) {
+        if let Ok(found) = linearize(rt.alloc(), &history, Mode::Strict, 7) {
+            assert!(rt; found.is_some());
+        }
+        if let Ok(found) = linearize(rt.alloc(), &history, Mode::Strict, 4) {
+            assert!(rt; found.is_some());
+        }
+    }
+    if let Ok(history) = pushes_and_pops(rt.alloc(), 99) {
+        if let Ok(found) = linearize(rt.alloc(), &history, Mode::Strict, 7) {
+            assert!(rt; found.is_none());
+        }
+    }
+    Ok(())
+}

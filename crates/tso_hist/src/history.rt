@@ -1,5 +1,5 @@
 //! The calls of each thread that have begun.
-ghost use Rattle.std.specs.Prelude.{◌≡◌, ◌↔◌, ℕ, List, IfOk, OnOk, OnErr, IsTrue, count_by, is_some, length, map, replicate, [], slice_get, slice_index_or, option_map, option_copied};
+ghost use Rattle.std.specs.Prelude.{◌≡◌, ◌↔◌, List, IfOk, OnOk, OnErr, IsTrue, count_by, is_some, length, map, replicate, [], slice_get, slice_index_or, option_map, option_copied};
 ghost use Rattle.tso_model.specs.Events.{CallOf, ReturnOf, after_event};
 ghost use Rattle.tso_model.specs.Linear.{Precedes, call_at};
 ghost use Rattle.tso_model.specs.Programs.{CallKind as ModelKind};

@@ -36,15 +36,18 @@ cell_text arrays place = unwrap_or (cell_in arrays place) (named_cell (codes "?"
 abbrev pub access_text : List Array → ℕ → ℕ → List ℕ
 access_text arrays place word = cell_text arrays place ++ (codes " = " ++ decimal word)
 
+-- which call begins
 abbrev pub call_text : CallKind → List ℕ
 call_text (calls.Push argument) = codes "push " ++ decimal argument
 call_text calls.Pop = codes "pop"
 
+-- what a call answers
 abbrev pub answer_text : Answer → List ℕ
 answer_text answers.Refused = codes "refused"
 answer_text answers.Done = codes "done"
 answer_text (answers.Value word) = codes "value " ++ decimal word
 
+-- why a thread stops
 abbrev pub fault_text : FaultKind → List ℕ
 fault_text faults.OutOfRange = codes "range"
 fault_text faults.FalseAssertion = codes "assert"
@@ -73,6 +76,7 @@ line_text arrays l = decimal l.thread ++ (codes " " ++ kind_text arrays l.kind)
 abbrev pub is_access : List Array → ℕ → ℕ → Bool
 is_access arrays place word = nat_lt place (sum_by (λ (a : Array). length a.words) arrays) && is_word word
 
+-- a word of 64 bits, where it has one
 abbrev pub is_answer : Answer → Bool
 is_answer (answers.Value word) = is_word word
 is_answer _ = true

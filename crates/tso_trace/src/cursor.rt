@@ -97,6 +97,7 @@ impl<'a> Cursor<'a> {
     /// Errors: where a growth was refused.
     pub fn new(alloc: Global, trace: &'a Trace) -> Result<Cursor<'a>, AllocError>
         ensures start { IfOk result (λ c. (c.client ≡ trace.entry.now.checked.client) × (c.labels ≡ trace.entry.now.labels) × (c.position ≡ 0)) }
+        ensures run { IfOk result StandsAt }
     {
         let machine = initial(alloc, &trace.checked)?;
         Ok(Cursor {
@@ -129,6 +130,7 @@ impl<'a> Cursor<'a> {
         ensures stayed { result ≡ Ok false → self.new ≡ self.old }
         ensures end { result ≡ Ok false → self.old.position ≡ length self.old.labels }
         ensures err { OnErr result (self.new ≡ self.old) }
+        ensures run { StandsAt self.new }
         ensures same { (self.new.client ≡ self.old.client) × (self.new.labels ≡ self.old.labels) }
     {
         let alloc = *self.undos.allocator();
@@ -139,6 +141,7 @@ impl<'a> Cursor<'a> {
     pub fn back(&mut self) -> bool
         ensures moved { result ≡ true → self.new.position + 1 ≡ self.old.position }
         ensures stayed { result ≡ false → (self.old.position ≡ 0) × (self.new ≡ self.old) }
+        ensures run { StandsAt self.new }
         ensures same { (self.new.client ≡ self.old.client) × (self.new.labels ≡ self.old.labels) }
     {
         step_back(&mut self.machine, &mut self.undos, self.trace)

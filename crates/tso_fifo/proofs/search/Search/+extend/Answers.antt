@@ -1,7 +1,7 @@
 use Rattle.std.proofs.Common.{◌≡◌, List, [], ◌∷◌, ◌++◌, get_or, refl, sym, ap, ◌∙◌, subst, arith}
 use Rattle.std.proofs.lemmas.Bool.{false≢true}
 use Rattle.std.proofs.lemmas.Option.{slice_get-get_or}
-use Rattle.tso_fifo.proofs.Completing.{dead_by_none, dead_by_search, none_left, open_count, open_less, pushed_popped, start_next, start_whole, tried_more}
+use Rattle.tso_fifo.proofs.Completing.{dead_by_none, dead_by_search, none_left, open_count, open_falls, pushed_popped, start_next, start_whole, tried_more}
 use Rattle.tso_fifo.proofs.Keys.{dead_key, flag_down}
 use Rattle.std.proofs.Common.{inl, inr, All}
 use Rattle.std.proofs.lemmas.List.{map-append}
@@ -44,9 +44,9 @@ extend-requires t c =
     let sound = c.in-Some.ensures.sound in
     let next = c.in_ok-next.ensures p here in
     let start = start_next s c.args.at.now (order_view h c.args.order.now) i p answer c.requires.all here c.requires.start sound in
-    let less = open_less c.args.at.now.taken i (flag_down c.args.self.now.candidates.now c.args.at.now.taken i p here c.requires.start.len sound.may.fresh) in
+    let less = open_falls c.args.at.now c.in_ok-next.next i p.kind answer next (flag_down c.args.self.now.candidates.now c.args.at.now.taken i p here c.requires.start.len sound.may.fresh) in
     let d : open_count c.args.at.now.taken ≡ t = c.decreases in (
-      omega (arith, less, d, ap (λ (a : Configuration). open_count a.taken) next),
+      omega (arith, less, d),
       (
         c.requires.all,
         (
@@ -85,7 +85,7 @@ returns-clause-known t c =
     let dead = none_left s c.args.at.now c.args.order.now c.loop-index.order c.loop-index.dead.keys c.loop-index.index c.requires.all c.loop-index-test.false c.loop-index.invariant
     (λ whole. false≢true (c.if-has_all_taken.ensures.1 (subst (HasAllTaken s) (sym c.as_slice.ensures) whole))) in
     let key = subst (IsDeadKey s) (sym c.in_ok-key.ensures) (dead_key s c.args.at.now c.requires.all dead) in
-    elim c.in_ok-remember.ensures [
+    elim c.in_ok-remember.ensures.others [
       | inl moved ↦ All-permutation (IsDeadKey s) (c.in_ok-key.key ∷ c.loop-index.dead.keys) c.remember.new.keys.keys moved (All-cons (IsDeadKey s) c.in_ok-key.key c.loop-index.dead.keys key c.loop-index.invariant.known)
       | inr same ↦ subst (All (IsDeadKey s)) (sym same) c.loop-index.invariant.known
     ]

@@ -1,0 +1,6 @@
+use Rattle.tso_trace.proofs.WalkLemmas.{stands}
+use Rattle.tso_trace.proofs.cursor.Cursor.back.Goals as goal
+
+pub returns-clause-run : goal.returns-clause-run
+returns-clause-run c =
+    stands c.self.inside.trace.now.checked.client c.self.inside.trace.now.labels c.step_back.new.undos.items c.step_back.new.machine c.step_back.ensures.at
