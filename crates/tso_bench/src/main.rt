@@ -1,5 +1,5 @@
-//! Benchmarks: how long a text of the greatest length is read, and how long a trace is walked forwards and back. The time is
-//! that of the whole process.
+//! Benchmarks: how long a text of the greatest length is read, how long orders of calls are sought, and how long a trace is
+//! walked forwards and back. The time is that of the whole process.
 #![tactic(auto)]
 
 ghost use Rattle.std.specs.Prelude.{◌≡◌, ◌+◌, ◌<◌, ◌≤◌, ◌⊎◌, length, IfOk, IfSome, OnOk, string_len};
@@ -7,6 +7,9 @@ ghost use Rattle.std.specs.Prelude.{◌≡◌, ◌+◌, ◌<◌, ◌≤◌, ◌�
 use std::alloc::{AllocError, Global};
 use std::io;
 use std::process::ExitCode;
+use tso_fifo::linearize;
+use tso_hist::History;
+use tso_prog::{Answer, CallKind, Mode};
 use tso_trace::{Cursor, Trace};
 
 const PROGRAM: &str = ".capacity 1
@@ -131,22 +134,65 @@ fn trace_of(alloc: Global) -> Option<Trace>
     }
 }
 
+// Twelve pushes of five threads that overlap all the time, each thread's next one after its last.
+fn twelve_pushes(alloc: Global) -> Result<History, AllocError> {
+    let mut history = History::new(alloc, 5)?;
+    for word in 0..12u64 {
+        let thread = (word % 5) as usize;
+        history.on_return(thread, Answer::Done);
+        history.on_call(alloc, thread, CallKind::Push(word))?;
+    }
+    for thread in 0..5usize {
+        history.on_return(thread, Answer::Done);
+    }
+    Ok(history)
+}
+
+// Whether the pushes have an order in a queue that has room for them, and none in one that lacks room for the last.
+fn search_orders(alloc: Global) -> Result<bool, AllocError> {
+    let history = twelve_pushes(alloc)?;
+    let found = linearize(alloc, &history, Mode::Strict, 12)?;
+    let none = linearize(alloc, &history, Mode::Strict, 11)?;
+    Ok(found.is_some() && none.is_none())
+}
+
+/// What is measured.
+enum Benchmark {
+    /// Long texts are read.
+    Texts,
+    /// Orders of twelve calls are sought.
+    Orders,
+    /// So many labels are taken.
+    Labels(u64),
+}
+
+fn benchmark_of(words: &[String]) -> Benchmark {
+    match words {
+        [_, word] if word.as_str() == "orders" => Benchmark::Orders,
+        [_, labels] => Benchmark::Labels(labels.as_str().parse::<u64>().unwrap_or(0)),
+        _ => Benchmark::Texts,
+    }
+}
+
 fn main(rt: HostRuntime) -> io::Result<ExitCode> {
     let alloc = rt.alloc();
     let words: Vec<String> = std::env::args(&rt)?.collect(alloc)?;
-    let labels = match words.as_slice() {
-        [_, labels] => labels.as_str().parse::<u64>().unwrap_or(0),
-        _ => 0,
-    };
-    if labels == 0 {
-        let expected = read_long_texts(alloc)?;
-        println!(rt; "long texts: {expected}")?;
-    } else {
-        let Some(trace) = trace_of(alloc) else {
-            return Ok(ExitCode::FAILURE);
-        };
-        walk(alloc, &trace, labels)?;
-        println!(rt; "labels: {labels}")?;
+    match benchmark_of(words.as_slice()) {
+        Benchmark::Texts => {
+            let expected = read_long_texts(alloc)?;
+            println!(rt; "long texts: {expected}")?;
+        }
+        Benchmark::Orders => {
+            let expected = search_orders(alloc)?;
+            println!(rt; "orders: {expected}")?;
+        }
+        Benchmark::Labels(labels) => {
+            let Some(trace) = trace_of(alloc) else {
+                return Ok(ExitCode::FAILURE);
+            };
+            walk(alloc, &trace, labels)?;
+            println!(rt; "labels: {labels}")?;
+        }
     }
     Ok(ExitCode::SUCCESS)
 }

@@ -64,9 +64,6 @@ pub record IsCheckedTo (mode : Mode) (capacity : ℕ) (h : List (List Called)) (
   pub within : taken ≤ length (pushed h (take i order))
   pub steps : QueueSteps mode capacity [] (calls_of h (take i order)) (drop taken (pushed h (take i order)))
 
-pub checked-none : (mode : Mode) (capacity : ℕ) (h : List (List Called)) (order : List Placed) → IsCheckedTo mode capacity h order 0 0
-checked-none mode capacity h order = record { within = omega arith; steps = refl }
-
 pub checked-more : (mode : Mode) (capacity : ℕ) (h : List (List Called)) (order : List Placed) (i taken : ℕ) (x : Placed) → IsCheckedTo mode capacity h order i taken → slice_get order i ≡ Some x
     → MayAnswer mode capacity (drop taken (pushed h (take i order))) (placed_in h x).kind (answer_view x.answer) → IsCheckedTo mode capacity h order (i + 1) (taken + taken_by x.answer)
 checked-more mode capacity h order i taken x k here (next, step) =

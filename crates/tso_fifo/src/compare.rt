@@ -1,5 +1,5 @@
 //! The search beside a plain one, on all histories of at most four calls in two threads, where thread 0 calls first: every
-//! precedence, each thread pushing a word of its own or popping, with every answer of a few.
+//! precedence, each thread popping or pushing one of two words in turn, with every answer of a few.
 
 use crate::{is_linearization, linearize};
 use std::alloc::{AllocError, Global};
@@ -15,8 +15,6 @@ const ANSWERS: [Answer; 4] = [
     Answer::Value(1),
     Answer::Value(2),
 ];
-
-const WORDS: [u64; 2] = [1, 2];
 
 /// A queue under test.
 #[derive(Clone, Copy)]
@@ -161,6 +159,11 @@ fn pending_kind(calls: &[Call]) -> Option<CallKind> {
     }
 }
 
+// What the thread pushes next: thread 0 begins with 1, thread 1 with 2, and then they take turns.
+fn word_of(thread: usize, calls: &[Call]) -> u64 {
+    if calls.len() % 2 == thread % 2 { 1 } else { 2 }
+}
+
 // Compares the searches on this history, and on all that further events make of it.
 fn compare(
     rt: &impl Abort,
@@ -206,7 +209,10 @@ fn compare(
                     continue;
                 }
             }
-            for kind in [CallKind::Push(WORDS[thread.min(1)]), CallKind::Pop] {
+            for kind in [
+                CallKind::Push(word_of(thread, calls.as_slice())),
+                CallKind::Pop,
+            ] {
                 let mut more = history.clone()?;
                 more.on_call(alloc, thread, kind)?;
                 compare(
@@ -271,5 +277,11 @@ fn a_weak_queue_after_a_push(rt: HostRuntime) -> Result<(), Fail> {
 #[test]
 fn a_weak_queue_after_a_pop(rt: HostRuntime) -> Result<(), Fail> {
     compare_from(&rt, rt.alloc(), Mode::Weak, 1, CallKind::Pop)?;
+    Ok(())
+}
+
+#[test]
+fn a_weak_queue_of_two_after_a_push(rt: HostRuntime) -> Result<(), Fail> {
+    compare_from(&rt, rt.alloc(), Mode::Weak, 2, CallKind::Push(1))?;
     Ok(())
 }

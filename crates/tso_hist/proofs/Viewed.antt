@@ -68,15 +68,6 @@ after_return h t cs y n a e len last some =
     map-set (map called_view) h t (set cs (n - 1) (record y { answer = Some a }))
     ∙ ap (set (history_view h) t) (write ∙ ap (λ (c : List Call). answered (answer_view a) (map called_view c)) e ∙ ap (answered (answer_view a)) (sym (calls-view h t)))
 
--- a thread that has no call stays as it is
-pub none_answered : (h : List (List Called)) (t : ℕ) (a : ModelAnswer) → calls_in h t ≡ [] → set h t (answered a (calls_in h t)) ≡ h
-none_answered h t a e = ap (λ (cs : List Called). set h t (answered a cs)) e ∙ stays h t e
-  where
-    stays : (h : List (List Called)) (t : ℕ) → get_or h t [] ≡ [] → set h t [] ≡ h
-    stays [] t e = refl
-    stays (cs ∷ h) zero e = ap {B = List (List Called)} (λ r. r ∷ h) (sym e)
-    stays (cs ∷ h) (suc t) e = ap {B = List (List Called)} (λ r. cs ∷ r) (stays h t e)
-
 -- a call whose counts are known
 pub precedes_some : (h : List (List Called)) (t k u j : ℕ) (c : Called) (n : ℕ) → Some c ≡ call_at h u j → Some n ≡ slice_get c.seen t → IsTrue (nat_lt k n) ↔ Precedes h t k u j
 precedes_some h t k u j c n at count =
@@ -92,9 +83,6 @@ precedes_none h t k u j c at count =
     past [] i e = refl
     past (x ∷ xs) zero e = cc
     past (x ∷ xs) (suc i) e = past xs i e
-
-pub precedes_unbegun : (h : List (List Called)) (t k u j : ℕ) → None ≡ call_at h u j → IsTrue false ↔ Precedes h t k u j
-precedes_unbegun h t k u j none = (λ e. absurd (false≢true e), λ (x, at, lt). absurd (none-some x (none ∙ at)))
 
 pub on_ok : {T E : Type 0} (r : Result T E) (P Q : Type 0) → (P → Q) → OnOk r P → OnOk r Q
 on_ok (Ok x) P Q f p = f p

@@ -151,6 +151,47 @@ const PROLOGUE: &str = ".capacity 1
 .thread push 7
 ";
 
+const BOTH_LOCK: &str = ".capacity 1
+.mode weak
+.array n 2
+.push
+  mov qword ptr [n + 8], 1
+  mov rbx, 5
+  xchg qword ptr [n], rbx
+  mov rax, 1
+  ret
+.end
+.pop
+  mov rbx, 6
+  xchg qword ptr [n], rbx
+  mov rdx, 0
+  mov rax, 0
+  ret
+.end
+.thread push 7
+.thread pop
+";
+
+const OUTSIDE: &str = ".capacity 1
+.mode weak
+.array n 2
+.push
+  mov rcx, 2
+  xchg qword ptr [n + rcx*8], rcx
+  mov rax, 1
+  ret
+.end
+.pop
+  mov rcx, 2
+  mov rbx, qword ptr [n + rcx*8]
+  mov rdx, 0
+  mov rax, 0
+  ret
+.end
+.thread push 7
+.thread pop
+";
+
 // A thread and what it does.
 type Step = (usize, LabelKind);
 
@@ -424,6 +465,13 @@ fn sums_wrap(rt: HostRuntime) -> Result<(), Fail> {
     let after = machine_after(alloc, EXCHANGE_ADD, &ADDED)?;
     let frame = frame_of(&after, 0).ok_or("no call")?;
     assert_eq!(rt; frame.register(Register::Rbx), 5);
+    let flags = Flags {
+        zf: false,
+        cf: true,
+        sf: false,
+        of: false,
+    };
+    assert_eq!(rt; frame.flags, flags);
     assert_eq!(rt; after.memory.as_slice(), [4].as_slice());
     Ok(())
 }
@@ -507,6 +555,37 @@ fn locks_block_other_threads(rt: HostRuntime) -> Result<(), Fail> {
         (1, LabelKind::Fault(FaultKind::BadAnswer)),
     ];
     goes(&rt, alloc, EXCHANGE, &unblocked, &[(1, POP), (1, REG)])
+}
+
+#[test]
+fn locks_wait_for_the_own_buffer_and_for_each_other(rt: HostRuntime) -> Result<(), Fail> {
+    let alloc = rt.alloc();
+    let held = [
+        (0, PUSH),
+        (0, writes!(1, 1)),
+        (0, REG),
+        (0, drains!(1, 1)),
+        (1, POP),
+        (1, REG),
+        (0, LabelKind::Lock),
+    ];
+    goes(&rt, alloc, BOTH_LOCK, &held[..3], &[(0, LabelKind::Lock)])?;
+    let others = [(1, LabelKind::Lock), (1, LabelKind::Unlock)];
+    goes(&rt, alloc, BOTH_LOCK, &held, &others)
+}
+
+#[test]
+fn accesses_outside_their_arrays_fault(rt: HostRuntime) -> Result<(), Fail> {
+    let alloc = rt.alloc();
+    let fault = LabelKind::Fault(FaultKind::OutOfRange);
+    let locked = [(0, PUSH), (0, REG), (0, fault)];
+    let others = [(0, LabelKind::Lock), (0, REG)];
+    goes(&rt, alloc, OUTSIDE, &locked[..2], &others)?;
+    goes(&rt, alloc, OUTSIDE, &locked, &[(0, fault), (0, REG)])?;
+    let loaded = [(1, POP), (1, REG), (1, fault)];
+    let others = [(1, reads!(2, 0)), (1, REG)];
+    goes(&rt, alloc, OUTSIDE, &loaded[..2], &others)?;
+    goes(&rt, alloc, OUTSIDE, &loaded, &others)
 }
 
 #[test]

@@ -3,19 +3,12 @@ use Rattle.std.proofs.Common.{◌≡◌, ℕ, zero, suc, ◌<◌, Bool, true, fa
 use Rattle.std.specs.Prelude.{◌||◌}
 use Rattle.std.specs.List.{list_all}
 use Rattle.std.specs.Char.{is_ascii_digit}
-use Rattle.std.proofs.lemmas.Bool.{and_parts}
+use Rattle.std.proofs.lemmas.Bool.{and_parts, or_left}
 use Rattle.std.proofs.lemmas.Bool.Decides.{nat_tests}
 use Rattle.tso_line.specs.Proper.{is_letter, goes_on, is_name}
 
-pub letter_small : (b : ℕ) → is_letter b ≡ true → b < 128
-letter_small b e = grind (arith, nat_tests)
-
 pub goes_small : (b : ℕ) → goes_on b ≡ true → b < 128
 goes_small b e = grind (arith, nat_tests)
-
-or_left : (a b : Bool) → a ≡ true → (a || b) ≡ true
-or_left true b e = refl
-or_left false b e = absurd cc
 
 pub name_goes : (name : List ℕ) → is_name name ≡ true → list_all goes_on name ≡ true
 unfolding is_name

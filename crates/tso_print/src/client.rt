@@ -1,7 +1,7 @@
 //! Whole clients.
 
-ghost use Rattle.std.specs.Prelude.{◌≡◌, ◌<◌, ◌≤◌, ◌+◌, ◌++◌, ◌∷◌, [], ◌==◌, ℕ, length, drop, map, codes, OnOk, IfOk, IsTrue};
-ghost use Rattle.std.specs.List.{list_all, list_any};
+ghost use Rattle.std.specs.Prelude.{◌≡◌, ◌<◌, ◌+◌, ◌++◌, ◌==◌, length, map, codes, OnOk, IfOk, IsTrue};
+ghost use Rattle.std.specs.List.{list_all};
 ghost use Rattle.std.specs.String.{string_bytes};
 ghost use Rattle.tso_prog.specs.Limits.{is_short_name, are_arrays_below};
 ghost use Rattle.tso_prog.specs.Client.{client};

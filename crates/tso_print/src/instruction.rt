@@ -7,7 +7,7 @@ ghost use Rattle.tso_line.specs.Proper.{is_in_range, is_near};
 ghost use Rattle.tso_prog.specs.Limits.{is_short_name, has_array_below};
 ghost use Rattle.tso_print.specs.Pieces.{spelled, tight, spaced};
 ghost use Rattle.tso_print.specs.Signs.{condition_word, jump_word, name, comma};
-ghost use Rattle.tso_print.specs.Layout.{register_sign, source_pieces, cell_pieces, label_name, bound_pieces, locked_pieces, instruction_pieces};
+ghost use Rattle.tso_print.specs.Layout.{register_sign, source_pieces, label_name, bound_pieces, locked_pieces, instruction_pieces};
 ghost use Rattle.tso_line.specs.declared.instruction.Instruction.TheVariants.{Load, Store, Locked};
 
 use crate::operand::{push_cell, push_number, push_source};

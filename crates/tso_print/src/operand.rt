@@ -1,13 +1,13 @@
 //! Operands.
 
-ghost use Rattle.std.specs.Prelude.{◌≡◌, ◌<◌, ◌++◌, ◌∷◌, [], length, OnOk, IsTrue};
+ghost use Rattle.std.specs.Prelude.{◌≡◌, ◌<◌, ◌++◌, length, OnOk, IsTrue};
 ghost use Rattle.std.specs.List.{list_all};
 ghost use Rattle.std.specs.String.{string_bytes};
 ghost use Rattle.std.specs.Fmt.{decimal};
 ghost use Rattle.tso_line.specs.Proper.{is_name, is_near};
 ghost use Rattle.tso_prog.specs.Limits.{is_short_name};
 ghost use Rattle.tso_print.specs.Pieces.{spelled};
-ghost use Rattle.tso_print.specs.Layout.{source_pieces, index_pieces, offset_pieces, cell_pieces, label_name, bound_pieces};
+ghost use Rattle.tso_print.specs.Layout.{source_pieces, index_pieces, offset_pieces, cell_pieces};
 
 use crate::words::register_word;
 use std::alloc::AllocError;

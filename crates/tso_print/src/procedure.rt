@@ -1,12 +1,11 @@
 //! Procedures.
 
 ghost use Rattle.std.specs.Prelude.{◌≡◌, ◌<◌, ◌+◌, ◌++◌, length, drop, OnOk, IsTrue};
-ghost use Rattle.std.specs.List.{list_all, list_any};
+ghost use Rattle.std.specs.List.{list_all};
 ghost use Rattle.std.specs.String.{string_bytes};
-ghost use Rattle.tso_line.specs.Instructions.{label_of};
 ghost use Rattle.tso_prog.specs.Limits.{is_short_name, are_arrays_below, are_in_range};
-ghost use Rattle.tso_print.specs.Pieces.{spelled, text_of};
-ghost use Rattle.tso_print.specs.Layout.{is_target, is_jumped_to, label_lines, instruction_pieces, body_lines};
+ghost use Rattle.tso_print.specs.Pieces.{text_of};
+ghost use Rattle.tso_print.specs.Layout.{is_jumped_to, label_lines, body_lines};
 
 use crate::instruction::{push_instruction, push_label_name};
 use std::alloc::AllocError;

@@ -1,9 +1,7 @@
 //! Clients of whole program texts.
 
-ghost use Rattle.std.specs.Prelude.{◌≡◌, Ok, IfOk, IfErr};
-ghost use Rattle.tso_prog.specs.Client.{client};
-ghost use Rattle.tso_prog.specs.Text.{program_of};
-ghost use Rattle.tso_rows.specs.Refused.{IsRefused};
+ghost use Rattle.std.specs.Prelude.{IfOk, IfErr};
+ghost use Rattle.tso_rows.specs.Refused.{IsClientOf, IsRefused};
 
 use std::alloc::Global;
 use tso_flow::{Checked, FlowError};
@@ -22,7 +20,7 @@ pub enum Refusal {
 ///
 /// Errors: the text's first fault; where it has none, the first of its control flow; `Memory`.
 pub fn checked_of(alloc: Global, text: &[u8]) -> Result<Checked, Refusal>
-    ensures denoted { IfOk result (λ c. program_of text.now ≡ Ok (client c.client)) }
+    ensures denoted { IfOk result (λ c. IsClientOf text.now c.client) }
     ensures refused { IfErr result (λ e. IsRefused text.now e) }
 {
     let client = match tso_prog::read(alloc, text) {

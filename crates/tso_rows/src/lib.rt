@@ -1,4 +1,4 @@
-//! Worked examples that cross crates: whole program texts through the reader, the flow check and the machine.
+//! Worked examples that cross crates: whole program texts through the reader, the flow check and the printer.
 #![tactic(auto)]
 
 mod checked;

@@ -3,7 +3,9 @@
 use crate::checked_of;
 use std::alloc::Global;
 use std::test::Fail;
+use tso_flow::Checked;
 use tso_print::print;
+use tso_prog::{Array, Client, Procedure};
 
 // A push that answers 2.
 const BAD_ANSWER: &str = ".capacity 1
@@ -108,7 +110,7 @@ const EXCHANGE: &str = ".capacity 1
 ";
 
 // The queue of Lamport, without fences.
-const LAMPORT: &str = ".capacity 2
+pub const LAMPORT: &str = ".capacity 2
 .mode strict
 .array head 1
 .array tail 1
@@ -245,7 +247,7 @@ empty:
 ";
 
 // A push that refuses.
-const ONE_REFUSAL: &str = ".capacity 1
+pub const ONE_REFUSAL: &str = ".capacity 1
 .mode weak
 .push
   mov rax, 0
@@ -282,7 +284,7 @@ const OWN_STORE: &str = ".capacity 1
 ";
 
 // A queue behind a lock that spins.
-const SPIN: &str = ".capacity 2
+pub const SPIN: &str = ".capacity 2
 .mode strict
 .array held 1
 .array head 1
@@ -361,7 +363,7 @@ const TWO_CELLS: &str = ".capacity 1
 ";
 
 // The queue of Vyukov.
-const VYUKOV: &str = ".capacity 2
+pub const VYUKOV: &str = ".capacity 2
 .mode strict
 .array seq 2 = 0, 1
 .array data 2
@@ -433,21 +435,42 @@ const PROGRAMS: [&str; 12] = [
     VYUKOV,
 ];
 
-// The text that the client of a program is printed as.
-fn printed(alloc: Global, text: &str) -> Result<String, Fail> {
-    let checked = checked_of(alloc, text.as_bytes())
-        .ok()
-        .ok_or("the program is refused")?;
-    Ok(print(alloc, &checked.client)?)
+fn is_same_procedure(a: &Procedure, b: &Procedure) -> bool {
+    a.instructions.as_slice() == b.instructions.as_slice()
+}
+
+fn is_same_array(a: &Array, b: &Array) -> bool {
+    a.name == b.name && a.words == b.words
+}
+
+// Whether two clients are the same but for the lines of their instructions.
+fn is_same_client(a: &Client, b: &Client) -> bool {
+    let arrays = a.arrays.as_slice();
+    let others = b.arrays.as_slice();
+    a.capacity == b.capacity
+        && a.mode == b.mode
+        && arrays.len() == others.len()
+        && arrays.iter().zip(others).all(|(x, y)| is_same_array(x, y))
+        && is_same_procedure(&a.push, &b.push)
+        && is_same_procedure(&a.pop, &b.pop)
+        && a.prologue.as_slice() == b.prologue.as_slice()
+        && a.threads.as_slice() == b.threads.as_slice()
+}
+
+// The checked client of a text that is not refused.
+fn client_of(alloc: Global, text: &str) -> Result<Checked, Fail> {
+    let checked = checked_of(alloc, text.as_bytes());
+    Ok(checked.ok().ok_or("the program is refused")?)
 }
 
 #[test]
-fn what_is_printed_is_read_again(rt: HostRuntime) -> Result<(), Fail> {
+fn what_is_printed_is_read_as_the_same_client(rt: HostRuntime) -> Result<(), Fail> {
     let alloc = rt.alloc();
     for program in PROGRAMS {
-        let once = printed(alloc, program)?;
-        let twice = printed(alloc, once.as_str())?;
-        assert_eq!(rt; once.as_str(), twice.as_str());
+        let checked = client_of(alloc, program)?;
+        let printed = print(alloc, &checked.client)?;
+        let again = client_of(alloc, printed.as_str())?;
+        assert!(rt; is_same_client(&checked.client, &again.client));
     }
     Ok(())
 }
@@ -463,7 +486,8 @@ fn plain_programs_are_printed_as_they_are(rt: HostRuntime) -> Result<(), Fail> {
         OWN_STORE,
         TWO_CELLS,
     ] {
-        assert_eq!(rt; printed(alloc, program)?.as_str(), program);
+        let checked = client_of(alloc, program)?;
+        assert_eq!(rt; print(alloc, &checked.client)?.as_str(), program);
     }
     Ok(())
 }

@@ -60,13 +60,3 @@ module _ (c : Client) where
   same_first a b rest rest' p q e =
       let parts = same_cut 10 (line_text c.arrays a) (line_text c.arrays b) rest rest' (line_lacks a p) (line_lacks b q) (sym (ended_parts _ rest) ∙ e ∙ ended_parts _ rest') in
       (same_label c (line_text c.arrays a) a b (record { proper = p; spelled = refl }) (record { proper = q; spelled = parts.0 }), parts.1)
-
-  -- one more line
-  pub more_text : (labels : List Label) (l : Label) (text rest after : List ℕ) → text ≡ trace_text c.arrays labels ++ rest → rest ≡ ended (line_text c.arrays l) ++ after
-      → text ≡ trace_text c.arrays (labels ++ l ∷ []) ++ after
-  more_text labels l text rest after e f =
-      e ∙ ap (λ (r : List ℕ). trace_text c.arrays labels ++ r) f ∙ sym (append_assoc (trace_text c.arrays labels) _ after)
-      ∙ ap (λ (t : List ℕ). t ++ after) (flat_map_more (λ (k : Label). ended (line_text c.arrays k)) (ended header) labels l)
-
-  pub more_proper : (labels : List Label) (l : Label) → list_all (is_proper c.arrays) labels ≡ true → is_proper c.arrays l ≡ true → list_all (is_proper c.arrays) (labels ++ l ∷ []) ≡ true
-  more_proper labels l p q = list_all-append (is_proper c.arrays) labels (l ∷ []) ∙ and_from _ _ p (and_from _ _ q refl)

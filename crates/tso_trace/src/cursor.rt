@@ -1,8 +1,6 @@
 //! Walks along a trace, forwards and back.
 
 ghost use Rattle.std.specs.Prelude.{◌≡◌, ◌+◌, ◌<◌, ◌≤◌, length, slice_get, vec_len, vec_capacity, ◌++◌, ◌∷◌, [], IfOk, OnErr, Ok, true, false};
-ghost use Rattle.tso_machine.specs.Machines.{machine_of};
-ghost use Rattle.tso_trace.specs.Runs.{LeadsTo};
 ghost use Rattle.tso_trace.specs.Walks.{IsAt};
 
 use crate::trace::Trace;
@@ -54,7 +52,7 @@ fn step_on(
 ) -> Result<bool, AllocError>
     requires { IsAt trace.now.checked.client trace.now.labels undos.old.items machine.old }
     ensures at { IsAt trace.now.checked.client trace.now.labels undos.new.items machine.new }
-    ensures moved { result ≡ Ok true → vec_len undos.new ≡ vec_len undos.old + 1 }
+    ensures moved { result ≡ Ok true → (vec_len undos.old < length trace.now.labels) × (vec_len undos.new ≡ vec_len undos.old + 1) }
     ensures stayed { result ≡ Ok false → (undos.new.items ≡ undos.old.items) × (machine.new ≡ machine.old) }
     ensures end { result ≡ Ok false → length undos.old.items ≡ length trace.now.labels }
     ensures err { OnErr result ((undos.new.items ≡ undos.old.items) × (machine.new ≡ machine.old)) }
@@ -109,7 +107,8 @@ impl<'a> Cursor<'a> {
 
     /// How many labels are taken.
     pub fn position(&self) -> usize
-        ensures { result ≡ self.now.position }
+        ensures is { result ≡ self.now.position }
+        ensures within { self.now.position ≤ length self.now.labels }
     {
         self.undos.len()
     }
@@ -126,7 +125,7 @@ impl<'a> Cursor<'a> {
     ///
     /// Errors: where a growth was refused; the cursor then stays.
     pub fn forward(&mut self) -> Result<bool, AllocError>
-        ensures moved { result ≡ Ok true → self.new.position ≡ self.old.position + 1 }
+        ensures moved { result ≡ Ok true → (self.old.position < length self.old.labels) × (self.new.position ≡ self.old.position + 1) }
         ensures stayed { result ≡ Ok false → self.new ≡ self.old }
         ensures end { result ≡ Ok false → self.old.position ≡ length self.old.labels }
         ensures err { OnErr result (self.new ≡ self.old) }

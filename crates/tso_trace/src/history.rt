@@ -1,6 +1,6 @@
 //! The history of a run: its calls and returns.
 
-ghost use Rattle.std.specs.Prelude.{◌≡◌, List, length, map, IfOk, OnOk, OnErr};
+ghost use Rattle.std.specs.Prelude.{◌≡◌, map, IfOk, OnOk, OnErr};
 ghost use Rattle.tso_hist.specs.Views.{history_view};
 ghost use Rattle.tso_machine.specs.Machines.{label_of};
 ghost use Rattle.tso_machine.specs.Programs.{program_of};

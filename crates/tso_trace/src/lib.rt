@@ -25,5 +25,5 @@ pub use laws::{
     back_is_inverse, cells_are_named, lines_are_unique, places_show_one_state,
     printed_traces_are_read, texts_are_unique,
 };
-pub use spelling::push_cell;
+pub use spelling::cell_name;
 pub use trace::{Trace, Violation};

@@ -3,8 +3,8 @@
 ghost use Rattle.std.specs.Str.{bytes_eq};
 ghost use Rattle.tso_machine.specs.declared.label.Label.{Label};
 ghost use Rattle.tso_machine.specs.declared.label.LabelKind.{LabelKind};
-ghost use Rattle.std.specs.Prelude.{position, ◌↔◌, false, [], ◌≡◌, ◌≢◌, ◌+◌, ◌<◌, ◌≤◌, ◌^◌, ◌++◌, ◌∷◌, ℕ, List, length, codes, decimal, Some, IfSome, IsTrue, MatchOption};
-ghost use Rattle.tso_trace.specs.Grammar.{access_text, cell_in, is_access, is_proper, is_proper_kind, kind_text, line_text, named_cell, IsLineOf};
+ghost use Rattle.std.specs.Prelude.{position, ◌↔◌, false, [], ◌≡◌, ◌≢◌, ◌+◌, ◌<◌, ◌^◌, ◌++◌, ℕ, List, Some, IsTrue, MatchOption};
+ghost use Rattle.tso_trace.specs.Grammar.{access_text, cell_in, is_access, is_proper_kind, kind_text, named_cell, IsLineOf};
 ghost use Rattle.tso_trace.specs.Parts.{is_bare, lacks, split_text};
 
 use crate::parts::{behind, cut, number_before, number_behind};

@@ -24,8 +24,8 @@ fn push_name(text: &mut String, name: &[u8]) -> Result<(), AllocError>
     Ok(())
 }
 
-/// Adds a cell as its array's name and its index, `NAME[INDEX]`. A place outside memory is added as `?[PLACE]`.
-pub fn push_cell(text: &mut String, arrays: &[Array], place: usize) -> Result<(), AllocError>
+// Adds a cell as its array's name and its index.
+fn push_cell(text: &mut String, arrays: &[Array], place: usize) -> Result<(), AllocError>
     ensures { IsTrue (list_all (λ a. is_short_name a.name) arrays.now) → OnOk result (string_bytes text.new ≡ string_bytes text.old ++ cell_text arrays.now place) }
 {
     match cell_of(arrays, place) {
@@ -36,6 +36,17 @@ pub fn push_cell(text: &mut String, arrays: &[Array], place: usize) -> Result<()
         }
         None => write!(text, "?[{place}]"),
     }
+}
+
+/// The name of a cell, `NAME[INDEX]`. A place outside memory is `?[PLACE]`.
+///
+/// Errors: where a growth was refused.
+pub fn cell_name(alloc: Global, arrays: &[Array], place: usize) -> Result<String, AllocError>
+    ensures { IsTrue (list_all (λ a. is_short_name a.name) arrays.now) → IfOk result (λ name. string_bytes name ≡ cell_text arrays.now place) }
+{
+    let mut name = String::new(alloc);
+    push_cell(&mut name, arrays, place)?;
+    Ok(name)
 }
 
 // Adds an access: its word, the cell and the value.

@@ -145,8 +145,7 @@ fn cells_are_named_by_array(rt: HostRuntime) -> Result<(), Fail> {
     assert_eq!(rt; cell_of(arrays, 2), Some(Cell { array: 1, index: 0 }));
     assert_eq!(rt; cell_of(arrays, 4), Some(Cell { array: 1, index: 2 }));
     assert_eq!(rt; cell_of(arrays, 5), None);
-    let mut text = String::new(alloc);
-    push_cell(&mut text, arrays, 4)?;
-    assert_eq!(rt; text.as_str(), "b[2]");
+    assert_eq!(rt; cell_name(alloc, arrays, 4)?.as_str(), "b[2]");
+    assert_eq!(rt; cell_name(alloc, arrays, 5)?.as_str(), "?[5]");
     Ok(())
 }

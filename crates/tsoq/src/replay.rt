@@ -9,7 +9,7 @@ use tso_flow::ProcedureKind;
 use tso_list::Seq;
 use tso_machine::{Core, Machine, Running, Stage, Thread};
 use tso_prog::Array;
-use tso_trace::{Cursor, Trace, Violation, push_cell};
+use tso_trace::{Cursor, Trace, Violation, cell_name};
 
 // Writes a text and a newline.
 fn put_line<W: Write>(out: &mut W, text: &str) -> Result<(), Failure> {
@@ -40,10 +40,8 @@ fn put_memory<W: Write>(
     memory: &Seq<u64>,
 ) -> Result<(), Failure> {
     for (place, word) in memory.as_slice().iter().enumerate() {
-        let mut text = String::new(alloc);
-        push_cell(&mut text, arrays, place)?;
-        write!(text, " = {word}")?;
-        put_line(out, text.as_str())?;
+        let cell = cell_name(alloc, arrays, place)?;
+        put_line(out, format!(in alloc; "{cell} = {word}")?.as_str())?;
     }
     Ok(())
 }
@@ -77,11 +75,12 @@ fn put_thread<W: Write>(
     }
     put_line(out, text.as_str())?;
     for entry in thread.buffer.live() {
-        let mut text = String::from_str(alloc, "  buffer ")?;
-        push_cell(&mut text, arrays, entry.place)?;
+        let cell = cell_name(alloc, arrays, entry.place)?;
         let word = entry.word;
-        write!(text, " = {word}")?;
-        put_line(out, text.as_str())?;
+        put_line(
+            out,
+            format!(in alloc; "  buffer {cell} = {word}")?.as_str(),
+        )?;
     }
     Ok(())
 }
