@@ -77,10 +77,7 @@ fn put_thread<W: Write>(
     for entry in thread.buffer.live() {
         let cell = cell_name(alloc, arrays, entry.place)?;
         let word = entry.word;
-        put_line(
-            out,
-            format!(in alloc; "  buffer {cell} = {word}")?.as_str(),
-        )?;
+        put_line(out, format!(in alloc; "  buffer {cell} = {word}")?.as_str())?;
     }
     Ok(())
 }
