@@ -11,7 +11,7 @@ use Rattle.tso_machine.specs.Initial.{idle_thread}
 use Rattle.tso_machine.specs.Laws.{BuffersStayWithin, EndsAreDecided, FramesStaySound, LabelsAreFew, RunsAreShort, RunsEnd, SectionsAreGuarded, SizesStay, StopsAreFaults, StopsAreFinal}
 use Rattle.tso_machine.specs.Places.{first_memory}
 use Rattle.tso_machine.specs.Programs.{program_of, prologue_thread}
-use Rattle.tso_machine.specs.Soundness.{is_sound, rank}
+use Rattle.tso_machine.specs.Soundness.{is_sound_or_past_end, rank}
 use Rattle.tso_model.proofs.Falls as falls
 use Rattle.tso_model.proofs.Faults as faults
 use Rattle.tso_model.proofs.Few as few
@@ -51,18 +51,18 @@ stops_are_faults c ls m i run = record {
 pub buffers_stay_within : (c : Client) → BuffersStayWithin c
 buffers_stay_within c ls m run =
     let Q : ℕ → Type 0 = λ size. AllWithin size m in
-    subst Q (sizes_stay c ls m run).memory (guards.buffers_stay_within (program_of c) (first_memory c.arrays) (is_sound c) (rank c) (ranked c) ls m run)
+    subst Q (sizes_stay c ls m run).memory (guards.buffers_stay_within (program_of c) (first_memory c.arrays) (is_sound_or_past_end c) (rank c) (ranked c) ls m run)
 
 pub runs_are_short : (c : Client) → RunsAreShort c
 runs_are_short c ls m run =
-    let le = falls.runs_are_short (program_of c) (length (first_memory c.arrays)) (is_sound c) (rank c) (ranked c) (first_memory c.arrays) ls m run in
+    let le = falls.runs_are_short (program_of c) (length (first_memory c.arrays)) (is_sound_or_past_end c) (rank c) (ranked c) (first_memory c.arrays) ls m run in
     omega (arith, le, limit_below c)
 
 pub frames_stay_sound : (c : Client) → FramesStaySound c
 frames_stay_sound c ls m run =
     let first = first_machine (program_of c) (first_memory c.arrays) in
-    let at_first = falls.first_sound (program_of c) (is_sound c) (first_memory c.arrays) in
-    falls.sound_run (program_of c) (length (first_memory c.arrays)) (is_sound c) (rank c) (ranked c) first m ls at_first run
+    let at_first = falls.first_sound (program_of c) (is_sound_or_past_end c) (first_memory c.arrays) in
+    falls.sound_run (program_of c) (length (first_memory c.arrays)) (is_sound_or_past_end c) (rank c) (ranked c) first m ls at_first run
 
 pub runs_end : (c : Client) → RunsEnd c
-runs_end c ls m run = falls.runs_end (program_of c) (length (first_memory c.arrays)) (is_sound c) (rank c) (ranked c) m (frames_stay_sound c ls m run)
+runs_end c ls m run = falls.runs_end (program_of c) (length (first_memory c.arrays)) (is_sound_or_past_end c) (rank c) (ranked c) m (frames_stay_sound c ls m run)

@@ -5,7 +5,7 @@ use Rattle.tso_flow.specs.Calls.{calls_of_client, step_limit}
 use Rattle.tso_machine.specs.Activations.{Activation}
 use Rattle.tso_machine.specs.Places.{first_memory}
 use Rattle.tso_machine.specs.Programs.{program_of}
-use Rattle.tso_machine.specs.Soundness.{is_sound, rank}
+use Rattle.tso_machine.specs.Soundness.{is_sound_or_past_end, rank}
 use Rattle.tso_model.specs.Bounds.{AreLabelsFew, Follows}
 use Rattle.tso_model.specs.Faults.{HasFaultOf, IsStoppedAt}
 use Rattle.tso_model.specs.Invariants.{AllWithin, IsGuarded}
@@ -20,7 +20,7 @@ IsRunOf c ls m = Run (program_of c) (first_machine (program_of c) (first_memory 
 
 -- in the frames that can occur each instruction lowers the count of those left, and stores inside the memory
 abbrev pub AreFramesRanked : Client → Type 0
-AreFramesRanked c = IsRanked (program_of c) (length (first_memory c.arrays)) (is_sound c) (rank c)
+AreFramesRanked c = IsRanked (program_of c) (length (first_memory c.arrays)) (is_sound_or_past_end c) (rank c)
 
 -- no run has more labels than the client's limit
 abbrev pub RunsAreShort : Client → Type 0
@@ -56,7 +56,7 @@ BuffersStayWithin c = (ls : List Label) (m : Machine Activation) → IsRunOf c l
 
 -- each running call's frame can occur in a call: its position is in its procedure, and no count is above its bound
 abbrev pub FramesStaySound : Client → Type 0
-FramesStaySound c = (ls : List Label) (m : Machine Activation) → IsRunOf c ls m → AllSound (is_sound c) m
+FramesStaySound c = (ls : List Label) (m : Machine Activation) → IsRunOf c ls m → AllSound (is_sound_or_past_end c) m
 
 -- the lock's holder is in its section, with at most the section's own entry in its buffer, and no other thread is in a section
 abbrev pub SectionsAreGuarded : Client → Type 0

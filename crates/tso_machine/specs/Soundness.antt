@@ -1,5 +1,5 @@
 -- Which frames can occur in a call of a client, and how many instructions a call may still execute from a frame on.
-use Rattle.std.specs.Prelude.{ℕ, ◌+◌, ◌-◌, ◌*◌, nat_le, ◌&&◌, if◌then◌else◌, Bool, true, false, List, [], ◌∷◌, length, sum}
+use Rattle.std.specs.Prelude.{ℕ, ◌+◌, ◌-◌, ◌*◌, nat_le, nat_lt, ◌&&◌, if◌then◌else◌, Bool, true, false, List, [], ◌∷◌, length, sum}
 use Rattle.tso_line.specs.declared.instruction.Instruction.{Instruction}
 use Rattle.tso_prog.specs.declared.client.Client.{Client}
 use Rattle.tso_flow.specs.Calls.{bound_of}
@@ -32,10 +32,16 @@ runs_procedure (model.Push v) procedures.Pop = false
 runs_procedure model.Pop procedures.Push = false
 runs_procedure model.Pop procedures.Pop = true
 
--- the frames that can occur in a call: it runs the call's procedure, its position is at an instruction or just behind the last,
--- and no back jump was taken more often than its bound says
+-- the frames that can occur in a call: it runs the call's procedure, its position is at an instruction, and no back jump was
+-- taken more often than its bound says
 abbrev pub is_sound : Client → model.CallKind → Activation → Bool
 is_sound c call a =
+    runs_procedure call a.procedure && (nat_lt a.frame.pc (length (instructions_of c a.procedure)) && are_within a.frame.taken (bounds_in c a.procedure))
+
+-- those, and those just behind the last instruction, where an instruction leads that control never comes to: from each of them each
+-- instruction leads to one of them again
+abbrev pub is_sound_or_past_end : Client → model.CallKind → Activation → Bool
+is_sound_or_past_end c call a =
     runs_procedure call a.procedure && (nat_le a.frame.pc (length (instructions_of c a.procedure)) && are_within a.frame.taken (bounds_in c a.procedure))
 
 -- how many instructions may still execute, where this many back jumps may still be taken: between two of them the position grows

@@ -4,6 +4,7 @@ ghost use Rattle.std.specs.Prelude.{◌≡◌, ◌<◌, length, slice_index_or, 
 ghost use Rattle.tso_flow.specs.Accesses.{register_number};
 ghost use Rattle.tso_machine.specs.Registers.{registers_after, IsCountOf, taken_after};
 
+use std::alloc::AllocError;
 use tso_line::{Register, Source};
 use tso_list::Seq;
 use tso_word::Flags;
@@ -18,6 +19,20 @@ pub struct Frame {
     pub flags: Flags,
     /// How often each back jump of the procedure was taken in this call, in the order of instructions.
     pub taken: Seq<u8>,
+}
+
+impl Clone for Frame {
+    ghost is_clone = { λ frame copy. copy ≡ frame };
+
+    fn clone(&self) -> Result<Self, AllocError> {
+        let taken = self.taken.clone()?;
+        Ok(Frame {
+            pc: self.pc,
+            registers: self.registers,
+            flags: self.flags,
+            taken,
+        })
+    }
 }
 
 /// What a step changes in a frame: the position and the flags, and perhaps one register and one count.
