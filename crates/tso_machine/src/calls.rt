@@ -36,8 +36,8 @@ fn call_in(client: &Client, thread: usize, number: usize) -> Option<CallKind>
     }
 }
 
-// The call of this number.
-fn call_at(client: &Client, thread: usize, number: usize) -> Option<CallKind>
+/// The call of this number, if the thread has so many.
+pub fn call_at(client: &Client, thread: usize, number: usize) -> Option<CallKind>
     ensures call { option_map call_view result ≡ slice_get (slice_index_or (calls_of client.now) thread []) number }
     ensures small { IfSome result (λ k. number + 1 < 2 ^ 64) }
 {

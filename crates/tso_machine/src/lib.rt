@@ -1,6 +1,7 @@
 //! The label machine of x86-TSO: memory, a lock, and for each thread a core and a store buffer.
 #![tactic(auto)]
 
+mod access;
 mod action;
 mod back;
 mod buffer;
@@ -17,10 +18,11 @@ mod step;
 #[cfg(test)]
 mod tests;
 
+pub use access::{exchanged, latest, loaded, moved, new_word};
 pub use action::{Action, FaultKind, next_action, procedure_of};
 pub use back::Undo;
 pub use buffer::{Buffer, Entry};
-pub use calls::{calls_of, next_call};
+pub use calls::{call_at, calls_of, next_call};
 pub use change::{Change, ChangeBack};
 pub use first::{initial, thread_count};
 pub use frame::{Frame, Patch};

@@ -18,11 +18,11 @@ ghost use Rattle.tso_machine.specs.declared.machine.Stage.TheVariants as stages;
 ghost use Rattle.tso_model.specs.Offers as model;
 ghost use Rattle.tso_model.specs.States.{word_seen, latest};
 
+use crate::access::{exchanged, latest, loaded, moved, new_word};
 use crate::action::{Action, back_jumps, next_action, procedure_of};
 use crate::buffer::{Buffer, Entry};
 use crate::calls::next_call;
 use crate::change::Change;
-use crate::frame::Patch;
 use crate::label::LabelKind;
 use crate::machine::{Core, Machine, Running, Stage, Thread};
 use tso_flow::ProcedureKind;
@@ -34,19 +34,6 @@ use tso_prog::{CallKind, Client};
 pub struct Offer {
     pub kind: LabelKind,
     pub change: Change,
-}
-
-// The newest word for a place among these entries, the oldest first, else this word.
-fn latest(entries: &[Entry], place: usize, word: u64) -> u64
-    ensures { result ≡ latest (map entry_view entries.now) place word }
-{
-    let mut seen = word;
-    for entry in entries {
-        if entry.place == place {
-            seen = entry.word;
-        }
-    }
-    seen
 }
 
 /// The word that a thread reads at a place: the newest one in its own buffer, else memory's.
@@ -80,85 +67,6 @@ fn if_empty(buffer: &Buffer, offer: Offer) -> Option<Offer>
         Some(offer)
     } else {
         None
-    }
-}
-
-// The position of the next instruction, and a word in a register.
-fn loaded(running: &Running, to: Register, word: u64, next: usize) -> Patch
-    ensures after { patched running.now.frame result ≡ at_position next (with_register to word running.now.frame) }
-    ensures taken { result.taken ≡ None }
-{
-    Patch {
-        pc: next,
-        register: Some((to, word)),
-        flags: running.frame.flags,
-        taken: None,
-    }
-}
-
-fn moved(running: &Running, next: usize) -> Patch
-    ensures after { patched running.now.frame result ≡ at_position next running.now.frame }
-    ensures taken { result.taken ≡ None }
-{
-    Patch {
-        pc: next,
-        register: None,
-        flags: running.frame.flags,
-        taken: None,
-    }
-}
-
-// What a locked instruction that has read the word makes of the frame.
-fn exchanged(
-    running: &Running,
-    operation: LockedOperation,
-    register: Register,
-    old: u64,
-    next: usize,
-) -> Patch
-    ensures after { patched running.now.frame result ≡ at_position next (exchanged operation register running.now.frame old) }
-    ensures taken { result.taken ≡ None }
-{
-    let frame = &running.frame;
-    let plain = loaded(running, register, old, next);
-    match operation {
-        LockedOperation::Exchange => plain,
-        LockedOperation::CompareExchange => {
-            let expected = frame.register(Register::Rax);
-            let (_, flags) = tso_word::sub(expected, old);
-            Patch {
-                pc: next,
-                register: if expected == old {
-                    None
-                } else {
-                    Some((Register::Rax, old))
-                },
-                flags,
-                taken: None,
-            }
-        }
-        LockedOperation::ExchangeAdd => {
-            let (_, flags) = tso_word::add(old, frame.register(register));
-            Patch { flags, ..plain }
-        }
-    }
-}
-
-// The word that a locked instruction writes where it has read the old one.
-fn new_word(running: &Running, operation: LockedOperation, register: Register, old: u64) -> u64
-    ensures { result ≡ new_word operation register running.now.frame old }
-{
-    let word = running.frame.register(register);
-    match operation {
-        LockedOperation::Exchange => word,
-        LockedOperation::CompareExchange => {
-            if running.frame.register(Register::Rax) == old {
-                word
-            } else {
-                old
-            }
-        }
-        LockedOperation::ExchangeAdd => tso_word::add(old, word).0,
     }
 }
 
@@ -201,14 +109,14 @@ fn outside_offer(
             let word = word_seen(&thread.buffer, machine.memory.as_slice(), place);
             let offer = Offer {
                 kind: LabelKind::Read { place, word },
-                change: Change::Run(loaded(running, to, word, next)),
+                change: Change::Run(loaded(&running.frame, to, word, next)),
             };
             if_unblocked(machine.lock, number, offer)
         }
         Action::Barrier { next } => {
             let offer = Offer {
                 kind: LabelKind::Fence,
-                change: Change::Run(moved(running, next)),
+                change: Change::Run(moved(&running.frame, next)),
             };
             if_empty(&thread.buffer, offer)
         }
@@ -280,7 +188,7 @@ fn locked_offer(
         Stage::HasRead(old) => {
             let entry = Entry {
                 place: action.place,
-                word: new_word(running, action.operation, action.register, old),
+                word: new_word(&running.frame, action.operation, action.register, old),
             };
             Some(Offer {
                 kind: LabelKind::Write {
@@ -291,7 +199,13 @@ fn locked_offer(
             })
         }
         Stage::HasWritten(old) => {
-            let patch = exchanged(running, action.operation, action.register, old, action.next);
+            let patch = exchanged(
+                &running.frame,
+                action.operation,
+                action.register,
+                old,
+                action.next,
+            );
             let offer = Offer {
                 kind: LabelKind::Unlock,
                 change: Change::Unlock(patch),
