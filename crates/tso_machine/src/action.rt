@@ -250,7 +250,7 @@ fn is_taken(when: Option<Condition>, flags: Flags) -> bool
     }
 }
 
-// How many of these first steps of a procedure are back jumps.
+/// How many of these first steps of a procedure are back jumps.
 pub fn back_jumps(steps: &[Step]) -> usize
     ensures { result ≡ back_jumps 0 steps.now }
 {

@@ -19,11 +19,11 @@ mod step;
 mod tests;
 
 pub use access::{exchanged, latest, loaded, moved, new_word};
-pub use action::{Action, FaultKind, next_action, procedure_of};
+pub use action::{Action, FaultKind, back_jumps, next_action, procedure_of};
 pub use back::Undo;
 pub use buffer::{Buffer, Entry};
 pub use calls::{call_at, calls_of, next_call};
-pub use change::{Change, ChangeBack};
+pub use change::{Change, ChangeBack, first_frame};
 pub use first::{initial, thread_count};
 pub use frame::{Frame, Patch};
 pub use label::{Label, LabelKind};
