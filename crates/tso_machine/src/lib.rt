@@ -6,6 +6,7 @@ mod back;
 mod buffer;
 mod calls;
 mod change;
+mod exact;
 mod first;
 mod frame;
 mod label;
@@ -22,7 +23,7 @@ pub use back::Undo;
 pub use buffer::{Buffer, Entry};
 pub use calls::{calls_of, next_call};
 pub use change::{Change, ChangeBack};
-pub use first::{initial, thread_count};
+pub use first::{first_memory, initial, thread_count};
 pub use frame::{Frame, Patch};
 pub use label::{Label, LabelKind};
 pub use laws::{
