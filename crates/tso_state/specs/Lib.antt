@@ -1,2 +1,5 @@
+pub mod ActorExactness
 pub mod Actors
+pub mod Exactness
+pub mod Order
 pub mod Views

@@ -2,6 +2,7 @@
 #![tactic(auto)]
 
 mod actor;
+mod exact;
 mod state;
 mod viewed;
 
