@@ -14,8 +14,10 @@ use tso_flow::Checked;
 use tso_list::Seq;
 use tso_prog::{Array, Client};
 
-// The words of all arrays.
-fn first_memory(alloc: Global, arrays: &[Array]) -> Result<Seq<u64>, AllocError>
+/// The words of all arrays, one array after another, as they are at first.
+///
+/// Errors: where a growth was refused.
+pub fn first_memory(alloc: Global, arrays: &[Array]) -> Result<Seq<u64>, AllocError>
     ensures { IfOk result (λ m. m ≡ first_memory arrays.now) }
 {
     let mut words = Vec::new(alloc);

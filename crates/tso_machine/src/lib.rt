@@ -7,6 +7,7 @@ mod back;
 mod buffer;
 mod calls;
 mod change;
+mod exact;
 mod first;
 mod frame;
 mod label;
@@ -24,7 +25,7 @@ pub use back::Undo;
 pub use buffer::{Buffer, Entry};
 pub use calls::{call_at, calls_of, next_call};
 pub use change::{Change, ChangeBack, first_frame};
-pub use first::{initial, thread_count};
+pub use first::{first_memory, initial, thread_count};
 pub use frame::{Frame, Patch};
 pub use label::{Label, LabelKind};
 pub use laws::{

@@ -1,2 +1,7 @@
+pub mod ActorExactness
+pub mod ActorOrder
 pub mod Actors
+pub mod Exactness
+pub mod Hashes
+pub mod Order
 pub mod Views

@@ -2,9 +2,15 @@
 #![tactic(auto)]
 
 mod actor;
+mod exact;
+mod order;
 mod state;
 mod viewed;
 
 pub use actor::Actor;
+pub use order::{
+    actors_are_ordered_by_number, compare, compare_actors, copy_of, equal_states_hash_alike,
+    is_same,
+};
 pub use state::{Core, State, Thread};
 pub use viewed::Viewed;
