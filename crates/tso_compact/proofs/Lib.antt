@@ -1,0 +1,4 @@
+pub mod MotionLemmas
+pub mod NamingLemmas
+pub mod PerformLemmas
+pub mod PlanLemmas

@@ -1,0 +1,20 @@
+//! Steps of compact states: one instruction of a thread, a locked one whole, the begin of a call, or one drain.
+#![tactic(auto)]
+
+mod effect;
+mod fault;
+mod laws;
+mod motion;
+mod naming;
+mod plan;
+mod sort;
+mod stepping;
+
+pub use effect::{locked_word, thread_after, word_read, written};
+pub use fault::StepError;
+pub use laws::{ended_runs_end_alike, runs_are_followed, runs_reach_ends, steps_give_runs};
+pub use motion::{Motion, core_motion, drain_motion};
+pub use naming::labels;
+pub use plan::{begun_calls, next_call, planned, running_procedure};
+pub use sort::{StepKind, enabled, kind, kind_of};
+pub use stepping::step;

@@ -1,0 +1,100 @@
+//! What an actor does next in a state.
+
+ghost use Rattle.std.specs.Prelude.{◌≡◌, ◌<◌, ℕ, List, length, map, slice_get, slice_index_or, Some, [], IfSome};
+ghost use Rattle.std.specs.Option.{option_map};
+ghost use Rattle.tso_compact.specs.Motions.{move_of, labels_in, Fits};
+ghost use Rattle.tso_compact.specs.Plans.{motion_view, thread_in};
+ghost use Rattle.tso_flow.specs.declared.location.ProcedureKind.{ProcedureKind as AProcedure};
+ghost use Rattle.tso_machine.specs.Programs.{program_of};
+ghost use Rattle.tso_model.specs.Prologue.{is_thread_over, may_begin, is_resting, next_call};
+ghost use Rattle.tso_model.specs.StepLabels.{labels_of};
+ghost use Rattle.tso_model.specs.States.{begun_by};
+ghost use Rattle.tso_model.specs.Steps.{move, step};
+ghost use Rattle.tso_prog.specs.Views.{call_view};
+ghost use Rattle.tso_state.specs.Actors.{actor_of, thread_of};
+ghost use Rattle.tso_state.specs.Views.{core_view, running_procedure, state_of, thread_view};
+
+use crate::motion::{Motion, core_motion, drain_motion};
+use tso_flow::ProcedureKind;
+use tso_hist::Call;
+use tso_machine::call_at;
+use tso_prog::{CallKind, Client};
+use tso_state::{Actor, Core, Thread, Viewed};
+
+/// The calls of a thread that have begun; none where the state has no list for it.
+pub fn begun_calls<S: Viewed>(state: &S, thread: usize) -> &[Call]
+    ensures { result.now ≡ slice_index_or (S.state state.now).history thread [] }
+{
+    match state.calls(thread) {
+        Some(calls) => calls,
+        None => &[],
+    }
+}
+
+/// The procedure that the last of these calls runs; that of a pop where there is none.
+pub fn running_procedure(calls: &[Call]) -> ProcedureKind
+    ensures { result ≡ running_procedure calls.now }
+{
+    match calls {
+        [] => ProcedureKind::Pop,
+        [.., last] => ProcedureKind::from(last.kind),
+    }
+}
+
+fn is_idle(core: &Core) -> bool
+    ensures { (name : AProcedure) → result ≡ is_resting (core_view name core.now) }
+{
+    matches!(core, Core::Idle)
+}
+
+// Whether a thread is idle, with no call left and nothing buffered.
+fn is_over<S: Viewed>(client: &Client, state: &S, number: usize, thread: &Thread) -> bool
+    ensures { (name : AProcedure) → result ≡ is_thread_over (program_of client.now) number (begun_by (state_of (S.state state.now)) number) (Some (thread_view name thread.now)) }
+{
+    is_idle(&thread.core)
+        && call_at(client, number, begun_calls(state, number).len()).is_none()
+        && thread.buffer.is_empty()
+}
+
+// Whether a thread's calls need not wait for the prologue's.
+fn may_begin<S: Viewed>(client: &Client, state: &S, thread: usize) -> bool
+    ensures { result ≡ may_begin (program_of client.now).prologue thread (λ j. is_thread_over (program_of client.now) j (begun_by (state_of (S.state state.now)) j) (slice_get (state_of (S.state state.now)).threads j)) }
+{
+    let prologue = client.threads.len();
+    if client.prologue.is_empty() || thread == prologue {
+        return true;
+    }
+    match state.thread(prologue) {
+        Some(first) => is_over(client, state, prologue, first),
+        None => true,
+    }
+}
+
+/// The call that a thread may begin next, were it idle.
+pub fn next_call<S: Viewed>(client: &Client, state: &S, thread: usize) -> Option<CallKind>
+    ensures { option_map call_view result ≡ next_call (program_of client.now) (state_of (S.state state.now)) thread }
+{
+    if may_begin(client, state, thread) {
+        call_at(client, thread, begun_calls(state, thread).len())
+    } else {
+        None
+    }
+}
+
+/// What the actor does next: exactly the model's move, if it has one.
+pub fn planned<S: Viewed>(client: &Client, state: &S, actor: Actor) -> Option<Motion>
+    ensures is { option_map (motion_view (S.state state.now) (thread_of actor)) result ≡ move (program_of client.now) (state_of (S.state state.now)) (actor_of actor) }
+    ensures there { IfSome result (λ m. thread_of actor < length (S.state state.now).threads) }
+    ensures fits { IfSome result (Fits (thread_in (S.state state.now) (thread_of actor))) }
+    ensures labels { IfSome result (λ m. labels_in (S.state state.now).memory (thread_of actor) (thread_in (S.state state.now) (thread_of actor)) m ≡ labels_of (program_of client.now) (state_of (S.state state.now)) (actor_of actor)) }
+{
+    let number = actor.thread();
+    let thread = state.thread(number)?;
+    match actor {
+        Actor::Exec(_) => {
+            let procedure = running_procedure(begun_calls(state, number));
+            core_motion(client, procedure, next_call(client, state, number), thread)
+        }
+        Actor::Drain(_) => drain_motion(thread),
+    }
+}
