@@ -11,3 +11,4 @@ pub mod StepLemmas
 pub mod StepLimits
 pub mod UndoLemmas
 pub mod Views
+pub mod WordPlaces
