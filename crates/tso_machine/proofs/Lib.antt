@@ -1,8 +1,10 @@
 pub mod CallLists
 pub mod Counts
+pub mod Edges
 pub mod Fine
 pub mod FirstThreads
 pub mod Outside
+pub mod PathRuns
 pub mod PlaceBounds
 pub mod QueueLemmas
 pub mod Ranked
