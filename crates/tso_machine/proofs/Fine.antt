@@ -101,12 +101,12 @@ either_taken : (b : Bool) (x y f : Frame) → x.taken ≡ f.taken → y.taken �
 either_taken true x y f e g = e
 either_taken false x y f e g = g
 
-exchanged_pc : (operation : LockedOperation) (r : Register) (f : Frame) (old : ℕ) → (exchanged operation r f old).pc ≡ f.pc
+pub exchanged_pc : (operation : LockedOperation) (r : Register) (f : Frame) (old : ℕ) → (exchanged operation r f old).pc ≡ f.pc
 exchanged_pc Exchange r f old = refl
 exchanged_pc CompareExchange r f old = either_frame (register_of f Rax == old) f (with_register Rax old f) f refl refl
 exchanged_pc ExchangeAdd r f old = refl
 
-exchanged_taken : (operation : LockedOperation) (r : Register) (f : Frame) (old : ℕ) → (exchanged operation r f old).taken ≡ f.taken
+pub exchanged_taken : (operation : LockedOperation) (r : Register) (f : Frame) (old : ℕ) → (exchanged operation r f old).taken ≡ f.taken
 exchanged_taken Exchange r f old = refl
 exchanged_taken CompareExchange r f old = either_taken (register_of f Rax == old) f (with_register Rax old f) f refl refl
 exchanged_taken ExchangeAdd r f old = refl

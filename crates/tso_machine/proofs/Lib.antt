@@ -1,8 +1,10 @@
 pub mod CallLists
 pub mod Counts
+pub mod Edges
 pub mod Fine
 pub mod FirstThreads
 pub mod Outside
+pub mod PathRuns
 pub mod PlaceBounds
 pub mod QueueLemmas
 pub mod Ranked
@@ -11,3 +13,4 @@ pub mod StepLemmas
 pub mod StepLimits
 pub mod UndoLemmas
 pub mod Views
+pub mod WordPlaces

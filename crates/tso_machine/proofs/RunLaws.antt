@@ -5,10 +5,13 @@ use Rattle.tso_line.specs.declared.instruction.CallKind.{CallKind}
 use Rattle.tso_prog.specs.Views.{call_view}
 use Rattle.tso_prog.specs.declared.client.Client.{Client}
 use Rattle.tso_flow.specs.Calls.{as_thread}
+use Rattle.tso_flow.specs.Faults.{HasNoFault}
+use Rattle.tso_machine.proofs.PathRuns.{frames_stay_on_paths, sound_inside}
 use Rattle.tso_machine.proofs.Ranked.{ranked}
 use Rattle.tso_machine.proofs.StepLimits.{limit_below}
+use Rattle.tso_machine.specs.Activations.{Activation}
 use Rattle.tso_machine.specs.Initial.{idle_thread}
-use Rattle.tso_machine.specs.Laws.{BuffersStayWithin, EndsAreDecided, FramesStaySound, LabelsAreFew, RunsAreShort, RunsEnd, SectionsAreGuarded, SizesStay, StopsAreFaults, StopsAreFinal}
+use Rattle.tso_machine.specs.Laws.{BuffersStayWithin, EndsAreDecided, FramesStaySound, IsRunOf, LabelsAreFew, RunsAreShort, RunsEnd, SectionsAreGuarded, SizesStay, StopsAreFaults, StopsAreFinal}
 use Rattle.tso_machine.specs.Places.{first_memory}
 use Rattle.tso_machine.specs.Programs.{program_of, prologue_thread}
 use Rattle.tso_machine.specs.Soundness.{is_sound_or_past_end, rank}
@@ -17,7 +20,8 @@ use Rattle.tso_model.proofs.Faults as faults
 use Rattle.tso_model.proofs.Few as few
 use Rattle.tso_model.proofs.Guards as guards
 use Rattle.tso_model.specs.Invariants.{AllWithin}
-use Rattle.tso_model.specs.Labels.{first_machine}
+use Rattle.tso_model.specs.Labels.{Label, Machine, first_machine}
+use Rattle.tso_model.specs.Measure.{AllSound}
 use Rattle.tso_model.specs.Programs as model
 
 as_many : (threads : List (List CallKind)) (prologue : List CallKind)
@@ -58,11 +62,17 @@ runs_are_short c ls m run =
     let le = falls.runs_are_short (program_of c) (length (first_memory c.arrays)) (is_sound_or_past_end c) (rank c) (ranked c) (first_memory c.arrays) ls m run in
     omega (arith, le, limit_below c)
 
-pub frames_stay_sound : (c : Client) → FramesStaySound c
-frames_stay_sound c ls m run =
+stays_sound_or_past_end : (c : Client) (ls : List Label) (m : Machine Activation) → IsRunOf c ls m → AllSound (is_sound_or_past_end c) m
+stays_sound_or_past_end c ls m run =
     let first = first_machine (program_of c) (first_memory c.arrays) in
     let at_first = falls.first_sound (program_of c) (is_sound_or_past_end c) (first_memory c.arrays) in
     falls.sound_run (program_of c) (length (first_memory c.arrays)) (is_sound_or_past_end c) (rank c) (ranked c) first m ls at_first run
 
+pub frames_stay_sound : (c : Client) → HasNoFault c → FramesStaySound c
+frames_stay_sound c sound ls m run i t a st here running =
+    let s = stays_sound_or_past_end c ls m run i t a st here running in
+    let on = frames_stay_on_paths c sound ls m run i t a st here running in
+    (s.0, sound_inside c s.0 a s.1 on.inside)
+
 pub runs_end : (c : Client) → RunsEnd c
-runs_end c ls m run = falls.runs_end (program_of c) (length (first_memory c.arrays)) (is_sound_or_past_end c) (rank c) (ranked c) m (frames_stay_sound c ls m run)
+runs_end c ls m run = falls.runs_end (program_of c) (length (first_memory c.arrays)) (is_sound_or_past_end c) (rank c) (ranked c) m (stays_sound_or_past_end c ls m run)

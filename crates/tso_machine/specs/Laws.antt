@@ -3,14 +3,17 @@ use Rattle.std.specs.Prelude.{◌≡◌, ◌⊎◌, ℕ, ◌≤◌, List, length
 use Rattle.tso_prog.specs.declared.client.Client.{Client}
 use Rattle.tso_flow.specs.Calls.{calls_of_client, step_limit}
 use Rattle.tso_machine.specs.Activations.{Activation}
+use Rattle.tso_machine.specs.Control.{AllOnPaths, GoesOnWith, IsNext, IsOnPath}
+use Rattle.tso_machine.specs.Instructions.{next_action}
 use Rattle.tso_machine.specs.Places.{first_memory}
-use Rattle.tso_machine.specs.Programs.{program_of}
-use Rattle.tso_machine.specs.Soundness.{is_sound_or_past_end, rank}
+use Rattle.tso_machine.specs.Programs.{program_of, start_of}
+use Rattle.tso_machine.specs.Soundness.{is_sound, is_sound_or_past_end, rank}
 use Rattle.tso_model.specs.Bounds.{AreLabelsFew, Follows}
 use Rattle.tso_model.specs.Faults.{HasFaultOf, IsStoppedAt}
 use Rattle.tso_model.specs.Invariants.{AllWithin, IsGuarded}
 use Rattle.tso_model.specs.Labels.{Ended, Label, Machine, Run, first_machine}
 use Rattle.tso_model.specs.Measure.{AllSound, IsRanked}
+use Rattle.tso_model.specs.Programs.{CallKind}
 
 -- the labels lead from the client's machine before any step to this one
 abbrev pub IsRunOf : Client → List Label → Machine Activation → Type 0
@@ -40,6 +43,20 @@ LabelsAreFew c = (m : Machine Activation) → AreLabelsFew (program_of c) m
 abbrev pub EndsAreDecided : Client → Type 0
 EndsAreDecided c = (m : Machine Activation) → Ended (program_of c) m ⊎ Follows (program_of c) m
 
+-- ---- paths of control
+
+-- a call starts on a path
+abbrev pub CallsStartOnPaths : Client → Type 0
+CallsStartOnPaths c = (call : CallKind) → IsOnPath c (start_of c call)
+
+-- each instruction goes on along an edge of its procedure
+abbrev pub InstructionsFollowEdges : Client → Type 0
+InstructionsFollowEdges c = (a : Activation) → GoesOnWith (IsNext c a) (next_action c a)
+
+-- from a call that is on a path each instruction goes on with one that is on a path
+abbrev pub InstructionsFollowPaths : Client → Type 0
+InstructionsFollowPaths c = (a : Activation) → IsOnPath c a → GoesOnWith (IsOnPath c) (next_action c a)
+
 -- ---- what holds of each machine that a run leads to
 
 -- memory has the words of all arrays, and there is a thread for each list of calls
@@ -54,9 +71,13 @@ SizesStay c = (ls : List Label) (m : Machine Activation) → IsRunOf c ls m → 
 abbrev pub BuffersStayWithin : Client → Type 0
 BuffersStayWithin c = (ls : List Label) (m : Machine Activation) → IsRunOf c ls m → AllWithin (length (first_memory c.arrays)) m
 
--- each running call's frame can occur in a call: its position is in its procedure, and no count is above its bound
+-- each running call's frame can occur in a call: an instruction stands at its position, and no count is above its bound
 abbrev pub FramesStaySound : Client → Type 0
-FramesStaySound c = (ls : List Label) (m : Machine Activation) → IsRunOf c ls m → AllSound (is_sound_or_past_end c) m
+FramesStaySound c = (ls : List Label) (m : Machine Activation) → IsRunOf c ls m → AllSound (is_sound c) m
+
+-- a path of its procedure leads to each running call's position
+abbrev pub FramesStayOnPaths : Client → Type 0
+FramesStayOnPaths c = (ls : List Label) (m : Machine Activation) → IsRunOf c ls m → AllOnPaths c m
 
 -- the lock's holder is in its section, with at most the section's own entry in its buffer, and no other thread is in a section
 abbrev pub SectionsAreGuarded : Client → Type 0

@@ -2,6 +2,7 @@ pub mod Actions
 pub mod Activations
 pub mod Changes
 pub mod Exactness
+pub mod Control
 pub mod Frames
 pub mod Initial
 pub mod Instructions

@@ -1,5 +1,5 @@
 -- Cells of memory: the arrays stand one after another, and a cell is its place among all their words.
-use Rattle.std.specs.Prelude.{ℕ, ◌+◌, nat_lt, if◌then◌else◌, List, length, take, sum_by, slice_get, Option, Some, None, ℤ, pos, negsuc, ◌+ℤ◌}
+use Rattle.std.specs.Prelude.{ℕ, ◌+◌, ◌^◌, nat_lt, if◌then◌else◌, List, length, take, sum_by, slice_get, Option, Some, None, ℤ, pos, negsuc, ◌+ℤ◌}
 use Rattle.std.specs.List.{flat_map}
 use Rattle.tso_line.specs.declared.instruction.Register.{Register}
 use Rattle.tso_line.specs.declared.instruction.Address.{Address}
@@ -23,6 +23,11 @@ place_in (Some a) first (pos k) = if nat_lt k (length a.words) then Some (first 
 
 abbrev pub place_of : List Array → ℕ → ℤ → Option ℕ
 place_of arrays number index = place_in (slice_get arrays number) (first_place arrays number) index
+
+-- the place, if it is a number of 64 bits
+abbrev pub if_word : Option ℕ → Option ℕ
+if_word None = None
+if_word (Some place) = if nat_lt place (2 ^ 64) then Some place else None
 
 abbrev pub index_register : Frame → Option Register → ℕ
 index_register f None = 0

@@ -17,6 +17,10 @@ use Rattle.tso_model.specs.Programs.{Program}
 abbrev pub IsNoStep : Program Activation → Machine Activation → Label → Type 0
 IsNoStep p m l = (after : Machine Activation) → Step p m l after → ⊥
 
+-- the label leads to some machine
+abbrev pub IsStep : Program Activation → Machine Activation → Label → Type 0
+IsStep p m l = (after : Machine Activation) × Step p m l after
+
 abbrev pub is_drain : LabelKind → Bool
 is_drain (kinds.Drain place word) = true
 is_drain _ = false

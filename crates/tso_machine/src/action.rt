@@ -9,7 +9,7 @@ ghost use Rattle.tso_machine.specs.Instructions.{advanced, with_register, with_f
 ghost use Rattle.tso_machine.specs.Places.{index_register, operand_place};
 
 use crate::frame::{Frame, Patch};
-use crate::place::place_at;
+use crate::place::cell_place;
 use tso_flow::ProcedureKind;
 use tso_line::{Address, Comparison, Instruction, LockedOperation, Operation, Register};
 use tso_prog::{Answer, Client, Procedure, Step};
@@ -333,5 +333,5 @@ fn place_of(client: &Client, frame: &Frame, address: Address<usize>) -> Option<u
     ensures { result ≡ operand_place client.now.arrays frame.now address }
 {
     let index = index_register(frame, address.index).checked_add_signed(address.offset)?;
-    place_at(client.arrays.as_slice(), address.array, index as usize)
+    cell_place(client, address.array, index as usize)
 }

@@ -1,6 +1,6 @@
 //! What is known of the runs of a checked client's machine, label by label. These functions do nothing when they run.
 
-ghost use Rattle.tso_machine.specs.Laws.{AreFramesRanked, BuffersStayWithin, EndsAreDecided, FramesStaySound, LabelsAreFew, RunsAreShort, RunsEnd, SectionsAreGuarded, SizesStay, StopsAreFaults, StopsAreFinal};
+ghost use Rattle.tso_machine.specs.Laws.{AreFramesRanked, BuffersStayWithin, CallsStartOnPaths, EndsAreDecided, FramesStayOnPaths, FramesStaySound, InstructionsFollowEdges, InstructionsFollowPaths, LabelsAreFew, RunsAreShort, RunsEnd, SectionsAreGuarded, SizesStay, StopsAreFaults, StopsAreFinal};
 
 use tso_flow::Checked;
 
@@ -40,9 +40,20 @@ pub fn buffers_stay_within(checked: &Checked)
     ensures { BuffersStayWithin checked.now.client }
 {}
 
-/// Each running call stands in its own procedure, and has taken no back jump more often than its bound says.
+/// Control follows the paths that the flow check knows: a call starts on one, each instruction goes on along an edge, whatever
+/// word it reads, and so from a position on a path to one on a path, where an instruction stands. No run is cut because it
+/// runs behind the end of a procedure.
+pub fn steps_follow_paths(checked: &Checked)
+    ensures starts { CallsStartOnPaths checked.now.client }
+    ensures edges { InstructionsFollowEdges checked.now.client }
+    ensures paths { InstructionsFollowPaths checked.now.client }
+{}
+
+/// Each running call stands at an instruction of its own procedure, to which a path leads, and has taken no back jump more
+/// often than its bound says.
 pub fn frames_stay_sound(checked: &Checked)
-    ensures { FramesStaySound checked.now.client }
+    ensures sound { FramesStaySound checked.now.client }
+    ensures paths { FramesStayOnPaths checked.now.client }
 {}
 
 /// The lock's holder is in its locked instruction, with at most that instruction's own entry in its buffer, and no other

@@ -30,7 +30,8 @@ pub use frame::{Frame, Patch};
 pub use label::{Label, LabelKind};
 pub use laws::{
     buffers_stay_within, ends_are_decided, frames_are_ranked, frames_stay_sound, labels_are_few,
-    runs_are_short, runs_end, sections_are_guarded, sizes_stay, stops_are_faults, stops_are_final,
+    runs_are_short, runs_end, sections_are_guarded, sizes_stay, steps_follow_paths,
+    stops_are_faults, stops_are_final,
 };
 pub use machine::{Core, Machine, Running, Stage, Thread};
 pub use offer::{Offer, word_seen};

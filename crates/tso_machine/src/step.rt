@@ -6,7 +6,7 @@ ghost use Rattle.tso_machine.specs.Changes.{thread_after, FitsChange};
 ghost use Rattle.tso_machine.specs.Machines.{label_of, machine_of};
 ghost use Rattle.tso_machine.specs.Offers.{memory_after, lock_after, next_of, performed};
 ghost use Rattle.tso_machine.specs.Programs.{program_of};
-ghost use Rattle.tso_machine.specs.Stepping.{is_drain, IsNoStep, IsOffered};
+ghost use Rattle.tso_machine.specs.Stepping.{is_drain, IsNoStep, IsOffered, IsStep};
 ghost use Rattle.tso_model.specs.Labels.{Step};
 ghost use Rattle.tso_model.specs.Offers.{actor_of, offer};
 ghost use Rattle.tso_machine.specs.declared.step.ApplyError.TheVariants.{Memory};
@@ -135,8 +135,8 @@ impl From<AllocError> for ApplyError {
 /// Takes the step of a label: exactly the steps of the x86-TSO machine (Sewell and others 2010) within loop bounds
 /// succeed, with its machine afterwards.
 ///
-/// Errors: `NotAStep` exactly where the machine has no step of this label; `Memory` where a growth was refused. Both leave
-/// the machine as it was. The machine has to come from `initial` of the same client for the step to be one of its runs.
+/// Errors: `NotAStep` exactly where the machine has no step of this label; `Memory` where it has one, and a growth that the
+/// step needs was refused. Both leave the machine as it was. The machine has to come from `initial` of the same client for the step to be one of its runs.
 pub fn apply(
     alloc: Global,
     checked: &Checked,
@@ -145,6 +145,7 @@ pub fn apply(
 ) -> Result<Undo, ApplyError>
     ensures step { OnOk result (Step (program_of checked.now.client) (machine_of machine.old) (label_of label) (machine_of machine.new)) }
     ensures refused { result ≡ Err ApplyError.NotAStep → IsNoStep (program_of checked.now.client) (machine_of machine.old) (label_of label) }
+    ensures memory { result ≡ Err ApplyError.Memory → IsStep (program_of checked.now.client) (machine_of machine.old) (label_of label) }
     ensures err { OnErr result (machine.new ≡ machine.old) }
     ensures back { IfOk result (λ u. Undoes u machine.new machine.old) }
 {
