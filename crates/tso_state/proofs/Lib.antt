@@ -1,2 +1,3 @@
+pub mod InitialLemmas
 pub mod OrderLemmas
 pub mod ViewLemmas

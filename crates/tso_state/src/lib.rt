@@ -3,11 +3,13 @@
 
 mod actor;
 mod exact;
+mod initial;
 mod order;
 mod state;
 mod viewed;
 
 pub use actor::Actor;
+pub use initial::initial_state;
 pub use order::{
     actors_are_ordered_by_number, compare, compare_actors, copy_of, equal_states_hash_alike,
     is_same,
