@@ -7,6 +7,7 @@ mod initial;
 mod order;
 mod state;
 mod viewed;
+mod well_formed;
 
 pub use actor::Actor;
 pub use initial::initial_state;
@@ -16,3 +17,4 @@ pub use order::{
 };
 pub use state::{Core, State, Thread};
 pub use viewed::Viewed;
+pub use well_formed::is_well_formed;
