@@ -1,2 +1,6 @@
+pub mod ListLemmas
+pub mod ClientLemmas
+pub mod FitLemmas
+pub mod InitialLemmas
 pub mod OrderLemmas
 pub mod ViewLemmas

@@ -1,6 +1,6 @@
 -- That `==` of actors is exact, and their order that of their numbers.
-use Rattle.std.specs.Prelude.{◌≡◌, true, false, refl}
-use Rattle.std.proofs.Common.{ap, rules}
+use Rattle.std.specs.Prelude.{◌≡◌, refl}
+use Rattle.std.proofs.Common.{ap}
 use Rattle.std.proofs.lemmas.Bool.{and_parts, and_from, false≢true}
 use Rattle.std.proofs.lemmas.Bool.Decides.{Decides-eqb}
 use Rattle.tso_list.specs.Same.{IsExact}

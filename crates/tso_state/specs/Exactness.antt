@@ -1,6 +1,6 @@
 -- That `==` of cores and of actors is exact.
-use Rattle.std.specs.Prelude.{◌≡◌, true, false, refl}
-use Rattle.std.proofs.Common.{ap, rules}
+use Rattle.std.specs.Prelude.{◌≡◌, refl}
+use Rattle.std.proofs.Common.{ap}
 use Rattle.std.proofs.lemmas.Bool.{false≢true}
 use Rattle.tso_list.specs.Same.{IsExact}
 use Rattle.tso_machine.specs.Exactness.{frame_exact}

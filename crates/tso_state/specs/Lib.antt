@@ -2,6 +2,9 @@ pub mod ActorExactness
 pub mod ActorOrder
 pub mod Actors
 pub mod Exactness
+pub mod Fitting
 pub mod Hashes
+pub mod Initial
 pub mod Order
 pub mod Views
+pub mod WellFormed

@@ -3,14 +3,18 @@
 
 mod actor;
 mod exact;
+mod initial;
 mod order;
 mod state;
 mod viewed;
+mod well_formed;
 
 pub use actor::Actor;
+pub use initial::initial_state;
 pub use order::{
     actors_are_ordered_by_number, compare, compare_actors, copy_of, equal_states_hash_alike,
     is_same,
 };
 pub use state::{Core, State, Thread};
 pub use viewed::Viewed;
+pub use well_formed::is_well_formed;

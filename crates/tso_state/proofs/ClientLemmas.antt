@@ -1,0 +1,32 @@
+-- The calls of a client's threads, the prologue's last.
+use Rattle.std.proofs.Common.{◌≡◌, ℕ, zero, suc, List, [], ◌∷◌, ◌++◌, ◌∙◌, length, map, slice_index_or, refl, ap}
+use Rattle.std.proofs.lemmas.List.{length-map}
+use Rattle.tso_flow.specs.Calls.{as_thread}
+use Rattle.tso_line.specs.declared.instruction.CallKind.{CallKind}
+use Rattle.tso_machine.specs.Programs.{calls_in, calls_of, prologue_thread}
+use Rattle.tso_prog.specs.Views.{call_view}
+use Rattle.tso_prog.specs.declared.client.Client.{Client}
+use Rattle.tso_state.specs.WellFormed.{client_calls, thread_total}
+
+pub one_thread : (prologue : List CallKind) → prologue_thread prologue ≡ as_thread prologue
+one_thread [] = refl
+one_thread (k ∷ ks) = refl
+
+pub calls_of-width : (c : Client) → length (calls_of c) ≡ thread_total c
+calls_of-width c =
+    length-map (c.threads ++ prologue_thread c.prologue) (map call_view)
+    ∙ ap (λ (p : List (List CallKind)). length (c.threads ++ p)) (one_thread c.prologue)
+
+of_prologue : (prologue : List CallKind) (i : ℕ) → calls_in [] prologue i ≡ slice_index_or (as_thread prologue) i []
+of_prologue [] zero = refl
+of_prologue [] (suc i) = refl
+of_prologue (k ∷ ks) zero = refl
+of_prologue (k ∷ ks) (suc i) = refl
+
+kinds_in : (threads : List (List CallKind)) (prologue : List CallKind) (i : ℕ) → calls_in threads prologue i ≡ slice_index_or (threads ++ as_thread prologue) i []
+kinds_in [] prologue i = of_prologue prologue i
+kinds_in (ks ∷ kss) prologue zero = refl
+kinds_in (ks ∷ kss) prologue (suc i) = kinds_in kss prologue i
+
+pub kinds-are : (c : Client) (i : ℕ) → calls_in c.threads c.prologue i ≡ client_calls c i
+kinds-are c i = kinds_in c.threads c.prologue i

@@ -1,0 +1,100 @@
+-- The list of a well-formed state, thread by thread, as the code tests it. Nothing but the proof of that code rests on this.
+use Rattle.std.specs.Prelude.{◌≡◌, ◌≢◌, ℕ, ◌-◌, ◌<◌, ◌≤◌, List, length, take, Option, Some, None, slice_get, slice_index_or, All, if◌then◌else◌}
+use Rattle.tso_flow.specs.Calls.{kind_of}
+use Rattle.tso_flow.specs.declared.location.ProcedureKind.{ProcedureKind}
+use Rattle.tso_hist.specs.declared.call.Call.{Call}
+use Rattle.tso_line.specs.declared.instruction.CallKind.{CallKind}
+use Rattle.tso_machine.specs.declared.buffer.Entry.{Entry}
+use Rattle.tso_line.specs.declared.instruction.Instruction.{Instruction}
+use Rattle.tso_flow.specs.Calls.{bound_of}
+use Rattle.tso_machine.specs.Instructions.{is_back_jump}
+use Rattle.tso_prog.specs.declared.client.Client.{Client}
+use Rattle.tso_state.specs.declared.state.Core.{Core}
+use Rattle.tso_state.specs.declared.state.Core.TheVariants.{Idle, Running, Stopped}
+use Rattle.tso_state.specs.declared.state.State.{State}
+use Rattle.tso_state.specs.declared.state.Thread.{Thread}
+use Rattle.tso_state.specs.Views.{running_procedure}
+use Rattle.tso_state.specs.WellFormed.{HasStarted, IsAnswered, IsFrameOf, IsPrologueOver, LastFits, answered_count, calls_by, client_calls, last_call, thread_total, word_count}
+
+-- each of these entries is inside a memory of so many words
+abbrev pub AreInside : ℕ → List Entry → Type 0
+AreInside words buffer = All (λ e. e.place < words) buffer
+
+-- call k of thread i, of these kinds of calls, with so many threads
+pub record IsNumbered (kinds : List CallKind) (width i k : ℕ) (call : Call) : Type 0 where
+  pub kind : slice_get kinds k ≡ Some call.kind
+  pub seen : length call.seen ≡ width
+  pub own : slice_get call.seen i ≡ Some k
+
+abbrev pub AreNumbered : List CallKind → ℕ → ℕ → List Call → Type 0
+AreNumbered kinds width i calls = (k : ℕ) (d : Call) → k < length calls → IsNumbered kinds width i k (slice_index_or calls k d)
+
+-- all but the last are answered
+abbrev pub AreEarlierAnswered : List Call → Type 0
+AreEarlierAnswered calls = All IsAnswered (take (length calls - 1) calls)
+
+-- a running core is in a frame of this procedure
+abbrev pub FrameFits : Client → ProcedureKind → Core → Type 0
+FrameFits c procedure Idle = Unit {0}
+FrameFits c procedure (Running f) = IsFrameOf c procedure f
+FrameFits c procedure Stopped = Unit {0}
+
+-- the calls and the core of one thread fit each other
+pub record CallsFit (c : Client) (core : Core) (calls : List Call) : Type 0 where
+  pub earlier : AreEarlierAnswered calls
+  pub last : LastFits core (last_call calls)
+  pub frame : FrameFits c (running_procedure calls) core
+
+-- the last of the calls fits the core
+pub record CallFits (c : Client) (core : Core) (last : Call) : Type 0 where
+  pub answer : LastFits core (Some last)
+  pub frame : FrameFits c (kind_of last.kind) core
+
+-- thread i and its calls
+pub record ThreadFits (c : Client) (i : ℕ) (t : Thread) (calls : List Call) : Type 0 where
+  pub inside : AreInside (word_count c) t.buffer
+  pub numbered : AreNumbered (client_calls c i) (thread_total c) i calls
+  pub fit : CallsFit c t.core calls
+
+-- both are there, and fit
+abbrev pub FitsAt : Client → ℕ → Option Thread → Option (List Call) → Type 0
+FitsAt c i None calls = ⊥
+FitsAt c i (Some t) None = ⊥
+FitsAt c i (Some t) (Some calls) = ThreadFits c i t calls
+
+abbrev pub ThreadsFit : Client → State → Type 0
+ThreadsFit c s = (i : ℕ) → i < thread_total c → FitsAt c i (slice_get s.threads i) (slice_get s.history i)
+
+-- not more than so many answers of thread j are seen
+abbrev pub SeesAtMost : ℕ → ℕ → List ℕ → Type 0
+SeesAtMost j count seen = (n : ℕ) → slice_get seen j ≡ Some n → n ≤ count
+
+abbrev pub HaveSeenAtMost : ℕ → ℕ → List Call → Type 0
+HaveSeenAtMost j count calls = All (λ c. SeesAtMost j count c.seen) calls
+
+abbrev pub HaveAllSeenAtMost : State → ℕ → ℕ → ℕ → Type 0
+HaveAllSeenAtMost s width j count = (i : ℕ) → i < width → HaveSeenAtMost j count (calls_by s i)
+
+abbrev pub SeenFits : State → ℕ → Type 0
+SeenFits s width = (j : ℕ) → j < width → HaveAllSeenAtMost s width j (answered_count (calls_by s j))
+
+pub record HasLengths (c : Client) (s : State) : Type 0 where
+  pub memory : length s.memory ≡ word_count c
+  pub threads : length s.threads ≡ thread_total c
+  pub history : length s.history ≡ thread_total c
+
+-- it has started, and is not thread j
+pub record IsOtherStarted (s : State) (j i : ℕ) : Type 0 where
+  pub other : i ≢ j
+  pub started : HasStarted s i
+
+-- no thread but this one has started
+abbrev pub NoneHasStarted : State → ℕ → ℕ → Type 0
+NoneHasStarted s width j = (i : ℕ) → i < width → IsOtherStarted s j i → ⊥
+
+abbrev pub PrologueFits : Client → State → Type 0
+PrologueFits c s = 0 < length c.prologue → (i : ℕ) → i < thread_total c → IsOtherStarted s (length c.threads) i → IsPrologueOver c s
+
+-- the bound of the instruction at this position, if it is a back jump
+abbrev pub back_bound : ℕ → Instruction ℕ ℕ → Option ℕ
+back_bound at step = if is_back_jump at step then Some (bound_of step) else None

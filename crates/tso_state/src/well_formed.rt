@@ -1,0 +1,332 @@
+//! Which states are well-formed: all that a single state shows of having been reached.
+ghost use Rattle.std.specs.Prelude.{◌≡◌, ◌↔◌, ◌<◌, ◌≤◌, length, sum_by, All, IsTrue, slice_get, slice_index_or, []};
+ghost use Rattle.tso_flow.specs.Calls.{kind_of};
+ghost use Rattle.tso_machine.specs.Places.{first_memory};
+ghost use Rattle.tso_machine.specs.Soundness.{are_within, back_bounds, bounds_in};
+ghost use Rattle.tso_state.specs.Fitting.{AreEarlierAnswered, AreInside, AreNumbered, CallFits, CallsFit, FitsAt, HasLengths, HaveAllSeenAtMost, HaveSeenAtMost, IsNumbered, IsOtherStarted, NoneHasStarted, PrologueFits, SeenFits, SeesAtMost, ThreadFits, ThreadsFit, back_bound};
+ghost use Rattle.tso_state.specs.Initial.{idle_thread};
+ghost use Rattle.tso_state.specs.WellFormed.{HasStarted, IsAnswered, IsFrameOf, IsPrologueOver, IsWellFormed, answered_count, calls_by, client_calls, thread_total, word_count};
+
+use crate::state::{Core, Thread};
+use crate::viewed::Viewed;
+use tso_flow::{Checked, ProcedureKind};
+use tso_hist::Call;
+use tso_line::{CallKind, Instruction};
+use tso_machine::{Entry, Frame, calls_of, procedure_of, thread_count};
+use tso_prog::{Answer, Array, Client, Step};
+
+// How many words the client's memory has.
+fn count_words(arrays: &[Array]) -> usize
+    requires { sum_by (λ a. length a.words) arrays.now ≤ 256 }
+    ensures { result ≡ length (first_memory arrays.now) }
+{
+    let mut count = 0;
+    for array in arrays {
+        count += array.words.len();
+    }
+    count
+}
+
+// Whether each of these places is inside a memory of so many words.
+fn are_inside(words: usize, buffer: &[Entry]) -> bool
+    ensures { IsTrue result ↔ AreInside words buffer.now }
+{
+    buffer.iter().all(|entry| entry.place < words)
+}
+
+// Whether this is call `number` of the thread, whose calls are of these kinds, where there are so many threads.
+fn is_numbered(kinds: &[CallKind], width: usize, thread: usize, number: usize, call: &Call) -> bool
+    ensures { IsTrue result ↔ IsNumbered kinds.now width thread number call.now }
+{
+    call.seen.len() == width
+        && kinds.get(number) == Some(&call.kind)
+        && call.seen.get(thread) == Some(&number)
+}
+
+// Whether these are the first calls of the thread.
+fn are_numbered(kinds: &[CallKind], width: usize, thread: usize, calls: &[Call]) -> bool
+    ensures { IsTrue result ↔ AreNumbered kinds.now width thread calls.now }
+{
+    for (number, call) in calls.iter().enumerate() {
+        if !is_numbered(kinds, width, thread, number, call) {
+            return false;
+        }
+    }
+    true
+}
+
+fn is_answered(call: &Call) -> bool
+    ensures { IsTrue result ↔ IsAnswered call.now }
+{
+    match call.answer {
+        None => false,
+        Some(Answer::Refused) => true,
+        Some(Answer::Done) => matches!(call.kind, CallKind::Push(_)),
+        Some(Answer::Value(_)) => matches!(call.kind, CallKind::Pop),
+    }
+}
+
+fn are_answered(calls: &[Call]) -> bool
+    ensures { IsTrue result ↔ All IsAnswered calls.now }
+{
+    calls.iter().all(|call| is_answered(call))
+}
+
+// How many of these calls are answered.
+fn count_answered(calls: &[Call]) -> usize
+    ensures { result ≡ answered_count calls.now }
+{
+    calls.iter().filter(|c| c.answer.is_some()).count()
+}
+
+// The bound of a back jump.
+fn back_bound(at: usize, step: Step) -> Option<u8>
+    ensures { result ≡ back_bound at step }
+{
+    match step {
+        Instruction::Jump { target, bound, .. } if target <= at => Some(bound.unwrap_or(0)),
+        _ => None,
+    }
+}
+
+// Whether these are counts of the back jumps of these instructions, each at most its bound.
+fn are_within(taken: &[u8], steps: &[Step]) -> bool
+    ensures { result ≡ are_within taken.now (back_bounds 0 steps.now) }
+{
+    let mut number = 0;
+    for (at, step) in steps.iter().enumerate() {
+        if let Some(bound) = back_bound(at, *step) {
+            if number >= taken.len() || taken[number] > bound {
+                return false;
+            }
+            number += 1;
+        }
+    }
+    number == taken.len()
+}
+
+// Whether a call of this procedure can be in this frame.
+fn is_frame_of(client: &Client, procedure: ProcedureKind, frame: &Frame) -> bool
+    ensures { IsTrue result ↔ IsFrameOf client.now procedure frame.now }
+{
+    let steps = procedure_of(client, procedure).instructions.as_slice();
+    frame.pc < steps.len() && are_within(frame.taken.as_slice(), steps)
+}
+
+// Whether the last call of a thread is as its core says.
+fn call_fits(client: &Client, core: &Core, last: &Call) -> bool
+    ensures { IsTrue result ↔ CallFits client.now core.now last.now }
+{
+    match core {
+        Core::Idle => is_answered(last),
+        Core::Running(frame) => {
+            last.answer.is_none() && is_frame_of(client, ProcedureKind::from(last.kind), frame)
+        }
+        Core::Stopped => last.answer.is_none(),
+    }
+}
+
+// Whether the calls of a thread are answered as its core says.
+fn calls_fit(client: &Client, core: &Core, calls: &[Call]) -> bool
+    ensures { IsTrue result ↔ CallsFit client.now core.now calls.now }
+{
+    match calls.split_last() {
+        Some((last, earlier)) => are_answered(earlier) && call_fits(client, core, last),
+        None => matches!(core, Core::Idle),
+    }
+}
+
+// Whether the call has seen at most so many answers of the thread.
+fn sees_at_most(thread: usize, count: usize, seen: &[usize]) -> bool
+    ensures { IsTrue result ↔ SeesAtMost thread count seen.now }
+{
+    match seen.get(thread) {
+        Some(number) => *number <= count,
+        None => true,
+    }
+}
+
+fn have_seen_at_most(thread: usize, count: usize, calls: &[Call]) -> bool
+    ensures { IsTrue result ↔ HaveSeenAtMost thread count calls.now }
+{
+    calls
+        .iter()
+        .all(|call| sees_at_most(thread, count, call.seen.as_slice()))
+}
+
+// How many threads there are, the prologue's counted.
+fn width_of(client: &Client) -> usize
+    ensures { result ≡ thread_total client.now }
+{
+    thread_count(client)
+}
+
+// The client's calls of a thread.
+fn kinds_of(client: &Client, number: usize) -> &[CallKind]
+    ensures { result.now ≡ client_calls client.now number }
+{
+    calls_of(client, number)
+}
+
+// Whether a thread and its calls are as the client, whose memory has so many words, lets them be.
+fn thread_fits(
+    client: &Client,
+    words: usize,
+    number: usize,
+    thread: &Thread,
+    calls: &[Call],
+) -> bool
+    requires { words ≡ word_count client.now }
+    ensures { IsTrue result ↔ ThreadFits client.now number thread.now calls.now }
+{
+    are_inside(words, thread.buffer.as_slice())
+        && are_numbered(kinds_of(client, number), width_of(client), number, calls)
+        && calls_fit(client, &thread.core, calls)
+}
+
+fn fits_at<S: Viewed>(client: &Client, words: usize, state: &S, number: usize) -> bool
+    requires { words ≡ word_count client.now }
+    ensures { IsTrue result ↔ FitsAt client.now number (slice_get (S.state state.now).threads number) (slice_get (S.state state.now).history number) }
+{
+    let Some(thread) = state.thread(number) else {
+        return false;
+    };
+    let Some(calls) = state.calls(number) else {
+        return false;
+    };
+    thread_fits(client, words, number, thread, calls)
+}
+
+fn threads_fit<S: Viewed>(client: &Client, words: usize, state: &S) -> bool
+    requires { words ≡ word_count client.now }
+    ensures { IsTrue result ↔ ThreadsFit client.now (S.state state.now) }
+{
+    for number in 0..width_of(client) {
+        if !fits_at(client, words, state, number) {
+            return false;
+        }
+    }
+    true
+}
+
+// The calls of a thread that have begun, none where there is no list of them.
+fn calls_by<S: Viewed>(state: &S, number: usize) -> &[Call]
+    ensures { result.now ≡ calls_by (S.state state.now) number }
+{
+    match state.calls(number) {
+        Some(calls) => calls,
+        None => &[],
+    }
+}
+
+fn all_have_seen_at_most<S: Viewed>(state: &S, width: usize, thread: usize, count: usize) -> bool
+    ensures { IsTrue result ↔ HaveAllSeenAtMost (S.state state.now) width thread count }
+{
+    for number in 0..width {
+        if !have_seen_at_most(thread, count, calls_by(state, number)) {
+            return false;
+        }
+    }
+    true
+}
+
+// Whether no call has seen more answers of a thread than there are.
+fn seen_fits<S: Viewed>(state: &S, width: usize) -> bool
+    ensures { IsTrue result ↔ SeenFits (S.state state.now) width }
+{
+    for thread in 0..width {
+        let count = count_answered(calls_by(state, thread));
+        if !all_have_seen_at_most(state, width, thread, count) {
+            return false;
+        }
+    }
+    true
+}
+
+fn has_started<S: Viewed>(state: &S, number: usize) -> bool
+    ensures { IsTrue result ↔ HasStarted (S.state state.now) number }
+{
+    if !calls_by(state, number).is_empty() {
+        return true;
+    }
+    match state.thread(number) {
+        Some(thread) => !thread.buffer.is_empty(),
+        None => false,
+    }
+}
+
+fn is_other_started<S: Viewed>(state: &S, prologue: usize, number: usize) -> bool
+    ensures { IsTrue result ↔ IsOtherStarted (S.state state.now) prologue number }
+{
+    number != prologue && has_started(state, number)
+}
+
+// Whether no thread but the prologue's has started.
+fn none_has_started<S: Viewed>(state: &S, width: usize, prologue: usize) -> bool
+    ensures { IsTrue result ↔ NoneHasStarted (S.state state.now) width prologue }
+{
+    for number in 0..width {
+        if is_other_started(state, prologue, number) {
+            return false;
+        }
+    }
+    true
+}
+
+fn is_idle_thread(thread: &Thread) -> bool
+    ensures { IsTrue result ↔ (thread.now ≡ idle_thread) }
+{
+    matches!(thread.core, Core::Idle) && thread.buffer.is_empty()
+}
+
+fn is_prologue_over<S: Viewed>(client: &Client, state: &S) -> bool
+    ensures { IsTrue result ↔ IsPrologueOver client.now (S.state state.now) }
+{
+    let number = client.threads.len();
+    let Some(thread) = state.thread(number) else {
+        return false;
+    };
+    let calls = calls_by(state, number);
+    is_idle_thread(thread)
+        && calls.len() == client.prologue.len()
+        && count_answered(calls) == client.prologue.len()
+}
+
+// Whether no other thread has started before the prologue is over, where there is one.
+fn prologue_fits<S: Viewed>(client: &Client, state: &S) -> bool
+    ensures { IsTrue result ↔ PrologueFits client.now (S.state state.now) }
+{
+    if client.prologue.is_empty() {
+        return true;
+    }
+    if is_prologue_over(client, state) {
+        return true;
+    }
+    none_has_started(state, width_of(client), client.threads.len())
+}
+
+fn has_lengths<S: Viewed>(client: &Client, words: usize, state: &S) -> bool
+    requires { words ≡ word_count client.now }
+    ensures { IsTrue result ↔ HasLengths client.now (S.state state.now) }
+{
+    let width = width_of(client);
+    state.memory().len() == words && state.thread_count() == width && state.history_count() == width
+}
+
+/// Whether the state is well-formed for the client. It is asked of any state, whatever its parts are, and takes no memory.
+pub fn is_well_formed<S: Viewed>(checked: &Checked, state: &S) -> bool
+    ensures { IsTrue result ↔ IsWellFormed checked.now.client (S.state state.now) }
+{
+    let client = &checked.client;
+    let words = count_words(client.arrays.as_slice());
+    if !has_lengths(client, words, state) {
+        return false;
+    }
+    if !threads_fit(client, words, state) {
+        return false;
+    }
+    if !seen_fits(state, width_of(client)) {
+        return false;
+    }
+    prologue_fits(client, state)
+}
