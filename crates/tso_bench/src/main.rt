@@ -140,7 +140,7 @@ fn twelve_pushes(alloc: Global) -> Result<History, AllocError> {
     for word in 0..12u64 {
         let thread = (word % 5) as usize;
         history.on_return(thread, Answer::Done);
-        history.on_call(alloc, thread, CallKind::Push(word))?;
+        history.on_call(thread, CallKind::Push(word))?;
     }
     for thread in 0..5usize {
         history.on_return(thread, Answer::Done);

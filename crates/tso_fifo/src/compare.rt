@@ -214,7 +214,7 @@ fn compare(
                 CallKind::Pop,
             ] {
                 let mut more = history.clone()?;
-                more.on_call(alloc, thread, kind)?;
+                more.on_call(thread, kind)?;
                 compare(
                     rt,
                     alloc,
@@ -239,7 +239,7 @@ fn compare_from(
     kind: CallKind,
 ) -> Result<(), AllocError> {
     let mut history = History::new(alloc, 2)?;
-    history.on_call(alloc, 0, kind)?;
+    history.on_call(0, kind)?;
     let rule = Rule { mode, capacity };
     compare(rt, alloc, rule, &history, Last::Call(0), 3, 7)
 }

@@ -148,7 +148,7 @@ impl Search<'_> {
         requires len { length at.now.taken ≡ length self.now.candidates.now }
         ensures { (c : Candidate) → slice_get self.now.candidates.now index ≡ Some c → IfOk result (λ next. next ≡ next_at at.now index c.kind answer) }
     {
-        let mut taken = at.taken.copied(alloc)?;
+        let mut taken = at.taken.copied()?;
         *taken.at_mut(index) = true;
         let kind = self.candidates[index].kind;
         let items = items_after(alloc, at.items.as_slice(), kind, answer)?;
@@ -188,7 +188,7 @@ impl Search<'_> {
     {
         let items = at.items.as_slice();
         let pops = self.pops_left(at.taken.as_slice()).min(items.len());
-        let taken = at.taken.copied(alloc)?;
+        let taken = at.taken.copied()?;
         let front = Seq::from_slice(alloc, &items[..pops])?;
         Ok(Key {
             taken,

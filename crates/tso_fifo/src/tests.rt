@@ -18,7 +18,7 @@ fn history_of(alloc: Global, threads: usize, events: &[Event]) -> Result<History
     let mut history = History::new(alloc, threads)?;
     for event in events {
         match event {
-            Event::Call(thread, kind) => history.on_call(alloc, *thread, *kind)?,
+            Event::Call(thread, kind) => history.on_call(*thread, *kind)?,
             Event::Return(thread, answer) => history.on_return(*thread, *answer),
         }
     }
@@ -78,12 +78,12 @@ fn no_call_has_the_empty_order(rt: HostRuntime) -> Result<(), Fail> {
 fn two_pushes(alloc: Global, has_pending_pop: bool) -> Result<History, AllocError> {
     let mut history = History::new(alloc, 3)?;
     if has_pending_pop {
-        history.on_call(alloc, 2, CallKind::Pop)?;
+        history.on_call(2, CallKind::Pop)?;
     }
-    history.on_call(alloc, 1, CallKind::Pop)?;
-    history.on_call(alloc, 0, CallKind::Push(1))?;
+    history.on_call(1, CallKind::Pop)?;
+    history.on_call(0, CallKind::Push(1))?;
     history.on_return(0, Answer::Done);
-    history.on_call(alloc, 0, CallKind::Push(2))?;
+    history.on_call(0, CallKind::Push(2))?;
     history.on_return(0, Answer::Done);
     history.on_return(1, Answer::Value(2));
     Ok(history)
@@ -116,7 +116,7 @@ fn twelve_pushes(alloc: Global) -> Result<History, AllocError> {
         if word >= 5 {
             history.on_return(thread, Answer::Done);
         }
-        history.on_call(alloc, thread, CallKind::Push(word))?;
+        history.on_call(thread, CallKind::Push(word))?;
     }
     for thread in 0..5usize {
         history.on_return(thread, Answer::Done);
@@ -141,12 +141,12 @@ fn pushes_and_pops(alloc: Global, first: u64) -> Result<History, AllocError> {
         if word >= 5 {
             history.on_return(thread, Answer::Done);
         }
-        history.on_call(alloc, thread, CallKind::Push(word))?;
+        history.on_call(thread, CallKind::Push(word))?;
     }
     for (turn, word) in [first, 1, 2, 3, 4].iter().enumerate() {
         let thread = (turn + 2) % 5;
         history.on_return(thread, Answer::Done);
-        history.on_call(alloc, thread, CallKind::Pop)?;
+        history.on_call(thread, CallKind::Pop)?;
         history.on_return(thread, Answer::Value(*word));
     }
     Ok(history)

@@ -4,14 +4,14 @@ use Rattle.std.proofs.Common.{◌↔◌, IsTrue, false, nat_lt, Result, Ok, Err,
 use Rattle.std.proofs.Math.ListN.{get_or-map}
 use Rattle.std.proofs.lemmas.Bool.{false≢true}
 use Rattle.std.proofs.lemmas.Bool.Decides.{Decides-ltb}
-use Rattle.std.proofs.lemmas.Option.{get_or_from_slice_get, none-some, same_Some}
+use Rattle.std.proofs.lemmas.Option.{get_or_from_slice_get, same_Some}
 use Rattle.std.proofs.lemmas.List.{map-append, map-set}
 use Rattle.std.proofs.lemmas.List.Sums.{sum_by-cons}
 use Rattle.tso_hist.specs.declared.call.Call.{Call}
 use Rattle.tso_hist.specs.Views.{called_view, history_view}
 use Rattle.tso_model.specs.Events.{CallOf, ReturnOf, after_event}
 use Rattle.tso_model.specs.Linear.{Precedes, call_at}
-use Rattle.tso_model.specs.Programs.{CallKind as ModelKind, Answer as ModelAnswer}
+use Rattle.tso_model.specs.Programs.{CallKind as ModelKind}
 use Rattle.tso_model.specs.States.{Called, answered, calls_in, count_answer, returned}
 use Rattle.tso_prog.specs.Views.{answer_view, call_view}
 use Rattle.tso_prog.specs.declared.answer.Answer.{Answer}

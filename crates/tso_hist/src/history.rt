@@ -82,19 +82,14 @@ impl History {
     }
 
     /// Thread `thread` begins a call. Where there is no such thread, and where memory is refused, the history stays.
-    pub fn on_call(
-        &mut self,
-        alloc: Global,
-        thread: usize,
-        kind: CallKind,
-    ) -> Result<(), AllocError>
+    pub fn on_call(&mut self, thread: usize, kind: CallKind) -> Result<(), AllocError>
         ensures ok { OnOk result (history_view self.new ≡ after_event (history_view self.old) (CallOf thread (call_view kind))) }
         ensures err { OnErr result (self.new ≡ self.old) }
     {
         if thread >= self.threads.len() {
             return Ok(());
         }
-        let mut seen = Seq::new(alloc);
+        let mut seen = Seq::new(self.threads.allocator());
         for calls in self.threads() {
             seen.push(count_returned(calls.as_slice()))?;
         }

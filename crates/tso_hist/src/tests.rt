@@ -9,10 +9,10 @@ use tso_prog::Answer;
 #[test]
 fn a_return_stands_before_a_later_call(rt: HostRuntime) -> Result<(), Fail> {
     let mut history = History::new(rt.alloc(), 2)?;
-    history.on_call(rt.alloc(), 0, CallKind::Push(7))?;
+    history.on_call(0, CallKind::Push(7))?;
     history.on_return(0, Answer::Done);
-    history.on_call(rt.alloc(), 1, CallKind::Pop)?;
-    history.on_call(rt.alloc(), 0, CallKind::Pop)?;
+    history.on_call(1, CallKind::Pop)?;
+    history.on_call(0, CallKind::Pop)?;
     assert!(rt; history.precedes(0, 0, 1, 0));
     assert!(rt; history.precedes(0, 0, 0, 1));
     assert!(rt; !history.precedes(1, 0, 0, 1));
@@ -31,7 +31,7 @@ fn a_return_stands_before_a_later_call(rt: HostRuntime) -> Result<(), Fail> {
 fn a_thread_that_is_not_there_changes_nothing(rt: HostRuntime) -> Result<(), Fail> {
     let mut history = History::new(rt.alloc(), 1)?;
     let before = history.clone()?;
-    history.on_call(rt.alloc(), 1, CallKind::Pop)?;
+    history.on_call(1, CallKind::Pop)?;
     history.on_return(1, Answer::Refused);
     history.on_return(0, Answer::Refused);
     assert!(rt; is_same(&history, &before));
@@ -42,7 +42,7 @@ fn a_thread_that_is_not_there_changes_nothing(rt: HostRuntime) -> Result<(), Fai
 fn a_refused_call_changes_nothing(rt: HostRuntime) -> Result<(), Fail> {
     let mut history = History::new(rt.alloc(), 2)?;
     let before = history.clone()?;
-    if history.on_call(rt.alloc(), 0, CallKind::Pop).is_err() {
+    if history.on_call(0, CallKind::Pop).is_err() {
         assert!(rt; history == before);
     } else {
         assert!(rt; history != before);
@@ -53,7 +53,7 @@ fn a_refused_call_changes_nothing(rt: HostRuntime) -> Result<(), Fail> {
 #[test]
 fn a_history_is_its_threads(rt: HostRuntime) -> Result<(), Fail> {
     let mut history = History::new(rt.alloc(), 1)?;
-    history.on_call(rt.alloc(), 0, CallKind::Push(3))?;
+    history.on_call(0, CallKind::Push(3))?;
     let call = Call {
         kind: CallKind::Push(3),
         seen: Seq::from_slice(rt.alloc(), &[0])?,

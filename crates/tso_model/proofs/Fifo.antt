@@ -1,9 +1,10 @@
 -- The bounded queue is first-in first-out and bounded, and a strict one has but one answer to each call.
-use Rattle.std.proofs.Common.{◌≡◌, ◌≤◌, ℕ, List, [], ◌∷◌, ◌++◌, length, refl, sym, ◌∙◌, ap, append_assoc, arith, length-append}
+use Rattle.std.proofs.Common.{◌≡◌, ◌≤◌, ℕ, List, [], ◌∷◌, ◌++◌, length, refl, sym, ◌∙◌, ap, subst, append_assoc, arith, length-append, inl, inr}
 use Rattle.std.proofs.lemmas.List.{append-nil}
+use Rattle.std.proofs.Math.Nat.{eq-or-lt_of_le}
 use Rattle.tso_model.specs.Objects.{Mode, QueueStep, Strict, Weak}
 use Rattle.tso_model.specs.Programs.{Answer, CallKind, Done, IsAnswerOf, Pop, Push, Refused, Value}
-use Rattle.tso_model.specs.Queues.{AnswersAreQueueAnswers, QueuesAreBounded, QueuesAreFifo, StrictIsWeak, StrictQueuesAreDetermined, all_popped, all_pushed, word_popped, word_pushed}
+use Rattle.tso_model.specs.Queues.{AnswersAreQueueAnswers, QueuesAreBounded, QueuesAreFifo, StrictIsWeak, StrictQueuesAnswer, StrictQueuesAreDetermined, IsAnswered, all_popped, all_pushed, word_popped, word_pushed}
 
 one : (mode : Mode) (capacity : ℕ) (before : List ℕ) (k : CallKind) (a : Answer) (after : List ℕ) → QueueStep mode capacity before k a after → before ++ word_pushed k a ≡ word_popped k a ++ after
 one mode capacity before (Push v) Done after s = sym s.1
@@ -46,6 +47,40 @@ strict_queues_are_determined capacity before Pop (Value v) Refused x y s t = (le
 strict_queues_are_determined capacity before Pop Refused (Value v) x y s t = (let e = sym t ∙ s.0 in cc)
 strict_queues_are_determined capacity before Pop Done b x y s t = absurd s
 strict_queues_are_determined capacity before Pop a Done x y s t = absurd t
+
+answered : (capacity : ℕ) (before : List ℕ) (k : CallKind) → length before ≤ capacity → IsAnswered capacity before k
+answered capacity before (Push v) le = elim (eq-or-lt_of_le le) [ inl e ↦ (Refused, before, (e, refl)) | inr lt ↦ (Done, before ++ v ∷ [], (lt, refl)) ]
+answered capacity [] Pop le = (Refused, [], (refl, refl))
+answered capacity (v ∷ rest) Pop le = (Value v, rest, refl)
+
+popped : (capacity front : ℕ) (rest : List ℕ) (a : Answer) (after : List ℕ) → QueueStep Strict capacity (front ∷ rest) Pop a after → (a ≡ Value front) × (after ≡ rest)
+popped capacity front rest (Value v) after s = (let e = s in (cc, cc))
+popped capacity front rest Refused after s = absurd (let e = s.0 in cc)
+popped capacity front rest Done after s = absurd s
+
+pops : (capacity front : ℕ) (rest : List ℕ) (a : Answer) (after : List ℕ) → (a ≡ Value front) × (after ≡ rest) → QueueStep Strict capacity (front ∷ rest) Pop a after
+pops capacity front rest a after p =
+    let Q : Answer → Type 0 = λ x. QueueStep Strict capacity (front ∷ rest) Pop x after in
+    subst Q (sym p.0) (ap (λ (l : List ℕ). front ∷ l) (sym p.1))
+
+refused : (capacity : ℕ) (a : Answer) (after : List ℕ) → QueueStep Strict capacity [] Pop a after → (a ≡ Refused) × (after ≡ [])
+refused capacity (Value v) after s = absurd (let e = s in cc)
+refused capacity Refused after s = (refl, s.1)
+refused capacity Done after s = absurd s
+
+refuses : (capacity : ℕ) (a : Answer) (after : List ℕ) → (a ≡ Refused) × (after ≡ []) → QueueStep Strict capacity [] Pop a after
+refuses capacity a after p =
+    let Q : Answer → Type 0 = λ x. QueueStep Strict capacity [] Pop x after in
+    subst Q (sym p.0) (refl, p.1)
+
+pub strict_queues_answer : StrictQueuesAnswer
+strict_queues_answer = record {
+  answered = answered;
+  pushes = λ capacity before v. (λ s. s.0, λ lt. (lt, refl));
+  full = λ capacity before v. (λ s. s.0, λ e. (e, refl));
+  pops = λ capacity front rest a after. (popped capacity front rest a after, pops capacity front rest a after);
+  empty = λ capacity a after. (refused capacity a after, refuses capacity a after);
+}
 
 weak_one : (capacity : ℕ) (before : List ℕ) (k : CallKind) (a : Answer) (after : List ℕ) → QueueStep Strict capacity before k a after → QueueStep Weak capacity before k a after
 weak_one capacity before (Push v) Done after s = s

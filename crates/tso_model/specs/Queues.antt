@@ -1,7 +1,7 @@
 -- What the bounded queue's rules mean, over whole lists of calls: laws that a reader can hold against the rules.
-use Rattle.std.specs.Prelude.{◌≡◌, ◌↔◌, ℕ, ◌≤◌, List, [], ◌∷◌, ◌++◌, length}
+use Rattle.std.specs.Prelude.{◌≡◌, ◌↔◌, ℕ, ◌<◌, ◌≤◌, List, [], ◌∷◌, ◌++◌, length}
 use Rattle.tso_model.specs.Objects.{Mode, QueueStep, QueueSteps, Strict, Weak}
-use Rattle.tso_model.specs.Programs.{Answer, CallKind, Done, IsAnswerOf, Pop, Push, Value}
+use Rattle.tso_model.specs.Programs.{Answer, CallKind, Done, IsAnswerOf, Pop, Push, Refused, Value}
 
 -- the word that the call puts in, if it is a push that is done
 abbrev pub word_pushed : CallKind → Answer → List ℕ
@@ -37,6 +37,19 @@ QueuesAreBounded = (mode : Mode) (capacity : ℕ) (before : List ℕ) (calls : L
 abbrev pub StrictQueuesAreDetermined : Type 0
 StrictQueuesAreDetermined = (capacity : ℕ) (before : List ℕ) (k : CallKind) (a b : Answer) (x y : List ℕ) →
     QueueStep Strict capacity before k a x → QueueStep Strict capacity before k b y → (a ≡ b) × (x ≡ y)
+
+-- a strict queue with at most as many items as its capacity has an answer to each call
+abbrev pub IsAnswered : ℕ → List ℕ → CallKind → Type 0
+IsAnswered capacity before k = (a : Answer) × (after : List ℕ) × QueueStep Strict capacity before k a after
+
+-- it has one; a push is done exactly below the capacity, and refused exactly at it; a pop gives the front where there is
+-- one, and is refused exactly where there is none
+pub record StrictQueuesAnswer : Type 0 where
+  pub answered : (capacity : ℕ) (before : List ℕ) (k : CallKind) → length before ≤ capacity → IsAnswered capacity before k
+  pub pushes : (capacity : ℕ) (before : List ℕ) (v : ℕ) → QueueStep Strict capacity before (Push v) Done (before ++ v ∷ []) ↔ (length before < capacity)
+  pub full : (capacity : ℕ) (before : List ℕ) (v : ℕ) → QueueStep Strict capacity before (Push v) Refused before ↔ (length before ≡ capacity)
+  pub pops : (capacity : ℕ) (front : ℕ) (rest : List ℕ) (a : Answer) (after : List ℕ) → QueueStep Strict capacity (front ∷ rest) Pop a after ↔ ((a ≡ Value front) × (after ≡ rest))
+  pub empty : (capacity : ℕ) (a : Answer) (after : List ℕ) → QueueStep Strict capacity [] Pop a after ↔ ((a ≡ Refused) × (after ≡ []))
 
 -- what a strict queue may do, a weak one may
 abbrev pub StrictIsWeak : Type 0

@@ -2,7 +2,7 @@
 //! Source: Herlihy, Wing, "Linearizability: a correctness condition for concurrent objects", TOPLAS 12(3), 1990.
 
 ghost use Rattle.tso_model.specs.Histories.{HistoriesAreOfEvents, HistoriesTell, OrdersAreLinearizations};
-ghost use Rattle.tso_model.specs.Queues.{AnswersAreQueueAnswers, QueuesAreBounded, QueuesAreFifo, StrictIsWeak, StrictQueuesAreDetermined};
+ghost use Rattle.tso_model.specs.Queues.{AnswersAreQueueAnswers, QueuesAreBounded, QueuesAreFifo, StrictIsWeak, StrictQueuesAnswer, StrictQueuesAreDetermined};
 ghost use Rattle.tso_model.specs.Persistence.{BeginningsAreLinearizable, OrdersServeLooser};
 
 /// The counted history takes nothing but the calls and returns from a run's labels.
@@ -43,6 +43,11 @@ pub fn queues_are_bounded()
 /// A strict queue has but one answer to each call.
 pub fn strict_queues_are_determined()
     ensures { StrictQueuesAreDetermined }
+{}
+
+/// A strict queue has an answer to each call: a push is done exactly below the capacity, and a pop gives the front.
+pub fn strict_queues_answer()
+    ensures { StrictQueuesAnswer }
 {}
 
 /// What a strict queue may do, a weak one may.

@@ -8,21 +8,21 @@ use tso_line::CallKind;
 use tso_list::Seq;
 
 impl Array {
-    fn copied(&self, alloc: Global) -> Result<Array, AllocError>
+    fn copied(&self) -> Result<Array, AllocError>
         ensures { IfOk result (λ a. a ≡ self.now) }
     {
-        let name = self.name.copied(alloc)?;
-        let words = self.words.copied(alloc)?;
+        let name = self.name.copied()?;
+        let words = self.words.copied()?;
         Ok(Array { name, words })
     }
 }
 
 impl Procedure {
-    fn copied(&self, alloc: Global) -> Result<Procedure, AllocError>
+    fn copied(&self) -> Result<Procedure, AllocError>
         ensures { IfOk result (λ p. p ≡ self.now) }
     {
-        let instructions = self.instructions.copied(alloc)?;
-        let lines = self.lines.copied(alloc)?;
+        let instructions = self.instructions.copied()?;
+        let lines = self.lines.copied()?;
         Ok(Procedure {
             instructions,
             lines,
@@ -35,7 +35,7 @@ fn copied_arrays(alloc: Global, arrays: &[Array]) -> Result<Seq<Array>, AllocErr
 {
     let mut copy = Vec::new(alloc);
     for array in arrays {
-        copy.push(array.copied(alloc)?)?;
+        copy.push(array.copied()?)?;
     }
     Ok(Seq::from_vec(copy))
 }
@@ -48,7 +48,7 @@ fn copied_threads(
 {
     let mut copy = Vec::new(alloc);
     for calls in threads {
-        copy.push(calls.copied(alloc)?)?;
+        copy.push(calls.copied()?)?;
     }
     Ok(Seq::from_vec(copy))
 }
@@ -61,9 +61,9 @@ impl Client {
         ensures { IfOk result (λ c. c ≡ self.now) }
     {
         let arrays = copied_arrays(alloc, self.arrays.as_slice())?;
-        let push = self.push.copied(alloc)?;
-        let pop = self.pop.copied(alloc)?;
-        let prologue = self.prologue.copied(alloc)?;
+        let push = self.push.copied()?;
+        let pop = self.pop.copied()?;
+        let prologue = self.prologue.copied()?;
         let threads = copied_threads(alloc, self.threads.as_slice())?;
         Ok(Client {
             capacity: self.capacity,

@@ -18,7 +18,7 @@ fn note(alloc: Global, history: &mut History, label: Label) -> Result<(), AllocE
     ensures err { OnErr result (history.new ≡ history.old) }
 {
     match label.kind {
-        LabelKind::Call(kind) => history.on_call(alloc, label.thread, kind),
+        LabelKind::Call(kind) => history.on_call(label.thread, kind),
         LabelKind::Return(answer) => {
             history.on_return(label.thread, answer);
             Ok(())
