@@ -49,17 +49,12 @@ fn with_thread(
 }
 
 // The history with what the step of a thread writes into it.
-fn history_after(
-    alloc: Global,
-    history: &History,
-    thread: usize,
-    motion: Motion,
-) -> Result<History, AllocError>
+fn history_after(history: &History, thread: usize, motion: Motion) -> Result<History, AllocError>
     ensures { IfOk result (λ h. history_view h ≡ logged (history_view history.now) thread (log_of motion)) }
 {
     let mut copy = history.clone()?;
     match motion {
-        Motion::Begin { kind, .. } => copy.on_call(alloc, thread, kind)?,
+        Motion::Begin { kind, .. } => copy.on_call(thread, kind)?,
         Motion::Return(answer) => copy.on_return(thread, answer),
         _ => {}
     }
@@ -83,7 +78,7 @@ fn performed(
     let after = thread_after(alloc, thread, motion, word)?;
     let memory = memory_with(&state.memory, written(thread, motion, word))?;
     let threads = with_thread(&state.threads, number, after)?;
-    let history = history_after(alloc, &state.history, number, motion)?;
+    let history = history_after(&state.history, number, motion)?;
     Ok(State {
         memory,
         threads,
