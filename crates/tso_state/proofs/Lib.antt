@@ -1,3 +1,5 @@
+pub mod ModelLemmas
+pub mod ModelFits
 pub mod ListLemmas
 pub mod ClientLemmas
 pub mod FitLemmas

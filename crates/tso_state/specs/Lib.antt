@@ -5,6 +5,7 @@ pub mod Exactness
 pub mod Fitting
 pub mod Hashes
 pub mod Initial
+pub mod Laws
 pub mod Order
 pub mod Views
 pub mod WellFormed

@@ -5,6 +5,7 @@ ghost use Rattle.tso_machine.specs.Programs.{program_of};
 ghost use Rattle.tso_model.specs.States.{first_state};
 ghost use Rattle.tso_state.specs.Initial.{idle_thread};
 ghost use Rattle.tso_state.specs.Views.{state_of};
+ghost use Rattle.tso_state.specs.WellFormed.{IsWellFormed};
 
 use crate::state::{Core, State, Thread};
 use std::alloc::{AllocError, Global};
@@ -31,7 +32,8 @@ fn idle_threads(alloc: Global, count: usize) -> Result<Seq<Thread>, AllocError>
 ///
 /// Errors: where a growth was refused.
 pub fn initial_state(alloc: Global, checked: &Checked) -> Result<State, AllocError>
-    ensures { IfOk result (λ s. state_of s ≡ first_state (program_of checked.now.client) (first_memory checked.now.client.arrays)) }
+    ensures first { IfOk result (λ s. state_of s ≡ first_state (program_of checked.now.client) (first_memory checked.now.client.arrays)) }
+    ensures well_formed { IfOk result (λ s. IsWellFormed checked.now.client s) }
 {
     let client = &checked.client;
     let count = thread_count(client);

@@ -4,6 +4,7 @@
 mod actor;
 mod exact;
 mod initial;
+mod laws;
 mod order;
 mod state;
 mod viewed;
@@ -11,6 +12,7 @@ mod well_formed;
 
 pub use actor::Actor;
 pub use initial::initial_state;
+pub use laws::{well_formed_is_sound, well_formed_is_the_models};
 pub use order::{
     actors_are_ordered_by_number, compare, compare_actors, copy_of, equal_states_hash_alike,
     is_same,
