@@ -1,4 +1,5 @@
 pub mod MotionLemmas
 pub mod NamingLemmas
+pub mod PathLemmas
 pub mod PerformLemmas
 pub mod PlanLemmas

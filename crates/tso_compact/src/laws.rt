@@ -1,6 +1,6 @@
 //! What is known of a checked client's runs of labels and runs of compact steps. These functions do nothing when they run.
 
-ghost use Rattle.tso_compact.specs.Laws.{EndedRunsEndAlike, RunsAreFollowed, RunsReachEnds, StepsGiveRuns};
+ghost use Rattle.tso_compact.specs.Laws.{EndedRunsEndAlike, InitialIsPlausible, RunsAreFollowed, RunsReachEnds, StepsGiveRuns, StepsStayPlausible, StepsStaySound};
 
 use tso_flow::Checked;
 
@@ -22,4 +22,19 @@ pub fn ended_runs_end_alike(checked: &Checked)
 /// Each list of compact steps from the initial state is a run of labels.
 pub fn steps_give_runs(checked: &Checked)
     ensures { StepsGiveRuns checked.now.client }
+{}
+
+/// The state before any step is well-formed, with each running call on a path of its procedure.
+pub fn initial_is_plausible(checked: &Checked)
+    ensures { InitialIsPlausible checked.now.client }
+{}
+
+/// A step of a well-formed state whose running calls are on paths of their procedures leads to such a state.
+pub fn steps_stay_plausible(checked: &Checked)
+    ensures { StepsStayPlausible checked.now.client }
+{}
+
+/// A step of any well-formed state leads to one that is well-formed, but that a call may stand just behind its procedure.
+pub fn steps_stay_sound(checked: &Checked)
+    ensures { StepsStaySound checked.now.client }
 {}

@@ -12,7 +12,10 @@ mod stepping;
 
 pub use effect::{locked_word, thread_after, word_read, written};
 pub use fault::StepError;
-pub use laws::{ended_runs_end_alike, runs_are_followed, runs_reach_ends, steps_give_runs};
+pub use laws::{
+    ended_runs_end_alike, initial_is_plausible, runs_are_followed, runs_reach_ends,
+    steps_give_runs, steps_stay_plausible, steps_stay_sound,
+};
 pub use motion::{Motion, core_motion, drain_motion};
 pub use naming::labels;
 pub use plan::{begun_calls, next_call, planned, running_procedure};
