@@ -64,7 +64,7 @@ fn goes_past(length: usize, i: usize, step: Step) -> bool
     requires { i < length }
     ensures { result ≡ goes_past length i step }
 {
-    is_past(length, path::next(step, i)) || is_past(length, path::target(step))
+    is_past(length, path::next_position(step, i)) || is_past(length, path::jump_target(step))
 }
 
 fn is_back_without_bound(i: usize, step: Step) -> bool

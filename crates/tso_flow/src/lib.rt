@@ -12,3 +12,4 @@ mod path;
 
 pub use flow::{Checked, FlowError, check};
 pub use location::{Flag, Location, ProcedureKind};
+pub use path::{jump_target, next_position};

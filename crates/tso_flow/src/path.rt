@@ -10,8 +10,8 @@ use std::alloc::{AllocError, Global};
 use tso_line::Instruction;
 use tso_prog::Step;
 
-// The position after the instruction at `i`, where that is one of its successors.
-pub(crate) fn next(step: Step, i: usize) -> Option<usize>
+/// The position after the instruction at `i`, where that is one of its successors.
+pub fn next_position(step: Step, i: usize) -> Option<usize>
     requires { i < usize.MAX }
     ensures { result ≡ next_of step i }
 {
@@ -21,8 +21,8 @@ pub(crate) fn next(step: Step, i: usize) -> Option<usize>
     }
 }
 
-// Where the instruction can jump to.
-pub(crate) fn target(step: Step) -> Option<usize>
+/// Where the instruction can jump to.
+pub fn jump_target(step: Step) -> Option<usize>
     ensures { result ≡ target_of step }
 {
     match step {
@@ -76,8 +76,8 @@ fn mark_successors(marks: &mut [bool], i: usize, step: Step) -> bool
     ensures new { result ≡ true → unmarked marks.new < unmarked marks.old }
     ensures old { result ≡ false → (marks.new ≡ marks.old) × ((k : ℕ) → goes_on step i k ≡ true → k < length marks.old → is_marked marks.old k ≡ true) }
 {
-    let one = mark_some(marks, next(step, i));
-    let other = mark_some(marks, target(step));
+    let one = mark_some(marks, next_position(step, i));
+    let other = mark_some(marks, jump_target(step));
     one || other
 }
 

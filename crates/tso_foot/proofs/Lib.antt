@@ -1,0 +1,2 @@
+pub mod ClosedLemmas
+pub mod MaskLemmas

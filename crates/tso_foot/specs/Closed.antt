@@ -1,0 +1,38 @@
+-- Tables of what may still be read and written from each instruction, and when they are closed.
+use Rattle.std.specs.Prelude.{◌≡◌, ℕ, ◌<◌, ◌^◌, List, length, Some, slice_get, IsTrue}
+use Rattle.tso_flow.specs.Paths.{goes_on}
+use Rattle.tso_flow.specs.declared.location.ProcedureKind.{ProcedureKind}
+use Rattle.tso_flow.specs.declared.location.ProcedureKind.TheVariants as procedures
+use Rattle.tso_foot.specs.Masks.{holds, masks_at, own_masks}
+use Rattle.tso_foot.specs.declared.masks.Masks.{Masks}
+use Rattle.tso_foot.specs.declared.table.Table.{Table}
+use Rattle.tso_line.specs.declared.instruction.Instruction.{Instruction}
+use Rattle.tso_machine.specs.Instructions.{instructions_of}
+use Rattle.tso_prog.specs.declared.client.Client.{Client}
+
+-- The item of the instruction at i: no array but the client's, all that the instruction itself reads and writes, and the items of its
+-- successors inside the procedure.
+pub record IsItem (arrays : ℕ) (items : List Masks) (i : ℕ) (step : Instruction ℕ ℕ) (item : Masks) : Type 0 where
+  pub reads : item.reads < 2 ^ arrays
+  pub writes : item.writes < 2 ^ arrays
+  pub own : IsTrue (holds item (own_masks step))
+  pub successors : (j : ℕ) → IsTrue (goes_on step i j) → j < length items → IsTrue (holds item (masks_at items j))
+
+-- an item for each instruction of a procedure
+pub record IsListClosed (arrays : ℕ) (steps : List (Instruction ℕ ℕ)) (items : List Masks) : Type 0 where
+  pub lengths : length items ≡ length steps
+  pub each : (i : ℕ) (step : Instruction ℕ ℕ) (item : Masks) → slice_get steps i ≡ Some step → slice_get items i ≡ Some item → IsItem arrays items i step item
+
+-- the items of a procedure
+abbrev pub items_of : Table → ProcedureKind → List Masks
+items_of t procedures.Push = t.push
+items_of t procedures.Pop = t.pop
+
+-- a table is closed for the client: both procedures' items are
+pub record IsClosed (c : Client) (t : Table) : Type 0 where
+  pub push : IsListClosed (length c.arrays) c.push.instructions t.push
+  pub pop : IsListClosed (length c.arrays) c.pop.instructions t.pop
+
+-- each item has all that the other's item has
+abbrev pub IsAbove : List Masks → List Masks → Type 0
+IsAbove items others = (i : ℕ) → IsTrue (holds (masks_at items i) (masks_at others i))

@@ -1,0 +1,12 @@
+//! Footprints: which arrays each instruction, and each thread of a state, may still read and write.
+#![tactic(auto)]
+
+mod closed;
+mod footprint;
+mod masks;
+mod table;
+
+pub use closed::is_closed;
+pub use footprint::future;
+pub use masks::{Masks, array_mask, array_of, own_masks, place_mask};
+pub use table::Table;
