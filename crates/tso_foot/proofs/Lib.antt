@@ -1,2 +1,4 @@
+pub mod AccessLemmas
 pub mod ClosedLemmas
 pub mod MaskLemmas
+pub mod TableLemmas

@@ -1,3 +1,4 @@
 pub mod Closed
 pub mod Futures
+pub mod Laws
 pub mod Masks

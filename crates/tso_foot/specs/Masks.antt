@@ -44,13 +44,14 @@ abbrev pub array_mask : Option ℕ → ℕ
 array_mask None = 0
 array_mask (Some k) = 2 ^ k
 
+-- the mask has this array, if there is one
+abbrev pub has_some : ℕ → Option ℕ → Bool
+has_some mask None = false
+has_some mask (Some k) = has_array mask k
+
 -- the mask has the array of this place
 abbrev pub has_place : List Array → ℕ → ℕ → Bool
 has_place arrays mask place = has_some mask (array_of arrays place)
-  where
-    has_some : ℕ → Option ℕ → Bool
-    has_some mask None = false
-    has_some mask (Some k) = has_array mask k
 
 -- the masks at a position; none behind the last item
 abbrev pub masks_at : List Masks → ℕ → Masks

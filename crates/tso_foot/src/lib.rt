@@ -3,10 +3,12 @@
 
 mod closed;
 mod footprint;
+mod laws;
 mod masks;
 mod table;
 
 pub use closed::is_closed;
 pub use footprint::future;
+pub use laws::closed_is_the_models;
 pub use masks::{Masks, array_mask, array_of, own_masks, place_mask};
 pub use table::Table;

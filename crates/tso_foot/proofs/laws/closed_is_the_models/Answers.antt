@@ -1,0 +1,5 @@
+use Rattle.tso_foot.proofs.TableLemmas.{closed_is_the_models}
+use Rattle.tso_foot.proofs.laws.closed_is_the_models.Goals as goal
+
+pub returns : goal.returns
+returns c = closed_is_the_models c.args.checked.now.client
