@@ -13,7 +13,7 @@ pub record ListsAreJudgedOnce (c : Client) : Type 0 where
   pub errs : (labels : List Label) (fault : TraceFault) → IsErrorTrace c labels → IsTraceFault c labels fault → fault ≡ Memory
   -- there are no two other refusals
   pub once : (labels : List Label) (fault other : TraceFault) → IsTraceFault c labels fault → IsTraceFault c labels other → fault ≢ Memory → other ≢ Memory → fault ≡ other
-  -- there is one of them, or an error trace
+  -- it is not so that there is none of them and no error trace
   pub some : (labels : List Label) → (IsErrorTrace c labels → ⊥) → ((fault : TraceFault) → IsTraceFault c labels fault → fault ≡ Memory) → ⊥
   -- whether each label is a step is decided
   pub steps : (labels : List Label) → IsRun c labels ⊎ ((number : ℕ) × IsFirstNonStep c labels number)
