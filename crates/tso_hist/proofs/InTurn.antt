@@ -3,13 +3,14 @@ use Rattle.std.proofs.Common.{◌≡◌, ◌≢◌, inl, inr, ℕ, zero, suc, �
 use Rattle.std.proofs.Math.Decide.{ℕ_discrete}
 use Rattle.std.proofs.lemmas.Bool.{eq-eqb}
 use Rattle.std.proofs.lemmas.Bool.Decides.{eqb_tells}
-use Rattle.std.proofs.lemmas.List.{length-set, length-replicate}
-use Rattle.tso_hist.specs.Turns.{HistoriesTell, IsInTurn, MayFollow}
-use Rattle.tso_model.specs.Events.{CallOf, Event, ReturnOf, after_event, after_events, call_count, calls_begun, calls_returned, one_if_same, return_count}
+use Rattle.std.proofs.lemmas.List.{append-nil, length-map, length-set, length-replicate}
+use Rattle.tso_hist.specs.Turns.{HistoriesTell, IsInTurn, MayFollow, RunsAreInTurn}
+use Rattle.tso_model.specs.Events.{CallOf, Event, ReturnOf, after_event, after_events, call_count, calls_begun, calls_returned, events_of, one_if_same, return_count}
 use Rattle.tso_model.specs.Histories.{SameCalls}
 use Rattle.tso_model.specs.Programs.{CallKind}
-use Rattle.tso_model.specs.States.{Called, answered, begun_call, calls_in}
+use Rattle.tso_model.specs.States.{Called, answered, begun_call, calls_in, first_history}
 use Rattle.tso_model.proofs.Answered.{events_tell}
+use Rattle.tso_model.proofs.Fits.{first_fits}
 use Rattle.tso_model.proofs.Ordered.{AllFit, Fit, LastClosed, LastOpen, first_empty, in_other, in_same, last_answered, last_begun}
 
 -- all calls of a thread have returned, or all but the last one
@@ -114,3 +115,49 @@ turns_tell n es turn =
 
 pub histories_tell : HistoriesTell
 histories_tell n es h turn is = subst (λ (v : List (List Called)). SameCalls v es) (sym is) (turns_tell n es turn)
+
+-- ---- the events of a run are in turn
+
+-- a thread whose last call is pending has not all of its calls returned
+not_both : (cs : List Called) → LastClosed cs → LastOpen cs → ⊥
+not_both [] closed o = o
+not_both (x ∷ []) (a, e) o = cc
+not_both (x ∷ y ∷ ys) closed o = not_both (y ∷ ys) closed o
+
+when_closed : (cs : List Called) (n m : ℕ) → Turn cs n m → LastClosed cs → n ≡ m
+when_closed cs n m (idle c e) closed = e
+when_closed cs n m (busy o e) closed = absurd (not_both cs closed o)
+
+when_open : (cs : List Called) (n m : ℕ) → Turn cs n m → LastOpen cs → n ≡ m + 1
+when_open cs n m (idle c e) o = absurd (not_both cs c o)
+when_open cs n m (busy b e) o = omega (arith, e)
+
+follows : (n : ℕ) (past : List Event) (h : List (List Called)) (e : Event) → Stands n past h → Fit h e → MayFollow n past e
+follows n past h (CallOf t k) s fit = (omega (arith, s.threads, fit.0), when_closed _ _ _ (s.turns t) fit.1)
+follows n past h (ReturnOf t a) s fit = (omega (arith, s.threads, fit.0), when_open _ _ _ (s.turns t) fit.1)
+
+-- what fits the history behind some events follows them in turn
+each_follows : (n : ℕ) (past es : List Event) (h : List (List Called)) → Stands n past h → AllFit h es → (mid : List Event) (e : Event) (later : List Event) → es ≡ mid ++ e ∷ later → MayFollow n (past ++ mid) e
+each_follows n past [] h s fit [] e later split = cc
+each_follows n past [] h s fit (y ∷ mid) e later split = cc
+each_follows n past (x ∷ es) h s fit [] e later split =
+    let same : x ≡ e = cc in
+    let Q : Event → Type 0 = λ v. MayFollow n (past ++ []) v in
+    let R : List Event → Type 0 = λ l. MayFollow n l x in
+    subst Q same (subst R (sym (append-nil past)) (follows n past h x s fit.0))
+each_follows n past (x ∷ es) h s fit (y ∷ mid) e later split =
+    let same : x ≡ y = cc in
+    let rest : es ≡ mid ++ e ∷ later = cc in
+    let may = follows n past h x s fit.0 in
+    let there = each_follows n (past ++ x ∷ []) es (after_event h x) (stands n past h x s may) fit.1 mid e later rest in
+    let Q : List Event → Type 0 = λ l. MayFollow n l e in
+    let R : Event → Type 0 = λ v. MayFollow n (past ++ v ∷ mid) e in
+    subst R same (subst Q (append_assoc past (x ∷ []) mid) there)
+
+pub runs_are_in_turn : (F : Type 0) → RunsAreInTurn F
+runs_are_in_turn F P memory labels m run =
+    let start : Stands (length P.calls) [] (first_history P) = record {
+      threads = length-map P.calls _;
+      turns = λ t. rw (first_empty P.calls t) (idle tt refl);
+    } in
+    λ past e later split. each_follows (length P.calls) [] (events_of labels) (first_history P) start (first_fits P memory labels m run) past e later split

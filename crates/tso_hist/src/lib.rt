@@ -10,4 +10,4 @@ mod tests;
 
 pub use call::Call;
 pub use history::History;
-pub use laws::histories_tell;
+pub use laws::{histories_tell, runs_are_in_turn};

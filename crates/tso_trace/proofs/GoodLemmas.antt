@@ -1,5 +1,5 @@
 -- When a run is good.
-use Rattle.std.proofs.Common.{◌≡◌, ◌∙◌, ℕ, Bool, true, false, ◌||◌, Option, Some, None, IfSome, IfNone, List, [], ◌∷◌, map, refl, sym, ap, subst, inl, inr, ◌↔◌, cond}
+use Rattle.std.proofs.Common.{◌≡◌, ◌∙◌, ℕ, Bool, true, false, ◌||◌, Option, Some, None, IfSome, IfNone, List, [], ◌∷◌, map, refl, sym, ap, subst, inl, inr, ◌↔◌, cond, arith, length}
 use Rattle.std.proofs.lemmas.Bool.{false≢true}
 use Rattle.std.proofs.lemmas.Option.{none-some}
 use Rattle.std.specs.List.{find}
@@ -15,6 +15,7 @@ use Rattle.tso_machine.specs.declared.label.LabelKind.TheVariants as kinds
 use Rattle.tso_model.proofs.Theorems.{orders_are_linearizations}
 use Rattle.tso_model.specs.Faults.{HasFaultOf, IsFaultOf}
 use Rattle.tso_model.specs.Events.{events_of}
+use Rattle.tso_model.specs.Labels.{first_machine}
 use Rattle.tso_model.specs.Linear.{IsLinearizable, IsLinearization, IsOrder, Placed}
 use Rattle.tso_model.specs.Objects.{Object, Queue}
 use Rattle.tso_prog.specs.Views.{mode_view}
@@ -141,3 +142,27 @@ no_thread (l ∷ ls) e = first_is l ls (is_fault l.kind) refl e (no_thread ls)
 -- then its calls have no linearization
 pub errs_unordered : (c : Client) (ls : List Label) → IsErrorTrace c ls → first_fault ls ≡ None → IsLinearizable (queue_of c) (events_of (map label_of ls)) → ⊥
 errs_unordered c ls erring e linearizable = erring.errs (no_fault ls (no_thread ls e), linearizable)
+
+-- a run without a label is good
+nothing_is_good : (c : Client) → IsRun c [] × IsGoodRun c []
+nothing_is_good c = (
+  record { machine = first_machine (program_of c) (first_memory c.arrays); leads = record { run = refl } },
+  (
+    λ i f. f,
+    (
+      [],
+      record {
+        once = tt;
+        begun = λ o h. absurd h;
+        own_answers = λ o a h e. absurd h;
+        complete = λ thread number a e. absurd (none-some a e);
+        in_order = tt;
+        allowed = ([], refl);
+      },
+    ),
+  ),
+)
+
+pub empty_is_good : (c : Client) (labels : List Label) → length labels ≡ 0 → IsRun c labels × IsGoodRun c labels
+empty_is_good c [] none = nothing_is_good c
+empty_is_good c (l ∷ labels) none = absurd (omega arith)

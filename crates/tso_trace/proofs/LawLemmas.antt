@@ -9,12 +9,18 @@ use Rattle.tso_machine.specs.Machines.{label_of, machine_of}
 use Rattle.tso_machine.specs.Places.{first_memory}
 use Rattle.tso_machine.specs.Programs.{program_of}
 use Rattle.tso_machine.specs.declared.label.Label.{Label}
+use Rattle.tso_hist.proofs.InTurn.{histories_tell, runs_are_in_turn}
+use Rattle.tso_line.specs.declared.instruction.Mode.{Mode}
+use Rattle.tso_machine.specs.Programs.{calls_of}
+use Rattle.tso_model.specs.Events.{events_of}
 use Rattle.tso_model.specs.Labels.{Machine, Run, first_machine}
+use Rattle.tso_model.specs.Objects.{Queue}
+use Rattle.tso_prog.specs.Views.{mode_view}
 use Rattle.tso_model.specs.Programs.{Program}
 use Rattle.tso_trace.specs.declared.fault.TraceFault.{TraceFault}
 use Rattle.tso_trace.specs.declared.fault.TraceFault.TheVariants.{NotAStep, NoError, Grammar, Memory}
 use Rattle.tso_trace.specs.Grammar.{ended, header, is_proper, line_text, lines_text, GoesWrong, HasHeader, HasLine, IsFirstBadLine, IsTextOf}
-use Rattle.tso_trace.specs.Laws.{AreTextsUnique, BackIsInverse, LinesAreUnique, PlacesShowOneState, ReadsBack}
+use Rattle.tso_trace.specs.Laws.{AreTextsUnique, BackIsInverse, LinesAreUnique, PlacesShowOneState, QueueIsTheClients, ReadsBack, RunsAreTold}
 use Rattle.tso_trace.specs.Runs.{IsErrorTrace, IsTraceFault, LeadsTo}
 use Rattle.tso_trace.proofs.EndLemmas.{goes_on, same_machine}
 use Rattle.tso_trace.proofs.SameLemmas.{same_label}
@@ -97,7 +103,7 @@ module _ (c : Client) where
 
   -- ---- printed and read
 
-  no_fault : (labels : List Label) (fault : TraceFault) → IsErrorTrace c labels → IsTraceFault c labels fault → fault ≡ Memory
+  pub no_fault : (labels : List Label) (fault : TraceFault) → IsErrorTrace c labels → IsTraceFault c labels fault → fault ≡ Memory
   no_fault labels (NotAStep number) erring is =
       absurd (goes_on (program_of c) (first_machine (program_of c) (first_memory c.arrays)) labels is.position is.label erring.run.machine is.machine erring.run.leads.run is.leads.run is.there is.none)
   no_fault labels NoError erring is = absurd (erring.errs is.1)
@@ -135,3 +141,20 @@ places_show_one_state s t at at' client labels position =
 pub back_is_inverse : BackIsInverse
 back_is_inverse before there back at at' c ls c' ls' moved moved' =
     places_show_one_state back before at' at (c' ∙ c) (ls' ∙ ls) (omega (arith, moved, moved'))
+
+-- ---- the queue, and what histories say
+
+pub queue_is_the_clients : (c : Client) → QueueIsTheClients c
+queue_is_the_clients c = record {
+  strict = λ e. ap (λ (m : Mode). Queue (mode_view m) c.capacity) e;
+  weak = λ e. ap (λ (m : Mode). Queue (mode_view m) c.capacity) e;
+  lines = λ lines mode capacity parts m n.
+      let same : c.mode ≡ mode = (let e = sym parts.mode ∙ m in cc) in
+      let many : c.capacity ≡ capacity = (let e = sym parts.capacity ∙ n in cc) in
+      ap (λ (x : Mode). Queue (mode_view x) c.capacity) same ∙ ap (Queue (mode_view mode)) many;
+}
+
+pub runs_are_told : (c : Client) → RunsAreTold c
+runs_are_told c labels m run =
+    let turns = runs_are_in_turn Activation (program_of c) (first_memory c.arrays) labels m run in
+    record { turns = turns; tells = λ h is. histories_tell (length (calls_of c)) (events_of labels) h turns is }

@@ -4,12 +4,14 @@ pub mod EndLemmas
 pub mod GoodLemmas
 pub mod HistoryLemmas
 pub mod InsideLemmas
+pub mod JudgedLemmas
 pub mod KindLemmas
 pub mod LawLemmas
 pub mod LineLemmas
 pub mod NameLemmas
 pub mod Numbers
 pub mod PrintLemmas
+pub mod ReadLemmas
 pub mod RunLemmas
 pub mod SameLemmas
 pub mod TextLemmas

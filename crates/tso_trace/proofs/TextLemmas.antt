@@ -1,9 +1,7 @@
 -- The lines of a trace's text.
 use Rattle.std.proofs.Common.{◌≡◌, ◌∙◌, ℕ, true, List, [], ◌∷◌, ◌++◌, codes, decimal, sym, ap, refl}
-use Rattle.std.specs.List.{list_all}
-use Rattle.std.proofs.lemmas.Bool.{and_parts, and_from, ltb-true}
-use Rattle.std.proofs.lemmas.List.{append_assoc, flat_map_more}
-use Rattle.std.proofs.lemmas.List.Folds.{list_all-append}
+use Rattle.std.proofs.lemmas.Bool.{and_parts, ltb-true}
+use Rattle.std.proofs.lemmas.List.{append_assoc}
 use Rattle.tso_line.specs.declared.instruction.CallKind.TheVariants as calls
 use Rattle.tso_prog.specs.declared.answer.Answer.TheVariants as answers
 use Rattle.tso_prog.specs.declared.client.Client.{Client}
@@ -11,7 +9,7 @@ use Rattle.tso_machine.specs.declared.action.FaultKind.TheVariants as faults
 use Rattle.tso_machine.specs.declared.label.Label.{Label}
 use Rattle.tso_machine.specs.declared.label.LabelKind.{LabelKind}
 use Rattle.tso_machine.specs.declared.label.LabelKind.TheVariants as kinds
-use Rattle.tso_trace.specs.Grammar.{access_text, ended, header, is_access, is_proper, is_proper_kind, kind_text, line_text, named_cell, trace_text}
+use Rattle.tso_trace.specs.Grammar.{access_text, ended, header, is_access, is_proper, is_proper_kind, kind_text, line_text, named_cell}
 use Rattle.tso_trace.specs.Parts.{lacks}
 use Rattle.tso_trace.proofs.AccessLemmas.{access_of}
 use Rattle.tso_trace.proofs.LineLemmas.{decimal_lacks, lacks-append, same_cut}

@@ -149,16 +149,21 @@ abbrev pub IsFirstBadLine : List Array → List ℕ → ℕ → Type 0
 IsFirstBadLine arrays text number =
     ((number ≡ 1) × (HasHeader text → ⊥)) ⊎ ((labels : List Label) × (number ≡ length labels + 2) × GoesWrong arrays text labels)
 
--- why the labels of a text are not told
+-- the text spells a list of labels that is not empty
+abbrev pub SpellsLabels : List Array → List ℕ → Type 0
+SpellsLabels arrays text = (labels : List Label) × IsTextOf arrays text labels × (labels ≢ [])
+
+-- why the labels of a text are not told: memory is wanting for those of a text of the grammar alone
 abbrev pub IsTextFault : List Array → List ℕ → TraceFault → Type 0
 IsTextFault arrays text (Grammar line) = IsFirstBadLine arrays text line
-IsTextFault arrays text Memory = Unit {0}
+IsTextFault arrays text Memory = SpellsLabels arrays text
 IsTextFault arrays text (NotAStep number) = ⊥
 IsTextFault arrays text NoError = ⊥
 
--- why a text is refused as a trace: a line is not of the grammar, or else its labels are no trace
+-- why a text is refused as a trace: a line is not of the grammar, or else its labels are no trace. Memory is wanting for
+-- labels alone
 abbrev pub IsReadFault : Client → List ℕ → TraceFault → Type 0
 IsReadFault c text (Grammar line) = IsFirstBadLine c.arrays text line
-IsReadFault c text Memory = Unit {0}
+IsReadFault c text Memory = SpellsLabels c.arrays text
 IsReadFault c text (NotAStep number) = (labels : List Label) × IsTextOf c.arrays text labels × IsTraceFault c labels (NotAStep number)
 IsReadFault c text NoError = (labels : List Label) × IsTextOf c.arrays text labels × IsTraceFault c labels NoError

@@ -1,14 +1,31 @@
--- What the grammar of traces and the steps of a cursor mean.
-use Rattle.std.specs.Prelude.{◌≡◌, ◌+◌, ℕ, pos, List, Some, slice_get}
+-- What the grammar of traces and the steps of a cursor mean, what queue runs are held against, and what histories say of runs.
+use Rattle.std.specs.Prelude.{◌≡◌, ◌+◌, ℕ, pos, List, [], ◌∷◌, length, Some, slice_get}
+use Rattle.std.specs.List.{flat_map}
+use Rattle.tso_line.specs.declared.instruction.Mode.{Mode}
+use Rattle.tso_line.specs.declared.instruction.Mode.TheVariants as modes
+use Rattle.tso_hist.specs.declared.call.Call.{Call}
+use Rattle.tso_hist.specs.Turns.{IsHistoryOf, IsInTurn}
+use Rattle.tso_hist.specs.Views.{history_view}
+use Rattle.tso_model.specs.Events.{events_of}
+use Rattle.tso_model.specs.Histories.{SameCalls}
+use Rattle.tso_model.specs.Labels as model
+use Rattle.tso_model.specs.Objects as objects
+use Rattle.tso_prog.specs.Client.{client}
+use Rattle.tso_prog.specs.Parts.{HasParts, capacity_in, mode_in}
+use Rattle.tso_prog.specs.Program.{Numbered}
+use Rattle.tso_prog.specs.Views.{mode_view}
 use Rattle.tso_prog.specs.declared.client.Array.{Array}
 use Rattle.tso_prog.specs.declared.client.Client.{Client}
 use Rattle.tso_machine.specs.Places.{place_of}
+use Rattle.tso_machine.specs.Activations.{Activation}
+use Rattle.tso_machine.specs.Laws.{IsRunOf}
 use Rattle.tso_machine.specs.Machines.{machine_of}
+use Rattle.tso_machine.specs.Programs.{calls_of}
 use Rattle.tso_machine.specs.declared.label.Label.{Label}
 use Rattle.tso_trace.specs.declared.fault.TraceFault.{TraceFault}
 use Rattle.tso_trace.specs.declared.fault.TraceFault.TheVariants.{Memory}
 use Rattle.tso_trace.specs.Grammar.{cell_text, named_cell, IsFirstBadLine, IsLineOf, IsReadFault, IsTextOf}
-use Rattle.tso_trace.specs.Runs.{IsErrorTrace}
+use Rattle.tso_trace.specs.Runs.{IsErrorTrace, queue_of}
 use Rattle.tso_trace.specs.Walks.{Shown, StandsAt}
 
 -- a line spells one label at most
@@ -40,3 +57,21 @@ abbrev pub BackIsInverse : Type 0
 BackIsInverse =
     (before there back : Shown) → StandsAt before → StandsAt back → there.client ≡ before.client → there.labels ≡ before.labels → back.client ≡ there.client → back.labels ≡ there.labels
     → there.position ≡ before.position + 1 → back.position + 1 ≡ there.position → machine_of back.machine ≡ machine_of before.machine
+
+-- the queue that a client's calls are held against has its mode and its capacity: those of the two lines where the client
+-- is of the lines of a text
+pub record QueueIsTheClients (c : Client) : Type 0 where
+  pub strict : c.mode ≡ modes.Strict → queue_of c ≡ objects.Queue objects.Strict c.capacity
+  pub weak : c.mode ≡ modes.Weak → queue_of c ≡ objects.Queue objects.Weak c.capacity
+  pub lines : (lines : List Numbered) (mode : Mode) (capacity : ℕ) → HasParts lines (client c) → flat_map (λ l. mode_in l.line) lines ≡ mode ∷ [] → flat_map (λ l. capacity_in l.line) lines ≡ capacity ∷ []
+      → queue_of c ≡ objects.Queue (mode_view mode) capacity
+
+-- each thread calls and returns in turn, and the history that on_call and on_return make of the events says of kinds,
+-- answers and "before" what they say
+pub record IsTold (c : Client) (labels : List model.Label) : Type 0 where
+  pub turns : IsInTurn (length (calls_of c)) (events_of labels)
+  pub tells : (h : List (List Call)) → IsHistoryOf (length (calls_of c)) (events_of labels) h → SameCalls (history_view h) (events_of labels)
+
+-- so in each run of the client's machine
+abbrev pub RunsAreTold : Client → Type 0
+RunsAreTold c = (labels : List model.Label) (m : model.Machine Activation) → IsRunOf c labels m → IsTold c labels

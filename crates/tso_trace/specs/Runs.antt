@@ -1,5 +1,5 @@
 -- Runs of a client's labels (Sewell and others 2010), and which of them are good (Herlihy and Wing 1990).
-use Rattle.std.specs.Prelude.{◌≡◌, ℕ, ◌+◌, Bool, false, true, List, map, take, Option, Some, None, slice_get}
+use Rattle.std.specs.Prelude.{◌≡◌, ◌≢◌, ℕ, ◌+◌, Bool, false, true, List, [], map, take, Option, Some, None, slice_get}
 use Rattle.std.specs.List.{find, list_any}
 use Rattle.std.specs.Option.{option_map}
 use Rattle.tso_prog.specs.declared.client.Client.{Client}
@@ -69,9 +69,9 @@ pub record IsErrorTrace (c : Client) (labels : List Label) : Type 0 where
   pub run : IsRun c labels
   pub errs : IsGoodRun c labels → ⊥
 
--- why a list of labels is refused as a trace
+-- why a list of labels is refused as a trace. Memory is wanting where there is a label
 abbrev pub IsTraceFault : Client → List Label → TraceFault → Type 0
 IsTraceFault c labels (NotAStep number) = IsFirstNonStep c labels number
 IsTraceFault c labels NoError = IsRun c labels × IsGoodRun c labels
 IsTraceFault c labels (Grammar line) = ⊥
-IsTraceFault c labels Memory = Unit {0}
+IsTraceFault c labels Memory = labels ≢ []

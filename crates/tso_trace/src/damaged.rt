@@ -289,20 +289,27 @@ fn each_kind_is_spelled(rt: HostRuntime) -> Result<(), Fail> {
     Ok(())
 }
 
-// A writer that has room for so many bytes.
-struct Small {
+// A writer that takes so many bytes, then fails once, and takes all that comes behind.
+#[derive(Drop)]
+struct FailsOnce {
     room: usize,
+    failed: bool,
     bytes: Vec<u8>,
 }
 
-impl Write for Small {
+impl Write for FailsOnce {
     fn write(&mut self, buf: &[u8]) -> io::Result<usize> {
-        let len = buf.len().min(self.room);
+        let len = if self.failed {
+            buf.len()
+        } else {
+            buf.len().min(self.room)
+        };
         if len == 0 {
+            self.failed = true;
             return Err(Error::from(ErrorKind::StorageFull));
         }
         self.bytes.extend_from_slice(&buf[..len])?;
-        self.room -= len;
+        self.room = self.room.saturating_sub(len);
         Ok(len)
     }
 
@@ -317,16 +324,16 @@ fn a_beginning_goes_out(rt: HostRuntime) -> Result<(), Fail> {
     let checked = checked_program(alloc)?;
     let trace = Trace::read(alloc, &checked, TRACE.as_bytes())?;
     for room in 0..TRACE.len() {
-        let mut out = Small {
+        let mut out = FailsOnce {
             room,
+            failed: false,
             bytes: Vec::new(alloc),
         };
-        assert!(rt; trace.print(alloc, &mut out).is_err());
+        assert!(rt; trace.print(&mut out).is_err());
         assert_eq!(rt; out.bytes.as_slice(), &TRACE.as_bytes()[..room]);
-        let Small { room: _, bytes: _ } = out;
     }
     let mut out = Vec::new(alloc);
-    trace.print(alloc, &mut out)?;
+    trace.print(&mut out)?;
     assert_eq!(rt; out.as_slice(), TRACE.as_bytes());
     Ok(())
 }

@@ -1,6 +1,7 @@
-//! What the text of traces and the steps of a cursor mean. These functions do nothing when they run.
+//! What the text of traces, their refusals and the steps of a cursor mean. These functions do nothing when they run.
 
-ghost use Rattle.tso_trace.specs.Laws.{AreTextsUnique, BackIsInverse, CellsAreNamed, LinesAreUnique, PlacesShowOneState, ReadsBack};
+ghost use Rattle.tso_trace.specs.Judged.{ListsAreJudgedOnce, TextsAreJudgedOnce};
+ghost use Rattle.tso_trace.specs.Laws.{AreTextsUnique, BackIsInverse, CellsAreNamed, LinesAreUnique, PlacesShowOneState, QueueIsTheClients, ReadsBack, RunsAreTold};
 
 use tso_prog::Client;
 
@@ -32,4 +33,26 @@ pub fn places_show_one_state()
 /// A step of a cursor forwards and then one back show the state before.
 pub fn back_is_inverse()
     ensures { BackIsInverse }
+{}
+
+/// A list of labels is an error trace, or is refused as no step, with one number, or is refused as good, and no two of these.
+pub fn lists_are_judged_once(client: &Client)
+    ensures { ListsAreJudgedOnce client.now }
+{}
+
+/// A text spells an error trace, or is refused at its earliest bad line, or else its labels are refused as no step, with one
+/// number, or as good, and no two of these.
+pub fn texts_are_judged_once(client: &Client)
+    ensures { TextsAreJudgedOnce client.now }
+{}
+
+/// Runs are held against the bounded queue of the client's own mode and capacity.
+pub fn queue_is_the_clients(client: &Client)
+    ensures { QueueIsTheClients client.now }
+{}
+
+/// In each run of the client's machine the threads call and return in turn, and the history that `History::on_call` and
+/// `History::on_return` make of the run says what the run says: `History::precedes` too, of which call is before which.
+pub fn runs_are_told(client: &Client)
+    ensures { RunsAreTold client.now }
 {}

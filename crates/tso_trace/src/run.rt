@@ -1,6 +1,6 @@
 //! Runs of labels.
 
-ghost use Rattle.std.specs.Prelude.{◌≡◌, OnOk, IfErr};
+ghost use Rattle.std.specs.Prelude.{◌≡◌, ◌≢◌, [], OnOk, IfErr};
 ghost use Rattle.tso_trace.specs.Runs.{first_fault, has_fault, is_fault, IsRun, IsTraceFault};
 
 use crate::fault::TraceFault;
@@ -12,6 +12,7 @@ use tso_machine::{ApplyError, Label, LabelKind, apply, initial};
 ///
 /// Errors: `NotAStep` with the first label that is no step; `Memory`.
 pub fn take_steps(alloc: Global, checked: &Checked, labels: &[Label]) -> Result<(), TraceFault>
+    requires { labels.now ≢ [] }
     ensures run { OnOk result (IsRun checked.now.client labels.now) }
     ensures refused { IfErr result (IsTraceFault checked.now.client labels.now) }
 {

@@ -1,11 +1,12 @@
 //! Labels as lines of text.
 
-ghost use Rattle.std.specs.Prelude.{◌≡◌, ◌++◌, string_bytes, codes, IfOk, IsTrue, OnOk};
+ghost use Rattle.std.specs.Prelude.{◌≡◌, ◌++◌, string_bytes, codes, IfOk, IsTrue, OnErr, OnOk};
 ghost use Rattle.std.specs.Io.KnownBytes.{Appends};
 ghost use Rattle.std.specs.List.{list_all};
 ghost use Rattle.tso_prog.specs.Limits.{is_short_name};
 ghost use Rattle.tso_trace.specs.Grammar.{access_text, answer_text, call_text, cell_text, fault_text, kind_text, line_text, lines_text};
 ghost use Rattle.tso_trace.specs.Parts.{has_words};
+ghost use Rattle.tso_write.specs.Beginnings.{AppendsBeginning};
 
 use crate::cell::cell_of;
 use std::alloc::{AllocError, Global};
@@ -13,6 +14,7 @@ use std::io;
 use std::io::Write;
 use tso_machine::{FaultKind, Label, LabelKind};
 use tso_prog::{Answer, Array, CallKind};
+use tso_write::write_bytes;
 
 // Adds the name of an array, whose bytes are ASCII.
 fn push_name(text: &mut String, name: &[u8]) -> Result<(), AllocError>
@@ -125,7 +127,7 @@ pub fn line_of(alloc: Global, arrays: &[Array], label: Label) -> Result<String, 
     Ok(text)
 }
 
-/// Writes the line of each label, with its newline. After an error a beginning of them may have gone out.
+/// Writes the line of each label, with its newline. After an error a beginning of them has gone out, and nothing else.
 pub fn print_lines<W: Write>(
     alloc: Global,
     out: &mut W,
@@ -135,11 +137,12 @@ pub fn print_lines<W: Write>(
     requires { IsTrue (list_all (λ a. is_short_name a.name) arrays.now) }
     ensures words { OnOk result (IsTrue (list_all has_words labels.now)) }
     ensures text { OnOk result (Appends (W.contents out.old) (W.contents out.new) (lines_text arrays.now labels.now)) }
+    ensures beginning { OnErr result (AppendsBeginning (W.contents out.old) (W.contents out.new) (lines_text arrays.now labels.now)) }
 {
     for label in labels {
         let line = line_of(alloc, arrays, *label)?;
-        out.write_all(line.as_bytes())?;
-        out.write_all(b"\n")?;
+        write_bytes(out, line.as_bytes())?;
+        write_bytes(out, b"\n")?;
     }
     Ok(())
 }

@@ -1,10 +1,12 @@
 //! Traces as texts, and walks along them.
 
 use super::*;
-use std::alloc::Global;
+use std::alloc::{AllocError, Global};
 use std::process::Abort;
 use std::test::Fail;
 use tso_flow::Checked;
+use tso_machine::{FaultKind, Label, LabelKind};
+use tso_prog::CallKind;
 
 const EXCHANGE: &str = ".capacity 1
 .mode weak
@@ -118,10 +120,65 @@ fn texts_are_read_back(rt: HostRuntime) -> Result<(), Fail> {
         assert_eq!(rt; trace.labels.len(), labels);
         assert!(rt; matches!(trace.violation(), Violation::Fault(0)));
         let mut printed = Vec::new(alloc);
-        trace.print(alloc, &mut printed)?;
+        trace.print(&mut printed)?;
         assert_eq!(rt; printed.as_slice(), text.as_bytes());
         walks(&rt, alloc, &trace)?;
     }
+    Ok(())
+}
+
+// The first labels of the trace in which a thread reads its own store.
+fn own_store_labels(alloc: Global, count: usize) -> Result<Vec<Label>, AllocError> {
+    let labels = [
+        (0, LabelKind::Call(CallKind::Push(7))),
+        (0, LabelKind::Write { place: 0, word: 5 }),
+        (1, LabelKind::Call(CallKind::Pop)),
+        (1, LabelKind::Read { place: 0, word: 0 }),
+        (0, LabelKind::Read { place: 0, word: 5 }),
+        (0, LabelKind::Reg),
+        (0, LabelKind::Fault(FaultKind::FalseAssertion)),
+    ];
+    let mut first = Vec::new(alloc);
+    for (thread, kind) in labels.iter().take(count) {
+        first.push(Label {
+            thread: *thread,
+            kind: *kind,
+        })?;
+    }
+    Ok(first)
+}
+
+#[test]
+fn labels_are_judged(rt: HostRuntime) -> Result<(), Fail> {
+    let alloc = rt.alloc();
+    let checked = checked_of(alloc, OWN_STORE)?;
+    for count in 0..7usize {
+        let refusal = Trace::from_labels(alloc, &checked, own_store_labels(alloc, count)?).err();
+        assert_eq!(rt; refusal, Some(TraceFault::NoError));
+    }
+    let trace = Trace::from_labels(alloc, &checked, own_store_labels(alloc, 7)?)?;
+    assert!(rt; trace.labels.as_slice() == own_store_labels(alloc, 7)?.as_slice());
+    assert_eq!(rt; trace.line(4)?.as_str(), "1 read n[0] = 0");
+    let mut labels = own_store_labels(alloc, 3)?;
+    labels.push(Label {
+        thread: 1,
+        kind: LabelKind::Read { place: 0, word: 5 },
+    })?;
+    let refusal = Trace::from_labels(alloc, &checked, labels).err();
+    assert_eq!(rt; refusal, Some(TraceFault::NotAStep { label: 4 }));
+    Ok(())
+}
+
+#[test]
+fn bad_lines_are_numbered(rt: HostRuntime) -> Result<(), Fail> {
+    let alloc = rt.alloc();
+    let checked = checked_of(alloc, OWN_STORE)?;
+    assert_eq!(rt; bad_line(&checked.client, OWN_STORE_TRACE.as_bytes()), None);
+    assert_eq!(rt; bad_line(&checked.client, b"tso-trace 2\n"), Some(1));
+    assert_eq!(rt;
+        bad_line(&checked.client, b"tso-trace 1\n0 reg\n0 rag\n"),
+        Some(3)
+    );
     Ok(())
 }
 

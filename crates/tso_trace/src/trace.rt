@@ -1,6 +1,6 @@
 //! Traces.
 
-ghost use Rattle.std.specs.Prelude.{◌≡◌, ◌<◌, ◌≤◌, ◌-◌, length, map, slice_get, string_bytes, IfOk, IfErr, IfSome, IsTrue, OnOk};
+ghost use Rattle.std.specs.Prelude.{◌≡◌, ◌<◌, ◌≤◌, ◌-◌, length, map, slice_get, string_bytes, IfOk, IfErr, IfSome, IsTrue, OnErr, OnOk};
 ghost use Rattle.std.specs.List.{list_all};
 ghost use Rattle.std.specs.Io.KnownBytes.{Appends};
 ghost use Rattle.tso_trace.specs.Grammar.{is_proper, line_text, trace_text, IsReadFault, IsTextOf};
@@ -9,6 +9,7 @@ ghost use Rattle.tso_model.specs.Events.{events_of};
 ghost use Rattle.tso_model.specs.Linear.{IsLinearizable};
 ghost use Rattle.tso_trace.specs.Runs.{first_fault, queue_of, violation_of, IsErrorTrace, IsTraceFault};
 ghost use Rattle.tso_trace.specs.declared.trace.Violation.TheVariants.{NoOrder};
+ghost use Rattle.tso_write.specs.Beginnings.{AppendsBeginning};
 
 use crate::fault::TraceFault;
 use crate::good::is_good;
@@ -21,6 +22,7 @@ use std::io::Write;
 use tso_flow::Checked;
 use tso_list::Seq;
 use tso_machine::Label;
+use tso_write::write_bytes;
 
 /// What is wrong with a run.
 #[derive(Clone, Copy, Debug, PartialEq, Eq)]
@@ -43,7 +45,8 @@ pub struct Trace {
 impl Trace {
     /// The trace of these labels.
     ///
-    /// Errors: `NotAStep` with the first label that is no step; `NoError` where all are steps and the run is good; `Memory`.
+    /// Errors: `NotAStep` with the first label that is no step; `NoError` where all are steps and the run is good; `Memory`,
+    /// which an empty list does not meet.
     pub fn from_labels(
         alloc: Global,
         checked: &Checked,
@@ -53,6 +56,9 @@ impl Trace {
         ensures erring { IfOk result (λ t. ∥ IsErrorTrace checked.now.client t.labels ∥₁) }
         ensures refused { IfErr result (IsTraceFault checked.now.client labels.items) }
     {
+        if labels.is_empty() {
+            return Err(TraceFault::NoError);
+        }
         take_steps(alloc, checked, &labels)?;
         if is_good(alloc, &checked.client, &labels)? {
             return Err(TraceFault::NoError);
@@ -65,7 +71,8 @@ impl Trace {
 
     /// The trace of a text.
     ///
-    /// Errors: `Grammar` at the earliest line that is not of the grammar, before all others; then as `from_labels`.
+    /// Errors: `Grammar` at the earliest line that is not of the grammar, before all others, `Memory` too; then as
+    /// `from_labels`.
     pub fn read(alloc: Global, checked: &Checked, text: &[u8]) -> Result<Trace, TraceFault>
         ensures client { IfOk result (λ t. t.checked.client ≡ checked.now.client) }
         ensures labels { IfOk result (λ t. IsTextOf checked.now.client.arrays text.now t.labels) }
@@ -77,26 +84,30 @@ impl Trace {
     }
 
     /// The line of label `number`, from 1, without its newline.
-    pub fn line(&self, alloc: Global, number: usize) -> Result<String, AllocError>
+    pub fn line(&self, number: usize) -> Result<String, AllocError>
         requires above { 0 < number }
         requires there { number ≤ length self.now.labels }
         ensures { IfOk result (λ line. IfSome (slice_get self.now.labels (number - 1)) (λ l. string_bytes line ≡ line_text self.now.checked.client.arrays l)) }
     {
         line_of(
-            alloc,
+            self.labels.allocator(),
             self.checked.client.arrays.as_slice(),
             self.labels.as_slice()[number - 1],
         )
     }
 
-    /// Writes the text of the trace. After an error a beginning of it may have gone out.
-    pub fn print<W: Write>(&self, alloc: Global, out: &mut W) -> io::Result<()>
+    /// Writes the text of the trace.
+    ///
+    /// Errors: the first failure of a write, and where a growth was refused. A beginning of the text has gone out then,
+    /// perhaps nothing of it, and nothing else.
+    pub fn print<W: Write>(&self, out: &mut W) -> io::Result<()>
         ensures proper { OnOk result (IsTrue (list_all (is_proper self.now.checked.client.arrays) self.now.labels)) }
         ensures text { OnOk result (Appends (W.contents out.old) (W.contents out.new) (trace_text self.now.checked.client.arrays self.now.labels)) }
+        ensures beginning { OnErr result (AppendsBeginning (W.contents out.old) (W.contents out.new) (trace_text self.now.checked.client.arrays self.now.labels)) }
     {
-        out.write_all(HEADER)?;
+        write_bytes(out, HEADER)?;
         print_lines(
-            alloc,
+            self.labels.allocator(),
             out,
             self.checked.client.arrays.as_slice(),
             self.labels.as_slice(),

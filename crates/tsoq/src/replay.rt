@@ -26,7 +26,7 @@ fn put_labels<W: Write>(
     to: usize,
 ) -> Result<(), Failure> {
     for number in 1..=to.min(trace.labels.len()) {
-        let line = trace.line(alloc, number)?;
+        let line = trace.line(number)?;
         put_line(out, format!(in alloc; "{number:>6} {line}")?.as_str())?;
     }
     Ok(())

@@ -1,0 +1,5 @@
+use Rattle.tso_trace.proofs.JudgedLemmas as lemmas
+use Rattle.tso_trace.proofs.laws.lists_are_judged_once.Goals as goal
+
+pub returns : goal.returns
+returns c = lemmas.lists_are_judged_once c.args.client.now
