@@ -1,5 +1,6 @@
 pub mod CallLists
 pub mod Counts
+pub mod Cuts
 pub mod Edges
 pub mod Fine
 pub mod FirstThreads

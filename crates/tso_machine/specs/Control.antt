@@ -1,10 +1,12 @@
 -- Where control goes in a running call: along the paths of its procedure.
-use Rattle.std.specs.Prelude.{◌≡◌, ℕ, ◌<◌, length, Option, None, Some, slice_get, IsTrue}
+use Rattle.std.specs.Prelude.{◌≡◌, ℕ, ◌<◌, ◌≤◌, length, take, Option, None, Some, slice_get, IsTrue}
+use Rattle.tso_word.specs.declared.Condition.{Condition}
 use Rattle.tso_line.specs.declared.instruction.Instruction.{Instruction}
+use Rattle.tso_line.specs.declared.instruction.Instruction.TheVariants.{Jump}
 use Rattle.tso_prog.specs.declared.client.Client.{Client}
 use Rattle.tso_flow.specs.Paths.{is_edge, Reaches}
 use Rattle.tso_machine.specs.Activations.{Activation}
-use Rattle.tso_machine.specs.Instructions.{instructions_of}
+use Rattle.tso_machine.specs.Instructions.{back_jumps, instructions_of, is_taken}
 use Rattle.tso_model.specs.Labels.{Machine, Running, Stage, Thread}
 use Rattle.tso_model.specs.Programs.{Action, Silent, Load, Store, Barrier, Locked, Ret, Fail, Cut}
 
@@ -32,6 +34,16 @@ pub record IsNext (c : Client) (a b : Activation) : Type 0 where
 pub record IsOnPath (c : Client) (a : Activation) : Type 0 where
   pub reached : Reaches None (instructions_of c a.procedure) a.frame.pc
   pub inside : a.frame.pc < length (instructions_of c a.procedure)
+
+-- the next instruction is a jump back that is to be taken, and it was taken as often as its bound allows
+pub record IsAtBound (c : Client) (a : Activation) : Type 0 where
+  pub condition : Option Condition
+  pub target : ℕ
+  pub bound : ℕ
+  pub jump : instruction_at c a ≡ Some (Jump condition target (Some bound))
+  pub back : target ≤ a.frame.pc
+  pub taken : IsTrue (is_taken condition a.frame.flags)
+  pub count : slice_get a.frame.taken (back_jumps 0 (take a.frame.pc (instructions_of c a.procedure))) ≡ Some bound
 
 -- each running call is on a path
 abbrev pub AllOnPaths : Client → Machine Activation → Type 0

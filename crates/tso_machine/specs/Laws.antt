@@ -1,9 +1,9 @@
 -- What is known of the runs of a checked client's machine.
-use Rattle.std.specs.Prelude.{◌≡◌, ◌⊎◌, ℕ, ◌≤◌, List, length}
+use Rattle.std.specs.Prelude.{◌≡◌, ◌⊎◌, ℕ, ◌≤◌, List, length, IsTrue}
 use Rattle.tso_prog.specs.declared.client.Client.{Client}
 use Rattle.tso_flow.specs.Calls.{calls_of_client, step_limit}
 use Rattle.tso_machine.specs.Activations.{Activation}
-use Rattle.tso_machine.specs.Control.{AllOnPaths, GoesOnWith, IsNext, IsOnPath}
+use Rattle.tso_machine.specs.Control.{AllOnPaths, GoesOnWith, IsAtBound, IsNext, IsOnPath}
 use Rattle.tso_machine.specs.Instructions.{next_action}
 use Rattle.tso_machine.specs.Places.{first_memory}
 use Rattle.tso_machine.specs.Programs.{program_of, start_of}
@@ -13,7 +13,7 @@ use Rattle.tso_model.specs.Faults.{HasFaultOf, IsStoppedAt}
 use Rattle.tso_model.specs.Invariants.{AllWithin, IsGuarded}
 use Rattle.tso_model.specs.Labels.{Ended, Label, Machine, Run, first_machine}
 use Rattle.tso_model.specs.Measure.{AllSound, IsRanked}
-use Rattle.tso_model.specs.Programs.{CallKind}
+use Rattle.tso_model.specs.Programs.{CallKind, Cut}
 
 -- the labels lead from the client's machine before any step to this one
 abbrev pub IsRunOf : Client → List Label → Machine Activation → Type 0
@@ -56,6 +56,10 @@ InstructionsFollowEdges c = (a : Activation) → GoesOnWith (IsNext c a) (next_a
 -- from a call that is on a path each instruction goes on with one that is on a path
 abbrev pub InstructionsFollowPaths : Client → Type 0
 InstructionsFollowPaths c = (a : Activation) → IsOnPath c a → GoesOnWith (IsOnPath c) (next_action c a)
+
+-- a call in a frame that can occur is cut nowhere but at a jump back that is at its bound
+abbrev pub CutsAreBounds : Client → Type 0
+CutsAreBounds c = (call : CallKind) (a : Activation) → IsTrue (is_sound c call a) → next_action c a ≡ Cut → IsAtBound c a
 
 -- ---- what holds of each machine that a run leads to
 

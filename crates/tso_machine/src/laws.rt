@@ -1,6 +1,6 @@
 //! What is known of the runs of a checked client's machine, label by label. These functions do nothing when they run.
 
-ghost use Rattle.tso_machine.specs.Laws.{AreFramesRanked, BuffersStayWithin, CallsStartOnPaths, EndsAreDecided, FramesStayOnPaths, FramesStaySound, InstructionsFollowEdges, InstructionsFollowPaths, LabelsAreFew, RunsAreShort, RunsEnd, SectionsAreGuarded, SizesStay, StopsAreFaults, StopsAreFinal};
+ghost use Rattle.tso_machine.specs.Laws.{AreFramesRanked, BuffersStayWithin, CallsStartOnPaths, CutsAreBounds, EndsAreDecided, FramesStayOnPaths, FramesStaySound, InstructionsFollowEdges, InstructionsFollowPaths, LabelsAreFew, RunsAreShort, RunsEnd, SectionsAreGuarded, SizesStay, StopsAreFaults, StopsAreFinal};
 
 use tso_flow::Checked;
 
@@ -47,6 +47,11 @@ pub fn steps_follow_paths(checked: &Checked)
     ensures starts { CallsStartOnPaths checked.now.client }
     ensures edges { InstructionsFollowEdges checked.now.client }
     ensures paths { InstructionsFollowPaths checked.now.client }
+{}
+
+/// A call in a frame that can occur is cut nowhere but at a jump back that was taken as often as its bound allows.
+pub fn cuts_are_bounds(checked: &Checked)
+    ensures { CutsAreBounds checked.now.client }
 {}
 
 /// Each running call stands at an instruction of its own procedure, to which a path leads, and has taken no back jump more

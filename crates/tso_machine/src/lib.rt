@@ -29,8 +29,8 @@ pub use first::{first_memory, initial, thread_count};
 pub use frame::{Frame, Patch};
 pub use label::{Label, LabelKind};
 pub use laws::{
-    buffers_stay_within, ends_are_decided, frames_are_ranked, frames_stay_sound, labels_are_few,
-    runs_are_short, runs_end, sections_are_guarded, sizes_stay, steps_follow_paths,
+    buffers_stay_within, cuts_are_bounds, ends_are_decided, frames_are_ranked, frames_stay_sound,
+    labels_are_few, runs_are_short, runs_end, sections_are_guarded, sizes_stay, steps_follow_paths,
     stops_are_faults, stops_are_final,
 };
 pub use machine::{Core, Machine, Running, Stage, Thread};
