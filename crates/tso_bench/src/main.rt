@@ -1,5 +1,5 @@
-//! Benchmarks: how long a text of the greatest length is read, how long orders of calls are sought, and how long a trace is
-//! walked forwards and back. The time is that of the whole process.
+//! Benchmarks: how long a text of the greatest length is read, how long orders of calls are sought, how long a trace is walked
+//! forwards and back, and how long steps of compact states take. The time is that of the whole process.
 #![tactic(auto)]
 
 ghost use Rattle.std.specs.Prelude.{◌≡◌, ◌+◌, ◌<◌, ◌≤◌, ◌⊎◌, length, IfOk, IfSome, OnOk, string_len};
@@ -7,10 +7,14 @@ ghost use Rattle.std.specs.Prelude.{◌≡◌, ◌+◌, ◌<◌, ◌≤◌, ◌�
 use std::alloc::{AllocError, Global};
 use std::io;
 use std::process::ExitCode;
+use steps::{measure_kinds, measure_steps};
 use tso_fifo::linearize;
 use tso_hist::History;
 use tso_prog::{Answer, CallKind, Mode};
 use tso_trace::{Cursor, Trace};
+
+mod programs;
+mod steps;
 
 const PROGRAM: &str = ".capacity 1
 .mode weak
@@ -162,14 +166,25 @@ enum Benchmark {
     Texts,
     /// Orders of twelve calls are sought.
     Orders,
+    /// The kinds of all steps of a walk's states are asked for, so often.
+    Kinds(u64),
+    /// The threads' steps of a walk's states are made, so often.
+    Steps(u64),
     /// So many labels are taken.
     Labels(u64),
+}
+
+// The number that a word spells; 0 where it spells none.
+fn number_of(word: &String) -> u64 {
+    word.as_str().parse::<u64>().unwrap_or(0)
 }
 
 fn benchmark_of(words: &[String]) -> Benchmark {
     match words {
         [_, word] if word.as_str() == "orders" => Benchmark::Orders,
-        [_, labels] => Benchmark::Labels(labels.as_str().parse::<u64>().unwrap_or(0)),
+        [_, word, rounds] if word.as_str() == "kinds" => Benchmark::Kinds(number_of(rounds)),
+        [_, word, rounds] if word.as_str() == "steps" => Benchmark::Steps(number_of(rounds)),
+        [_, labels] => Benchmark::Labels(number_of(labels)),
         _ => Benchmark::Texts,
     }
 }
@@ -185,6 +200,14 @@ fn main(rt: HostRuntime) -> io::Result<ExitCode> {
         Benchmark::Orders => {
             let expected = search_orders(alloc)?;
             println!(rt; "orders: {expected}")?;
+        }
+        Benchmark::Kinds(rounds) => {
+            let count = measure_kinds(alloc, rounds)?;
+            println!(rt; "kinds: {count}")?;
+        }
+        Benchmark::Steps(rounds) => {
+            let count = measure_steps(alloc, rounds)?;
+            println!(rt; "stores: {count}")?;
         }
         Benchmark::Labels(labels) => {
             let Some(trace) = trace_of(alloc) else {

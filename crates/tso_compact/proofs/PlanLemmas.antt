@@ -68,7 +68,7 @@ pub record IsPlan (c : Client) (s : State) (a : Actor) (r : Option Motion) : Typ
   pub fits : IfSome r (Fits (thread_in s (thread_of a)))
   pub labels : IfSome r (λ m. labels_in s.memory (thread_of a) (thread_in s (thread_of a)) m ≡ labels_of (program_of c) (state_of s) (actor_of a))
 
-thread_in-is : (s : State) (i : ℕ) (t : Thread) → Some t ≡ slice_get s.threads i → thread_in s i ≡ t
+pub thread_in-is : (s : State) (i : ℕ) (t : Thread) → Some t ≡ slice_get s.threads i → thread_in s i ≡ t
 thread_in-is s i t there = get_or_from_slice_get s.threads i t _ (sym there)
 
 thread_viewed : (s : State) (i : ℕ) (t : Thread) → Some t ≡ slice_get s.threads i → Some (thread_view (procedure_in s i) t) ≡ slice_get (state_of s).threads i

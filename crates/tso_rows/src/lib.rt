@@ -9,6 +9,8 @@ mod programs;
 #[cfg(test)]
 mod refusals;
 #[cfg(test)]
+mod steps;
+#[cfg(test)]
 mod texts;
 
 pub use checked::{Refusal, checked_of};

@@ -45,7 +45,7 @@ const BOTH_STORE: &str = ".capacity 1
 ";
 
 // The mutual exclusion of Dekker, with fences; the assertion says that nobody else is inside.
-const DEKKER: &str = ".capacity 1
+pub const DEKKER: &str = ".capacity 1
 .mode weak
 .array x 1
 .array y 1
@@ -155,7 +155,7 @@ empty:
 ";
 
 // The same with a fence behind each store of an index.
-const LAMPORT_FENCED: &str = ".capacity 2
+pub const LAMPORT_FENCED: &str = ".capacity 2
 .mode strict
 .array head 1
 .array tail 1
@@ -202,7 +202,7 @@ empty:
 ";
 
 // A queue whose datum is stored behind its index.
-const LATE_DATA: &str = ".capacity 2
+pub const LATE_DATA: &str = ".capacity 2
 .mode weak
 .array head 1
 .array tail 1
@@ -262,7 +262,7 @@ pub const ONE_REFUSAL: &str = ".capacity 1
 ";
 
 // A load that its own store buffer serves.
-const OWN_STORE: &str = ".capacity 1
+pub const OWN_STORE: &str = ".capacity 1
 .mode weak
 .array n 1
 .push
