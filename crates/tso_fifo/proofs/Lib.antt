@@ -1,5 +1,6 @@
 pub mod Begun
 pub mod Completing
+pub mod Decided
 pub mod Entries
 pub mod Filled
 pub mod Keys

@@ -1,5 +1,5 @@
 -- What holds of all histories and their orders.
-use Rattle.std.specs.Prelude.{◌≡◌, ℕ, ◌↔◌, List, ◌++◌}
+use Rattle.std.specs.Prelude.{◌≡◌, ◌⊎◌, ℕ, ◌↔◌, List, ◌++◌}
 use Rattle.tso_fifo.specs.Orders.{HasOrder, IsOrderOf}
 use Rattle.tso_hist.specs.declared.call.Call.{Call}
 use Rattle.tso_hist.specs.Turns.{IsHistoryOf, IsInTurn}
@@ -7,10 +7,11 @@ use Rattle.tso_hist.specs.Views.{history_view}
 use Rattle.tso_line.specs.declared.instruction.Mode.{Mode}
 use Rattle.tso_model.specs.Events.{Event, after_events, events_of}
 use Rattle.tso_model.specs.Labels.{Label, Machine, Run, first_machine}
-use Rattle.tso_model.specs.Linear.{IsLinearization, Placed}
+use Rattle.tso_model.specs.Linear.{IsLinearization, IsOrder, Placed}
+use Rattle.tso_model.specs.Objects as objects
 use Rattle.tso_model.specs.Objects.{Queue}
 use Rattle.tso_model.specs.Programs.{Program}
-use Rattle.tso_model.specs.States.{first_history}
+use Rattle.tso_model.specs.States.{Called, first_history}
 use Rattle.tso_model.specs.Strictness.{HistoryAtLeast}
 use Rattle.tso_prog.specs.Views.{mode_view}
 
@@ -33,3 +34,8 @@ BeginningsAreLinearizable = (mode : Mode) (capacity n : ℕ) (events more : List
 abbrev pub StricterOrdersServe : Type 0
 StricterOrdersServe = (mode : Mode) (capacity : ℕ) (strict loose : List (List Call)) (order : List Placed) → HistoryAtLeast (history_view strict) (history_view loose) →
     IsOrderOf mode capacity strict order → IsOrderOf mode capacity loose order
+
+-- a counted history has an order, or it has none
+abbrev pub OrdersAreDecided : Type 0
+OrdersAreDecided = (mode : objects.Mode) (capacity : ℕ) (h : List (List Called)) →
+    ((order : List Placed) × IsOrder (Queue mode capacity) h order) ⊎ ((order : List Placed) → IsOrder (Queue mode capacity) h order → ⊥)

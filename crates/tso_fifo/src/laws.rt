@@ -1,6 +1,6 @@
 //! What holds of all histories.
 
-ghost use Rattle.tso_fifo.specs.Laws.{BeginningsAreLinearizable, OrdersAreLinearizations, OrdersOfRuns, StricterOrdersServe};
+ghost use Rattle.tso_fifo.specs.Laws.{BeginningsAreLinearizable, OrdersAreDecided, OrdersAreLinearizations, OrdersOfRuns, StricterOrdersServe};
 
 /// The orders of the history that events make, each thread calling and returning in turn, are exactly the linearizations
 /// of the events.
@@ -21,4 +21,9 @@ pub fn beginnings_are_linearizable()
 /// An order of a history that is at least as strict, with the same calls and answers, is one of the looser.
 pub fn stricter_orders_serve()
     ensures { StricterOrdersServe }
+{}
+
+/// A history has an order or it has none.
+pub fn orders_are_decided()
+    ensures { OrdersAreDecided }
 {}

@@ -16,7 +16,8 @@ mod tests;
 
 pub use check::is_linearization;
 pub use laws::{
-    beginnings_are_linearizable, orders_are_linearizations, orders_of_runs, stricter_orders_serve,
+    beginnings_are_linearizable, orders_are_decided, orders_are_linearizations, orders_of_runs,
+    stricter_orders_serve,
 };
 pub use order::{Order, Placed};
 pub use search::linearize;

@@ -1,5 +1,5 @@
 -- Each list of labels, and each text, has one judgement.
-use Rattle.std.proofs.Common.{◌≡◌, ◌≢◌, ◌∙◌, ◌⊎◌, ◌+◌, ◌<◌, ◌≤◌, ℕ, zero, suc, List, [], ◌∷◌, ◌++◌, length, map, take, slice_get, Option, Some, None, refl, sym, ap, subst, arith, inl, inr}
+use Rattle.std.proofs.Common.{◌≡◌, ◌≢◌, ◌∙◌, ◌⊎◌, ◌+◌, ◌<◌, ◌≤◌, ℕ, zero, suc, Bool, true, false, List, [], ◌∷◌, ◌++◌, length, map, take, slice_get, Option, Some, None, refl, sym, ap, subst, arith, inl, inr}
 use Rattle.std.proofs.lemmas.Bool.{cases_order}
 use Rattle.std.proofs.lemmas.List.{append_assoc, append-nil, length-append, length_push, map_push}
 use Rattle.std.proofs.Math.Seq.{take-append_seam}
@@ -22,9 +22,14 @@ use Rattle.tso_model.specs.Programs.{BadAnswer, Done, FalseAssertion, OutOfRange
 use Rattle.tso_trace.specs.declared.fault.TraceFault.{TraceFault}
 use Rattle.tso_trace.specs.declared.fault.TraceFault.TheVariants.{NotAStep, NoError, Grammar, Memory}
 use Rattle.tso_trace.specs.Grammar.{ended, line_text, IsFirstBadLine, IsReadFault, IsTextOf}
-use Rattle.tso_trace.specs.Judged.{ListsAreJudgedOnce, SpellsErrorTrace, TextsAreJudgedOnce}
-use Rattle.tso_trace.specs.Runs.{IsErrorTrace, IsFirstNonStep, IsRun, IsTraceFault, LeadsTo}
+use Rattle.tso_trace.specs.Judged.{IsRefused, IsUnread, ListsAreJudgedOnce, SpellsErrorTrace, TextsAreJudgedOnce}
+use Rattle.tso_trace.specs.Runs.{IsErrorTrace, IsFirstNonStep, IsGoodRun, IsRun, IsTraceFault, LeadsTo, has_fault}
 use Rattle.tso_trace.proofs.EndLemmas.{goes_on, same_machine}
+use Rattle.tso_fifo.proofs.Decided.{orders_are_decided}
+use Rattle.tso_model.specs.States.{first_history}
+use Rattle.tso_model.specs.Views.{after_labels}
+use Rattle.tso_prog.specs.Views.{mode_view}
+use Rattle.tso_trace.proofs.GoodLemmas.{faults_err, no_order_errs, order_is_good}
 use Rattle.tso_trace.proofs.LawLemmas.{no_fault, reads_back, texts_are_unique}
 use Rattle.tso_trace.proofs.ReadLemmas.{IsReadTo, goes_wrong, read_all, read_header, read_line}
 
@@ -183,15 +188,28 @@ module _ (c : Client) where
   steps : (labels : List Label) → IsRun c labels ⊎ ((number : ℕ) × IsFirstNonStep c labels number)
   steps labels = steps_from [] labels first (record { run = refl })
 
-  judged : (labels : List Label) → IsRun c labels ⊎ ((number : ℕ) × IsFirstNonStep c labels number) → (IsErrorTrace c labels → ⊥) → ((fault : TraceFault) → IsTraceFault c labels fault → fault ≡ Memory) → ⊥
-  judged labels (inl run) never none = never (record { run = run; errs = λ good. (let e = none NoError (run, good) in cc) })
-  judged labels (inr (n, a)) never none = (let e = none (NotAStep n) a in cc)
+  -- whether a run is good is decided
+  good_or_not : (labels : List Label) (run : IsRun c labels) (faults : Bool) → has_fault labels ≡ faults → IsGoodRun c labels ⊎ (IsGoodRun c labels → ⊥)
+  good_or_not labels run true e = inr (faults_err c labels e)
+  good_or_not labels run false e =
+      let counted = after_labels (first_history (program_of c)) (map label_of labels) in
+      elim (orders_are_decided (mode_view c.mode) c.capacity counted) [
+        | inl found ↦ inl (order_is_good c labels run counted refl c.capacity refl e found.0 found.1)
+        | inr none ↦ inr (no_order_errs c labels run counted refl c.capacity refl none)
+      ]
 
-  some : (labels : List Label) → (IsErrorTrace c labels → ⊥) → ((fault : TraceFault) → IsTraceFault c labels fault → fault ≡ Memory) → ⊥
-  some labels never none = judged labels (steps labels) never none
+  judged : (labels : List Label) → IsRun c labels ⊎ ((number : ℕ) × IsFirstNonStep c labels number) → IsErrorTrace c labels ⊎ IsRefused c labels
+  judged labels (inl run) = elim (good_or_not labels run (has_fault labels) refl) [
+    | inl good ↦ inr (NoError, (λ e. cc), (run, good))
+    | inr errs ↦ inl (record { run = run; errs = errs })
+  ]
+  judged labels (inr x) = inr (NotAStep x.0, (λ e. cc), x.1)
+
+  some : (labels : List Label) → IsErrorTrace c labels ⊎ IsRefused c labels
+  some labels = judged labels (steps labels)
 
   pub lists_are_judged_once : ListsAreJudgedOnce c
-  lists_are_judged_once = record { errs = no_fault c; once = once; some = some; steps = steps }
+  lists_are_judged_once = record { some = some; errs = no_fault c; once = once }
 
   -- ---- texts
 
@@ -227,21 +245,26 @@ module _ (c : Client) where
   some_grammar text never none =
       none 1 (inl (refl, λ has. stuck text never none (length has.rest) has.rest 2 (omega arith) (read_header c.arrays text has.rest has.begins)))
 
-  of_labels : (text : List ℕ) (labels : List Label) → IsTextOf c.arrays text labels → ((fault : TraceFault) → IsReadFault c text fault → fault ≡ Memory) → (fault : TraceFault) → IsTraceFault c labels fault → fault ≡ Memory
-  of_labels text labels is none (NotAStep n) a = none (NotAStep n) (labels, is, a)
-  of_labels text labels is none NoError a = none NoError (labels, is, a)
-  of_labels text labels is none (Grammar line) a = absurd a
-  of_labels text labels is none Memory a = refl
+  of_labels : (text : List ℕ) (labels : List Label) → IsTextOf c.arrays text labels → (fault : TraceFault) → fault ≢ Memory → IsTraceFault c labels fault → IsReadFault c text fault
+  of_labels text labels is (NotAStep n) other a = (labels, is, a)
+  of_labels text labels is NoError other a = (labels, is, a)
+  of_labels text labels is (Grammar line) other a = absurd a
+  of_labels text labels is Memory other a = absurd (other refl)
 
-  text_some : (text : List ℕ) → (SpellsErrorTrace c text → ⊥) → ((fault : TraceFault) → IsReadFault c text fault → fault ≡ Memory) → ⊥
+  spelled : (text : List ℕ) (labels : List Label) → IsTextOf c.arrays text labels → SpellsErrorTrace c text ⊎ IsUnread c text
+  spelled text labels is = elim (some labels) [
+    | inl errs ↦ inl (record { labels = labels; spells = is; errs = errs })
+    | inr x ↦ inr (x.0, x.1, of_labels text labels is x.0 x.1 x.2)
+  ]
+
+  text_some : (text : List ℕ) → (SpellsErrorTrace c text → ⊥) → (IsUnread c text → ⊥) → ⊥
   text_some text never none =
-      some_grammar text
-      (λ labels is. some labels (λ errs. never (record { labels = labels; spells = is; errs = errs })) (of_labels text labels is none))
-      (λ n bad. (let e = none (Grammar n) bad in cc))
+      some_grammar text (λ labels is. elim (spelled text labels is) [ inl s ↦ never s | inr u ↦ none u ]) (λ n bad. none (Grammar n, (λ e. cc), bad))
 
   pub texts_are_judged_once : TextsAreJudgedOnce c
   texts_are_judged_once = record {
     errs = λ text fault spelled a. reads_back c text spelled.labels fault spelled.spells spelled.errs a;
     once = text_once;
+    spelled = spelled;
     some = text_some;
   }
