@@ -40,9 +40,9 @@ MemoryHoldsArrays c = (n k p : ℕ) (a : Array) → slice_get c.arrays n ≡ Som
 -- `[a + r*8 + d]` is the element r + d/8 of the array: its address counts d/8 as `offset`, and the register as an unsigned number
 abbrev pub OperandsCount : Client → Type 0
 OperandsCount c =
-    (f : Frame) (n k : ℕ) (r : Register) (offset : ℤ) → pos (register_of f r) +ℤ offset ≡ pos k
-    → operand_place c.arrays f (record { array = n; index = Some r; offset = offset }) ≡ place_of c.arrays n (pos k)
+    (f : Frame) (n : ℕ) (r : Register) (offset : ℤ)
+    → operand_place c.arrays f (record { array = n; index = Some r; offset = offset }) ≡ place_of c.arrays n (pos (register_of f r) +ℤ offset)
 
 -- `[a + d]` is the element d/8
 abbrev pub PlainOperandsCount : Client → Type 0
-PlainOperandsCount c = (f : Frame) (n k : ℕ) → operand_place c.arrays f (record { array = n; index = None; offset = pos k }) ≡ place_of c.arrays n (pos k)
+PlainOperandsCount c = (f : Frame) (n : ℕ) (offset : ℤ) → operand_place c.arrays f (record { array = n; index = None; offset = offset }) ≡ place_of c.arrays n offset
