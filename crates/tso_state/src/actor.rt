@@ -75,9 +75,8 @@ impl Ord for Actor {
     ghost matches_eq = { Prim.search (comparing, rules) };
 
     fn cmp(&self, other: &Actor) -> Ordering {
-        self.thread()
-            .cmp(&other.thread())
-            .then(self.is_drain().cmp(&other.is_drain()))
+        let by_thread = self.thread().cmp(&other.thread());
+        by_thread.then(self.is_drain().cmp(&other.is_drain()))
     }
 }
 
