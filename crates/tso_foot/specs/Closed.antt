@@ -32,7 +32,3 @@ items_of t procedures.Pop = t.pop
 pub record IsClosed (c : Client) (t : Table) : Type 0 where
   pub push : IsListClosed (length c.arrays) c.push.instructions t.push
   pub pop : IsListClosed (length c.arrays) c.pop.instructions t.pop
-
--- each item has all that the other's item has
-abbrev pub IsAbove : List Masks → List Masks → Type 0
-IsAbove items others = (i : ℕ) → IsTrue (holds (masks_at items i) (masks_at others i))
