@@ -3,3 +3,4 @@ pub mod NamingLemmas
 pub mod PathLemmas
 pub mod PerformLemmas
 pub mod PlanLemmas
+pub mod SortLemmas

@@ -1,9 +1,8 @@
 -- The labels of a step are a run.
-use Rattle.std.proofs.Common.{◌≡◌, ◌∙◌, ℕ, List, length, map, sym, ap, subst}
+use Rattle.std.proofs.Common.{◌≡◌, ◌∙◌, ℕ, List, map, sym, ap, subst}
 use Rattle.tso_compact.specs.Motions.{access_of, labels_in, labels_of_motion}
 use Rattle.tso_compact.specs.Plans.{HasHistories, IsRunOfStep, thread_in}
 use Rattle.tso_compact.specs.declared.motion.Motion.{Motion}
-use Rattle.tso_machine.specs.Activations.{Activation}
 use Rattle.tso_machine.specs.Machines.{label_of}
 use Rattle.tso_machine.specs.Programs.{program_of}
 use Rattle.tso_machine.specs.declared.label.Label.{Label}

@@ -1,7 +1,7 @@
 -- Steps of well-formed states whose running calls are on paths.
-use Rattle.std.proofs.Common.{◌≡◌, ℕ, zero, suc, ◌<◌, Bool, true, ◌&&◌, nat_lt, nat_le, List, [], ◌∷◌, length, Option, Some, None, map, slice_get, slice_set, refl, sym, ◌∙◌, ap, subst}
+use Rattle.std.proofs.Common.{◌≡◌, ℕ, zero, suc, ◌<◌, Bool, true, ◌&&◌, nat_lt, nat_le, List, [], ◌∷◌, length, Option, Some, None, slice_get, slice_set, refl, sym, ◌∙◌, ap, subst}
 use Rattle.std.proofs.lemmas.Bool.{and_parts, and_from, lt-ltb}
-use Rattle.std.proofs.lemmas.Option.{none-some, same_Some, option_and_then_some, slice_get-map}
+use Rattle.std.proofs.lemmas.Option.{none-some, same_Some, slice_get-map}
 use Rattle.std.specs.Option.{option_and_then, option_map}
 use Rattle.tso_compact.specs.Laws.{AreOnPaths, IsPlausible, initial_of}
 use Rattle.tso_compact.specs.Plans.{IsStep}
@@ -15,7 +15,6 @@ use Rattle.tso_machine.specs.Places.{first_memory}
 use Rattle.tso_machine.specs.Programs.{program_of}
 use Rattle.tso_machine.specs.Soundness.{are_within, bounds_in, is_sound, is_sound_or_past_end, rank, runs_procedure}
 use Rattle.tso_model.proofs.Moves as moves
-use Rattle.tso_model.proofs.Places.{get_set_other, get_set_same}
 use Rattle.tso_model.proofs.Theorems as theorems
 use Rattle.tso_model.specs.Prologue.{next_call}
 use Rattle.tso_model.specs.Programs.{Action, Barrier, CallKind, Cut, Fail, Load, Locked, Ret, Silent, Store}

@@ -1,9 +1,9 @@
 -- The state after a step, seen in the model.
-use Rattle.std.proofs.Common.{◌≡◌, ◌∙◌, ℕ, zero, suc, ◌<◌, List, [], ◌∷◌, ◌++◌, length, map, Some, slice_set, slice_index_or, refl, sym, ap, arith}
+use Rattle.std.proofs.Common.{◌≡◌, ◌∙◌, ℕ, zero, suc, ◌<◌, List, [], ◌∷◌, ◌++◌, length, map, slice_set, slice_index_or, refl, sym, ap, arith}
 use Rattle.std.proofs.lemmas.List.{length-map}
 use Rattle.std.proofs.lemmas.Option.{slice_get-get_or}
 use Rattle.tso_compact.specs.Motions.{access_of, log_of, procedure_after, thread_after}
-use Rattle.tso_compact.specs.Plans.{HasHistories, motion_view, procedure_in, thread_in}
+use Rattle.tso_compact.specs.Plans.{motion_view, procedure_in, thread_in}
 use Rattle.tso_compact.specs.declared.motion.Motion.{Motion}
 use Rattle.tso_compact.specs.declared.motion.Motion.TheVariants as the
 use Rattle.tso_flow.specs.Calls.{kind_of}
@@ -15,7 +15,7 @@ use Rattle.tso_line.specs.declared.instruction.CallKind.{CallKind}
 use Rattle.tso_line.specs.declared.instruction.CallKind.TheVariants as calls
 use Rattle.tso_machine.specs.Activations.{Activation}
 use Rattle.tso_model.specs.Programs as model
-use Rattle.tso_model.specs.States.{Called, CompactThread, answered, calls_in, logged, begun_call, State as ModelState}
+use Rattle.tso_model.specs.States.{Called, CompactThread, answered, calls_in, logged, begun_call}
 use Rattle.tso_model.specs.Steps.{memory_after, perform, word_read}
 use Rattle.tso_prog.specs.Views.{answer_view, call_view}
 use Rattle.tso_state.proofs.ViewLemmas.{calls_in-history_view}

@@ -13,8 +13,7 @@ use Rattle.tso_line.specs.declared.instruction.CallKind.{CallKind}
 use Rattle.tso_machine.specs.Activations.{Activation}
 use Rattle.tso_machine.specs.Machines.{entry_view}
 use Rattle.tso_machine.specs.Programs.{program_of, prologue_number}
-use Rattle.tso_model.specs.Labels as model
-use Rattle.tso_model.specs.Programs.{CallKind as ModelCall, Program}
+use Rattle.tso_model.specs.Programs.{Program}
 use Rattle.tso_model.specs.Prologue.{is_thread_over, may_begin, next_call}
 use Rattle.tso_model.specs.StepLabels.{labels_of, labels_of_core, labels_of_drain, labels_of_entry, labels_of_exec}
 use Rattle.tso_model.specs.States.{Buffer, CompactCore, CompactThread, Executing, Halted, Resting, State as ModelState, begun_by}
@@ -71,7 +70,7 @@ pub record IsPlan (c : Client) (s : State) (a : Actor) (r : Option Motion) : Typ
 pub thread_in-is : (s : State) (i : ℕ) (t : Thread) → Some t ≡ slice_get s.threads i → thread_in s i ≡ t
 thread_in-is s i t there = get_or_from_slice_get s.threads i t _ (sym there)
 
-thread_viewed : (s : State) (i : ℕ) (t : Thread) → Some t ≡ slice_get s.threads i → Some (thread_view (procedure_in s i) t) ≡ slice_get (state_of s).threads i
+pub thread_viewed : (s : State) (i : ℕ) (t : Thread) → Some t ≡ slice_get s.threads i → Some (thread_view (procedure_in s i) t) ≡ slice_get (state_of s).threads i
 thread_viewed s i t there = ap (option_map (thread_view (procedure_in s i))) there ∙ sym (slice_get-threads_view s.history s.threads i)
 
 any_there : (s : State) (i : ℕ) (t : Thread) (r : Option Motion) → Some t ≡ slice_get s.threads i → IfSome r (λ m. i < length s.threads)
@@ -158,7 +157,7 @@ drain_plan c s a x i t r is number there m =
     let Q : Actor → Type 0 = λ b. IsPlan c s b r in
     subst Q (ap Drain (number ∙ ap thread_of is) ∙ sym is) (drain_at c s i t r there m)
 
-no_move_at : (c : Client) (s : State) (a : Actor) → slice_get (state_of s).threads (thread_of a) ≡ None → None ≡ move (program_of c) (state_of s) (actor_of a)
+pub no_move_at : (c : Client) (s : State) (a : Actor) → slice_get (state_of s).threads (thread_of a) ≡ None → None ≡ move (program_of c) (state_of s) (actor_of a)
 no_move_at c s (Exec i) none = ap (λ o. option_and_then (λ (u : CompactThread Activation). core_move (program_of c) (next_call (program_of c) (state_of s) i) u.core u.buffer) o) (sym none)
 no_move_at c s (Drain i) none = ap (λ o. option_and_then (λ (u : CompactThread Activation). drain_move u.core u.buffer) o) (sym none)
 

@@ -1,3 +1,4 @@
+pub mod Clauses
 pub mod Laws
 pub mod Motions
 pub mod Plans

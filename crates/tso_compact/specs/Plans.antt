@@ -1,13 +1,16 @@
 -- What an actor does next in a state.
-use Rattle.std.specs.Prelude.{◌≡◌, ◌≤◌, ℕ, All, IsSome, List, [], length, map, Option, Some, slice_index_or}
+use Rattle.std.specs.Prelude.{◌≡◌, ◌≤◌, ℕ, All, IsSome, List, [], length, map, Option, None, Some, slice_index_or}
 use Rattle.tso_flow.specs.declared.location.ProcedureKind.{ProcedureKind}
 use Rattle.tso_machine.specs.Activations.{Activation}
 use Rattle.tso_machine.specs.Machines.{label_of}
 use Rattle.tso_machine.specs.Programs.{program_of}
+use Rattle.tso_machine.specs.declared.kinds.ActionKind.{ActionKind}
+use Rattle.tso_machine.specs.declared.kinds.ActionKind.TheVariants as actions
 use Rattle.tso_machine.specs.declared.label.Label.{Label}
 use Rattle.tso_model.specs.Labels.{Run, machine_of}
+use Rattle.tso_model.specs.Programs.{CallKind}
 use Rattle.tso_model.specs.StepLabels.{labels_of}
-use Rattle.tso_model.specs.States.{Log, Same, Began, Answered}
+use Rattle.tso_model.specs.States.{Buffer, Log, Same, Began, Answered}
 use Rattle.tso_model.specs.Steps as model
 use Rattle.tso_compact.specs.Motions.{move_of}
 use Rattle.tso_compact.specs.declared.motion.Motion.{Motion}
@@ -44,6 +47,20 @@ kind_by (model.Update place new) log = kinds.Locked place
 
 abbrev pub kind_of_move : model.Move Activation → StepKind
 kind_of_move m = kind_by m.access m.log
+
+-- of a running call with this buffer whose next instruction is of this kind
+abbrev pub kind_with_buffer : Buffer → ActionKind → Option StepKind
+kind_with_buffer b actions.Local = Some kinds.Local
+kind_with_buffer b (actions.Load place) = Some (kinds.Load place)
+kind_with_buffer b actions.Barrier = model.when_empty b kinds.Local
+kind_with_buffer b (actions.Locked place) = model.when_empty b (kinds.Locked place)
+kind_with_buffer b actions.Return = Some kinds.Return
+kind_with_buffer b actions.Cut = None
+
+-- of a step that begins this call, if it may begin
+abbrev pub kind_of_call : Option CallKind → Option StepKind
+kind_of_call None = None
+kind_of_call (Some k) = Some kinds.Call
 
 -- there is a list of calls for each thread
 pub record HasHistories (s : State) : Type 0 where

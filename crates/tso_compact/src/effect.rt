@@ -1,6 +1,7 @@
 //! What a step makes of its thread and of memory.
 
-ghost use Rattle.std.specs.Prelude.{◌≡◌, ℕ, List, IfOk, IfSome, IsSome};
+ghost use Rattle.std.specs.Prelude.{◌≡◌, ◌↔◌, ℕ, List, IfOk, IfSome, IsSome};
+ghost use Rattle.tso_compact.specs.Clauses.{IsWrittenBy};
 ghost use Rattle.tso_compact.specs.Motions.{running_thread, argument_of, locked_word, thread_after, access_of, memory_with, Fits, GoesOn};
 ghost use Rattle.tso_compact.specs.declared.motion.Motion.TheVariants as motions;
 ghost use Rattle.tso_machine.specs.Frames.{patched, FitsFrame};
@@ -41,7 +42,7 @@ pub fn locked_word(thread: &Thread, operation: LockedOperation, register: Regist
 
 /// What a step that has read this word writes to memory.
 pub fn written(thread: &Thread, motion: Motion, word: u64) -> Option<Entry>
-    ensures { (memory : List ℕ) → word ≡ word_read memory (access_of thread.now motion) → memory_with memory result ≡ memory_after memory (access_of thread.now motion) }
+    ensures { IsWrittenBy thread.now motion word result }
 {
     match motion {
         Motion::Drain(entry) => Some(entry),
@@ -58,12 +59,12 @@ pub fn written(thread: &Thread, motion: Motion, word: u64) -> Option<Entry>
     }
 }
 
-// What a running call's instruction changes in its frame, if it is one that goes on in it.
-fn patch_after(frame: &Frame, buffer: &[Entry], motion: Motion, word: u64) -> Option<Patch>
+/// What a running call's instruction that has read this word changes in its frame, if it is one that goes on in it.
+pub fn patch_after(frame: &Frame, buffer: &[Entry], motion: Motion, word: u64) -> Option<Patch>
     requires { Fits (running_thread frame.now buffer.now) motion }
     ensures is { IfSome result (λ p. (thread_after (running_thread frame.now buffer.now) motion word).core ≡ cores.Running (patched frame.now p)) }
     ensures fits { IfSome result (FitsFrame frame.now) }
-    ensures some { GoesOn motion → IsSome result }
+    ensures some { IsSome result ↔ GoesOn motion }
 {
     match motion {
         Motion::Run(patch) => Some(patch),
@@ -98,8 +99,8 @@ fn core_after(alloc: Global, thread: &Thread, motion: Motion, word: u64) -> Resu
     }
 }
 
-// The word that a push begins with in RDI.
-fn argument_of(kind: CallKind) -> u64
+/// The word that a push begins with in RDI; 0 for a pop.
+pub fn argument_of(kind: CallKind) -> u64
     ensures { result ≡ argument_of kind }
 {
     match kind {

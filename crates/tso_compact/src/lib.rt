@@ -10,7 +10,7 @@ mod plan;
 mod sort;
 mod stepping;
 
-pub use effect::{locked_word, thread_after, word_read, written};
+pub use effect::{argument_of, locked_word, patch_after, thread_after, word_read, written};
 pub use fault::StepError;
 pub use laws::{
     ended_runs_end_alike, initial_is_plausible, runs_are_followed, runs_reach_ends,
@@ -19,5 +19,5 @@ pub use laws::{
 pub use motion::{Motion, core_motion, drain_motion};
 pub use naming::labels;
 pub use plan::{begun_calls, next_call, planned, running_procedure};
-pub use sort::{StepKind, enabled, kind, kind_of};
-pub use stepping::step;
+pub use sort::{StepKind, enabled, kind};
+pub use stepping::{history_after, memory_with, step};

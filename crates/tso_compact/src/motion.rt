@@ -2,6 +2,7 @@
 
 ghost use Rattle.std.specs.Prelude.{◌≡◌, ℕ, List, map, IfSome};
 ghost use Rattle.std.specs.Option.{option_map};
+ghost use Rattle.tso_compact.specs.Clauses.{core_move_of, drain_move_of, HasLabelsFor, HasLabelsOfCore, IsMoveFor};
 ghost use Rattle.tso_compact.specs.Motions.{running_thread, move_of, labels_in, core_labels, Fits};
 ghost use Rattle.tso_compact.specs.declared.motion.Motion.TheVariants as motions;
 ghost use Rattle.tso_flow.specs.Calls.{kind_of};
@@ -76,9 +77,9 @@ fn if_empty(buffer: &[Entry], motion: Motion) -> Option<Motion>
 // What the next instruction of a running call does, of a thread with this frame and buffer.
 fn action_motion(frame: &Frame, buffer: &[Entry], action: Action) -> Option<Motion>
     requires { FitsAction frame.now action }
-    ensures is { (name : AProcedure) → option_map (move_of name (running_thread frame.now buffer.now)) result ≡ action_move (map entry_view buffer.now) (meaning name frame.now action) }
+    ensures is { IsMoveFor frame.now buffer.now action result }
     ensures fits { IfSome result (Fits (running_thread frame.now buffer.now)) }
-    ensures labels { (name : AProcedure) (memory : List ℕ) (i : ℕ) → IfSome result (λ m. labels_in memory i (running_thread frame.now buffer.now) m ≡ labels_of_action memory i (map entry_view buffer.now) (meaning name frame.now action)) }
+    ensures labels { HasLabelsFor frame.now buffer.now action result }
 {
     match action {
         Action::Silent(patch) => Some(Motion::Run(patch)),
@@ -126,9 +127,9 @@ pub fn core_motion(
     call: Option<CallKind>,
     thread: &Thread,
 ) -> Option<Motion>
-    ensures is { option_map (move_of procedure thread.now) result ≡ core_move (program_of client.now) (option_map call_view call) (core_view procedure thread.now.core) (map entry_view thread.now.buffer) }
+    ensures is { option_map (move_of procedure thread.now) result ≡ core_move_of client.now procedure call thread.now }
     ensures fits { IfSome result (Fits thread.now) }
-    ensures labels { (memory : List ℕ) (i : ℕ) → IfSome result (λ m. labels_in memory i thread.now m ≡ core_labels (program_of client.now) memory i (option_map call_view call) (map entry_view thread.now.buffer) (core_view procedure thread.now.core)) }
+    ensures labels { HasLabelsOfCore client.now procedure call thread.now result }
 {
     match &thread.core {
         Core::Idle => match call {
@@ -145,7 +146,7 @@ pub fn core_motion(
 
 /// What the buffer of a thread does next: its oldest entry goes to memory.
 pub fn drain_motion(thread: &Thread) -> Option<Motion>
-    ensures is { (name : AProcedure) → option_map (move_of name thread.now) result ≡ drain_move (core_view name thread.now.core) (map entry_view thread.now.buffer) }
+    ensures is { (name : AProcedure) → option_map (move_of name thread.now) result ≡ drain_move_of name thread.now }
     ensures fits { IfSome result (Fits thread.now) }
     ensures labels { (memory : List ℕ) (i : ℕ) → IfSome result (λ m. labels_in memory i thread.now m ≡ labels_of_entry i (map entry_view thread.now.buffer)) }
 {

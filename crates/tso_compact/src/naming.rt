@@ -1,6 +1,7 @@
 //! The labels of a step, in the label machine's words.
 
 ghost use Rattle.std.specs.Prelude.{◌≡◌, ◌↔◌, ◌∷◌, [], ◌<◌, length, IfOk, Err};
+ghost use Rattle.tso_compact.specs.Clauses.{labels_named};
 ghost use Rattle.tso_compact.specs.Motions.{access_of, label_at, labels_of_motion, locked_labels};
 ghost use Rattle.tso_compact.specs.Plans.{thread_in, HasHistories, HasStep, IsLabelled, IsRunOfStep};
 ghost use Rattle.tso_model.specs.Steps.{word_read};
@@ -106,7 +107,7 @@ fn named(
     motion: Motion,
 ) -> Result<Vec<Label>, AllocError>
     requires { number < length state.now.threads }
-    ensures { IfOk result (λ ls. ls.items ≡ labels_of_motion (word_read state.now.memory (access_of (thread_in state.now number) motion)) number (thread_in state.now number) motion) }
+    ensures { IfOk result (λ ls. ls.items ≡ labels_named state.now number motion) }
 {
     let thread = &state.threads.as_slice()[number];
     let word = word_read(state.memory.as_slice(), motion);

@@ -2,7 +2,8 @@
 
 ghost use Rattle.std.specs.Prelude.{◌≡◌, ◌<◌, ℕ, List, length, map, slice_get, slice_index_or, Some, [], IfSome};
 ghost use Rattle.std.specs.Option.{option_map};
-ghost use Rattle.tso_compact.specs.Motions.{move_of, labels_in, Fits};
+ghost use Rattle.tso_compact.specs.Clauses.{is_over_in, may_begin_in, move_in, HasLabelsIn};
+ghost use Rattle.tso_compact.specs.Motions.{Fits};
 ghost use Rattle.tso_compact.specs.Plans.{motion_view, thread_in};
 ghost use Rattle.tso_flow.specs.declared.location.ProcedureKind.{ProcedureKind as AProcedure};
 ghost use Rattle.tso_machine.specs.Programs.{program_of};
@@ -49,7 +50,7 @@ fn is_idle(core: &Core) -> bool
 
 // Whether a thread is idle, with no call left and nothing buffered.
 fn is_over<S: Viewed>(client: &Client, state: &S, number: usize, thread: &Thread) -> bool
-    ensures { (name : AProcedure) → result ≡ is_thread_over (program_of client.now) number (begun_by (state_of (S.state state.now)) number) (Some (thread_view name thread.now)) }
+    ensures { (name : AProcedure) → result ≡ is_over_in client.now (S.state state.now) number name thread.now }
 {
     is_idle(&thread.core)
         && call_at(client, number, begun_calls(state, number).len()).is_none()
@@ -58,7 +59,7 @@ fn is_over<S: Viewed>(client: &Client, state: &S, number: usize, thread: &Thread
 
 // Whether a thread's calls need not wait for the prologue's.
 fn may_begin<S: Viewed>(client: &Client, state: &S, thread: usize) -> bool
-    ensures { result ≡ may_begin (program_of client.now).prologue thread (λ j. is_thread_over (program_of client.now) j (begun_by (state_of (S.state state.now)) j) (slice_get (state_of (S.state state.now)).threads j)) }
+    ensures { result ≡ may_begin_in client.now (S.state state.now) thread }
 {
     let prologue = client.threads.len();
     if client.prologue.is_empty() || thread == prologue {
@@ -83,10 +84,10 @@ pub fn next_call<S: Viewed>(client: &Client, state: &S, thread: usize) -> Option
 
 /// What the actor does next: exactly the model's move, if it has one.
 pub fn planned<S: Viewed>(client: &Client, state: &S, actor: Actor) -> Option<Motion>
-    ensures is { option_map (motion_view (S.state state.now) (thread_of actor)) result ≡ move (program_of client.now) (state_of (S.state state.now)) (actor_of actor) }
+    ensures is { option_map (motion_view (S.state state.now) (thread_of actor)) result ≡ move_in client.now (S.state state.now) actor }
     ensures there { IfSome result (λ m. thread_of actor < length (S.state state.now).threads) }
     ensures fits { IfSome result (Fits (thread_in (S.state state.now) (thread_of actor))) }
-    ensures labels { IfSome result (λ m. labels_in (S.state state.now).memory (thread_of actor) (thread_in (S.state state.now) (thread_of actor)) m ≡ labels_of (program_of client.now) (state_of (S.state state.now)) (actor_of actor)) }
+    ensures labels { HasLabelsIn client.now (S.state state.now) actor result }
 {
     let number = actor.thread();
     let thread = state.thread(number)?;

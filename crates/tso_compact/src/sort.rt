@@ -1,20 +1,22 @@
-//! What kind of step an actor has.
+//! What kind of step an actor has. No step is made for that.
 
-ghost use Rattle.std.specs.Prelude.{◌≡◌, is_some};
+ghost use Rattle.std.specs.Prelude.{◌≡◌, is_some, map};
 ghost use Rattle.std.specs.Option.{option_map};
-ghost use Rattle.tso_compact.specs.Motions.{move_of};
-ghost use Rattle.tso_compact.specs.Plans.{kind_of_move};
+ghost use Rattle.tso_compact.specs.Clauses.{core_kind_in, drain_move_of};
+ghost use Rattle.tso_compact.specs.Plans.{kind_of_call, kind_of_move, kind_with_buffer};
 ghost use Rattle.tso_flow.specs.declared.location.ProcedureKind.{ProcedureKind as AProcedure};
+ghost use Rattle.tso_machine.specs.Machines.{entry_view};
 ghost use Rattle.tso_machine.specs.Programs.{program_of};
-ghost use Rattle.tso_model.specs.Steps.{move, step};
+ghost use Rattle.tso_model.specs.Prologue.{next_call};
+ghost use Rattle.tso_model.specs.Steps.{move, step, when_empty};
 ghost use Rattle.tso_state.specs.Actors.{actor_of};
 ghost use Rattle.tso_state.specs.Views.{state_of};
-ghost use Rattle.tso_state.specs.declared.state.Thread.{Thread as AThread};
 
-use crate::motion::Motion;
-use crate::plan::planned;
+use crate::plan::{begun_calls, next_call, running_procedure};
 use tso_flow::Checked;
-use tso_state::{Actor, Viewed};
+use tso_machine::{ActionKind, Entry, next_kind};
+use tso_prog::Client;
+use tso_state::{Actor, Core, Thread, Viewed};
 
 /// What a step has to do with memory and with calls. A place is the position of a word in memory.
 #[derive(Clone, Copy, Debug, PartialEq, Eq)]
@@ -33,19 +35,69 @@ pub enum StepKind {
     Return,
 }
 
-/// The kind of a step.
-pub fn kind_of(motion: Motion) -> StepKind
-    ensures { (name : AProcedure) (t : AThread) → result ≡ kind_of_move (move_of name t motion) }
+// The kind of a step, if nothing is buffered.
+fn if_empty(buffer: &[Entry], kind: StepKind) -> Option<StepKind>
+    ensures { result ≡ when_empty (map entry_view buffer.now) kind }
 {
-    match motion {
-        Motion::Load { place, .. } => StepKind::Load(place),
-        Motion::Locked { place, .. } => StepKind::Locked(place),
-        Motion::Drain(entry) => StepKind::Drain(entry.place),
-        Motion::Begin { .. } => StepKind::Call,
-        Motion::Return(_) => StepKind::Return,
-        Motion::Run(_) | Motion::Pass { .. } | Motion::Store { .. } | Motion::Stop(_) => {
-            StepKind::Local
+    match buffer {
+        [] => Some(kind),
+        _ => None,
+    }
+}
+
+// The kind of the step of a running call with this buffer, whose next instruction is of this kind.
+fn kind_with_buffer(kind: ActionKind, buffer: &[Entry]) -> Option<StepKind>
+    ensures { result ≡ kind_with_buffer (map entry_view buffer.now) kind }
+{
+    match kind {
+        ActionKind::Local => Some(StepKind::Local),
+        ActionKind::Load(place) => Some(StepKind::Load(place)),
+        ActionKind::Barrier => if_empty(buffer, StepKind::Local),
+        ActionKind::Locked(place) => if_empty(buffer, StepKind::Locked(place)),
+        ActionKind::Return => Some(StepKind::Return),
+        ActionKind::Cut => None,
+    }
+}
+
+// The kind of the step of an idle thread's core, if the thread may begin a call.
+fn call_kind<S: Viewed>(client: &Client, state: &S, number: usize) -> Option<StepKind>
+    ensures { result ≡ kind_of_call (next_call (program_of client.now) (state_of (S.state state.now)) number) }
+{
+    match next_call(client, state, number) {
+        Some(_) => Some(StepKind::Call),
+        None => None,
+    }
+}
+
+// The kind of the step of a core, that of thread `number`.
+fn core_kind<S: Viewed>(
+    client: &Client,
+    state: &S,
+    number: usize,
+    thread: &Thread,
+) -> Option<StepKind>
+    ensures { result ≡ core_kind_in client.now (S.state state.now) number thread.now }
+{
+    match &thread.core {
+        Core::Idle => call_kind(client, state, number),
+        Core::Running(frame) => {
+            let procedure = running_procedure(begun_calls(state, number));
+            kind_with_buffer(
+                next_kind(client, procedure, frame),
+                thread.buffer.as_slice(),
+            )
         }
+        Core::Stopped => None,
+    }
+}
+
+// The kind of the step of a buffer.
+fn drain_kind(thread: &Thread) -> Option<StepKind>
+    ensures { (name : AProcedure) → result ≡ option_map kind_of_move (drain_move_of name thread.now) }
+{
+    match thread.buffer.as_slice() {
+        [] => None,
+        [entry, ..] => Some(StepKind::Drain(entry.place)),
     }
 }
 
@@ -53,9 +105,11 @@ pub fn kind_of(motion: Motion) -> StepKind
 pub fn kind<S: Viewed>(checked: &Checked, state: &S, actor: Actor) -> Option<StepKind>
     ensures { result ≡ option_map kind_of_move (move (program_of checked.now.client) (state_of (S.state state.now)) (actor_of actor)) }
 {
-    match planned(&checked.client, state, actor) {
-        Some(motion) => Some(kind_of(motion)),
-        None => None,
+    let number = actor.thread();
+    let thread = state.thread(number)?;
+    match actor {
+        Actor::Exec(_) => core_kind(&checked.client, state, number, thread),
+        Actor::Drain(_) => drain_kind(thread),
     }
 }
 
@@ -63,5 +117,5 @@ pub fn kind<S: Viewed>(checked: &Checked, state: &S, actor: Actor) -> Option<Ste
 pub fn enabled<S: Viewed>(checked: &Checked, state: &S, actor: Actor) -> bool
     ensures { result ≡ is_some (step (program_of checked.now.client) (state_of (S.state state.now)) (actor_of actor)) }
 {
-    planned(&checked.client, state, actor).is_some()
+    kind(checked, state, actor).is_some()
 }

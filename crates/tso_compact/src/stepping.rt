@@ -20,9 +20,9 @@ use tso_list::Seq;
 use tso_machine::Entry;
 use tso_state::{Actor, State, Thread};
 
-// Memory with an entry written, if there is one.
+/// A copy of a memory with an entry written, if there is one. Where there is no such place, the copy is the memory.
 #[tactic(auto, using(std::proofs::lemmas::List::set_past))]
-fn memory_with(memory: &Seq<u64>, entry: Option<Entry>) -> Result<Seq<u64>, AllocError>
+pub fn memory_with(memory: &Seq<u64>, entry: Option<Entry>) -> Result<Seq<u64>, AllocError>
     ensures { IfOk result (λ m. m ≡ memory_with memory.now entry) }
 {
     let mut copy = memory.clone()?;
@@ -48,8 +48,12 @@ fn with_thread(
     Ok(copy)
 }
 
-// The history with what the step of a thread writes into it.
-fn history_after(history: &History, thread: usize, motion: Motion) -> Result<History, AllocError>
+/// A copy of a history with what the step of a thread writes into it.
+pub fn history_after(
+    history: &History,
+    thread: usize,
+    motion: Motion,
+) -> Result<History, AllocError>
     ensures { IfOk result (λ h. history_view h ≡ logged (history_view history.now) thread (log_of motion)) }
 {
     let mut copy = history.clone()?;

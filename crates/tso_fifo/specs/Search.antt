@@ -2,6 +2,8 @@
 use Rattle.std.specs.Prelude.{◌≡◌, ◌⊎◌, ℕ, ◌+◌, Bool, true, false, List, [], ◌∷◌, ◌++◌, length, take, drop, Option, Some, None, slice_get, slice_set}
 use Rattle.tso_fifo.specs.declared.candidate.Candidate.{Candidate}
 use Rattle.tso_fifo.specs.declared.memory.Key.{Key}
+use Rattle.tso_fifo.specs.declared.order.Placed.{Placed as Entry}
+use Rattle.tso_fifo.specs.Orders.{IsOrderOf, order_view}
 use Rattle.tso_fifo.specs.declared.queue.Queue.{Queue}
 use Rattle.tso_fifo.specs.declared.search.Configuration.{Configuration}
 use Rattle.tso_hist.specs.declared.call.Call.{Call}
@@ -61,6 +63,14 @@ pub record IsStart (s : Problem) (at : Configuration) (order : List Placed) : Ty
   pub in_order : EachTwo (λ x y. Precedes s.history y.thread y.number x.thread x.number → ⊥) order
   pub steps : QueueSteps s.mode s.capacity [] (placed_calls order) at.items
 
+-- the same of the code's order and history
+abbrev pub StartsWith : Queue → List (List Call) → List Candidate → Configuration → List Entry → Type 0
+StartsWith queue h cs at order = IsStart (problem_of queue h cs) at (order_view (history_view h) order)
+
+-- the order explains the history by the queue
+abbrev pub Explains : Queue → List (List Call) → List Entry → Type 0
+Explains queue h order = IsOrderOf queue.mode queue.capacity h (order_view (history_view h) order)
+
 -- the order has each call that has returned
 abbrev pub HasAllTaken : Problem → List Bool → Type 0
 HasAllTaken s taken = (t k : ℕ) (c : Called) (a : model.Answer) → call_at s.history t k ≡ Some c → c.answer ≡ Some a → IsTaken s.candidates taken t k
@@ -97,6 +107,12 @@ likely_answer None Pop (Some v) = Some (Value v)
 -- the entry is more than a refusal of a pending call
 abbrev pub IsOfUse : List (List Called) → Placed → Type 0
 IsOfUse h e = (c : Called) → call_at h e.thread e.number ≡ Some c → c.answer ≡ None → e.answer ≡ model.Refused → ⊥
+
+-- where the candidate can be the next of what completes the order, the answer is the one that it has there
+abbrev pub FindsNext : Problem → Configuration → Candidate → Option model.Answer → Type 0
+FindsNext s at next answer =
+    (i : ℕ) (e : Placed) (rest : List Placed) → slice_get s.candidates i ≡ Some next → e.thread ≡ next.thread → e.number ≡ next.call
+    → IsOfUse s.history e → Completes s at (e ∷ rest) → answer ≡ Some e.answer
 
 -- what the queue holds after the call
 abbrev pub items_after : List ℕ → CallKind → Answer → List ℕ

@@ -7,7 +7,7 @@ ghost use Rattle.tso_model.specs.Linear.{placed_calls};
 ghost use Rattle.tso_model.specs.Objects.{QueueSteps};
 ghost use Rattle.tso_prog.specs.Views.{mode_view};
 ghost use Rattle.tso_fifo.specs.Orders.{IsOrderOf, order_view};
-ghost use Rattle.tso_fifo.specs.Check.{HasAllReturned, IsApart, IsBegun};
+ghost use Rattle.tso_fifo.specs.Check.{HasAllReturned, HasReturned, IsAllowed, IsApart, IsBegun};
 
 use crate::contents::{pushed_at, pushed_count, taken_by};
 use crate::queue::Queue;
@@ -75,8 +75,7 @@ fn has_placed(order: &[Placed], placed: &Placed) -> bool
 
 // The returned ones of these calls of a thread are in the order, with their answers.
 fn has_returned_of(thread: usize, calls: &[Call], order: &[Placed]) -> bool
-    ensures { IsTrue result ↔ ((k : ℕ) (c : BegunCall) (a : CallAnswer) → slice_get calls.now k ≡ Some c
-        → c.answer ≡ Some a → Contains order.now (record { thread = thread; call = k; answer = a })) }
+    ensures { IsTrue result ↔ HasReturned thread calls.now order.now }
 {
     for (call, c) in calls.iter().enumerate() {
         if let Some(answer) = c.answer {
@@ -108,8 +107,7 @@ fn has_all_returned(history: &History, order: &[Placed]) -> bool
 // A queue that is empty at first may answer so.
 fn is_allowed(history: &History, queue: Queue, order: &[Placed]) -> bool
     requires { All (IsBegun history.now) order.now }
-    ensures { IsTrue result ↔ ((after : List ℕ)
-        × QueueSteps (mode_view queue.mode) queue.capacity [] (placed_calls (order_view (history_view history.now) order.now)) after) }
+    ensures { IsTrue result ↔ IsAllowed queue (history_view history.now) order.now }
 {
     let mut taken = 0;
     for i in 0..order.len() {

@@ -1,7 +1,7 @@
 //! What a bounded queue may answer.
 ghost use Rattle.std.specs.Prelude.{◌≡◌, ◌↔◌, ℕ, List, length, slice_get, IsTrue};
-ghost use Rattle.tso_model.specs.Objects.{MayRefuse, QueueStep};
-ghost use Rattle.tso_prog.specs.Views.{answer_view, call_view, mode_view};
+ghost use Rattle.tso_model.specs.Objects.{MayRefuse};
+ghost use Rattle.tso_prog.specs.Views.{call_view, mode_view};
 
 use tso_line::{CallKind, Mode};
 use tso_prog::Answer;
@@ -14,6 +14,8 @@ pub(crate) struct Queue {
 }
 
 impl Queue {
+    ghost use Rattle.tso_fifo.specs.Check.{MayAnswer};
+
     // With `len` items it may refuse the call.
     fn may_refuse(self, len: usize, kind: CallKind) -> bool
         ensures { (items : List ℕ) → length items ≡ len → IsTrue result ↔ MayRefuse (mode_view self.mode) self.capacity items (call_view kind) }
@@ -33,8 +35,7 @@ impl Queue {
         kind: CallKind,
         answer: Answer,
     ) -> bool
-        ensures { (items : List ℕ) → length items ≡ len → slice_get items 0 ≡ front
-            → IsTrue result ↔ ((after : List ℕ) × QueueStep (mode_view self.mode) self.capacity items (call_view kind) (answer_view answer) after) }
+        ensures { (items : List ℕ) → length items ≡ len → slice_get items 0 ≡ front → IsTrue result ↔ MayAnswer self items kind answer }
     {
         match (kind, answer) {
             (_, Answer::Refused) => self.may_refuse(len, kind),

@@ -5,7 +5,7 @@
 ghost use Rattle.std.specs.Prelude.{◌≡◌, ◌↔◌, ℕ, ◌<◌, false, Some, None, List, ◌∷◌, length, IsTrue, IfOk, IfSome, IfNone, OnOk, All, option_map, slice_get};
 ghost use Rattle.tso_fifo.specs.Candidates.{AreCandidates};
 ghost use Rattle.tso_fifo.specs.Orders.{HasOrder, IsOrderOf, order_view};
-ghost use Rattle.tso_fifo.specs.Search.{Completes, HasAllTaken, IsDead, IsDeadKey, IsOfUse, IsStart, Lets, MayBeNext, StandsNext, items_after, key_of, likely_answer, next_at, pops_left, pops_of, problem_of};
+ghost use Rattle.tso_fifo.specs.Search.{Explains, FindsNext, HasAllTaken, IsDead, IsDeadKey, Lets, MayBeNext, StandsNext, StartsWith, items_after, key_of, likely_answer, next_at, pops_left, pops_of, problem_of};
 ghost use Rattle.tso_hist.specs.Views.{history_view};
 ghost use Rattle.tso_model.specs.Linear.{Placed as ModelPlaced};
 ghost use Rattle.tso_prog.specs.Views.{answer_view};
@@ -121,8 +121,7 @@ impl Search<'_> {
         requires all { AreCandidates self.now.candidates.now (history_view self.now.history.now) }
         requires len { length at.now.taken ≡ length self.now.candidates.now }
         ensures sound { IfSome result (λ answer. StandsNext (problem_of self.now.queue self.now.history.now self.now.candidates.now) at.now next answer) }
-        ensures found { (i : ℕ) (e : ModelPlaced) (rest : List ModelPlaced) → slice_get self.now.candidates.now i ≡ Some next → e.thread ≡ next.thread → e.number ≡ next.call
-            → IsOfUse (history_view self.now.history.now) e → Completes (problem_of self.now.queue self.now.history.now self.now.candidates.now) at.now (e ∷ rest) → option_map answer_view result ≡ Some e.answer }
+        ensures found { FindsNext (problem_of self.now.queue self.now.history.now self.now.candidates.now) at.now next (option_map answer_view result) }
     {
         let items = at.items.as_slice();
         let front = items.first().copied();
@@ -206,9 +205,9 @@ impl Search<'_> {
         dead: &mut HashSet<Key>,
     ) -> Result<bool, AllocError>
         requires all { AreCandidates self.now.candidates.now (history_view self.now.history.now) }
-        requires start { IsStart (problem_of self.now.queue self.now.history.now self.now.candidates.now) at.now (order_view (history_view self.now.history.now) order.old) }
+        requires start { StartsWith self.now.queue self.now.history.now self.now.candidates.now at.now order.old }
         requires known { All (IsDeadKey (problem_of self.now.queue self.now.history.now self.now.candidates.now)) dead.old.keys }
-        ensures found { IfOk result (λ found. IsTrue found → IsOrderOf self.now.queue.mode self.now.queue.capacity self.now.history.now (order_view (history_view self.now.history.now) order.new)) }
+        ensures found { IfOk result (λ found. IsTrue found → Explains self.now.queue self.now.history.now order.new) }
         ensures same { IfOk result (λ found. found ≡ false → order.new ≡ order.old) }
         ensures none { IfOk result (λ found. found ≡ false → IsDead (problem_of self.now.queue self.now.history.now self.now.candidates.now) at.now) }
         ensures known { OnOk result (All (IsDeadKey (problem_of self.now.queue self.now.history.now self.now.candidates.now)) dead.new.keys) }

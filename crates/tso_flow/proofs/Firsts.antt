@@ -5,7 +5,8 @@ use Rattle.std.proofs.lemmas.Bool.Decides.{nat_tests}
 use Rattle.tso_line.specs.declared.instruction.Instruction.{Instruction}
 use Rattle.tso_prog.specs.declared.fault.Code.{Code}
 use Rattle.tso_prog.specs.declared.fault.Fault.{Fault}
-use Rattle.tso_flow.specs.Faults.{code_number, is_no_later, IsFirst}
+use Rattle.tso_prog.specs.Codes.{code_number}
+use Rattle.tso_flow.specs.Faults.{is_no_later, IsFirst}
 use Rattle.tso_flow.specs.First.{earlier, Below}
 
 -- ---- the order

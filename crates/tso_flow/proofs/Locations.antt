@@ -2,6 +2,7 @@
 use Rattle.std.proofs.Common.{◌≡◌, ℕ, ◌+◌, ◌<◌, ◌⊎◌, inl, inr, Bool, true, false, not, List, length, refl, sym, subst, arith, below_more, lit<}
 use Rattle.std.specs.Prelude.{Option, Some, None, slice_get, IsTrue}
 use Rattle.std.proofs.lemmas.Option.{slice_get_within}
+use Rattle.std.proofs.lemmas.Bool.{not-true, not_from_false}
 use Rattle.tso_line.specs.declared.instruction.Instruction.{Instruction}
 use Rattle.tso_line.specs.declared.instruction.Register.TheVariants.{Rax, Rbx, Rcx, Rdx, Rsi, Rdi, Rbp, R8, R9, R10, R11, R12, R13, R14, R15}
 use Rattle.tso_prog.specs.declared.client.Client.{Client}
@@ -70,14 +71,6 @@ module _ (kind : ProcedureKind) (steps : List (Instruction ℕ ℕ)) (lines : Li
 
 -- ---- a procedure
 
-not_true : (b : Bool) → not b ≡ true → b ≡ false
-not_true true e = absurd cc
-not_true false e = refl
-
-not_false : (b : Bool) → b ≡ false → not b ≡ true
-not_false true e = absurd cc
-not_false false e = refl
-
 module _ (kind : ProcedureKind) (procedure : Procedure) (f : Fault) where
   shape_fault : ShapeIn procedure.instructions procedure.lines (length procedure.instructions) f → FaultIn kind procedure f
   shape_fault s =
@@ -100,7 +93,7 @@ module _ (kind : ProcedureKind) (procedure : Procedure) (f : Fault) where
       let B : Type 0 = IsTrue (is_back_without_bound r.0 r.1) in
       let C : Type 0 = IsTrue (is_forward_with_bound r.0 r.1) in
       let D : Type 0 = (x : Location) × ReadsUnwritten kind procedure.instructions x r.0 r.1 in
-      let d : D = (s.1, (r.5.1, not_false (is_given kind s.1) s.4, r.5.2)) in
+      let d : D = (s.1, (r.5.1, not_from_false (is_given kind s.1) s.4, r.5.2)) in
       (r.0, r.1, r.3, r.4, subst (λ (c : Code). by_code A B C D c) (sym r.5.0) d)
 
   split : FaultIn kind procedure f → ShapeIn procedure.instructions procedure.lines (length procedure.instructions) f ⊎ ReadOf kind procedure.instructions procedure.lines LOCATIONS 19 f
@@ -114,7 +107,7 @@ module _ (kind : ProcedureKind) (procedure : Procedure) (f : Fault) where
         | past e a ↦ inl (s.0, s.1, lt, s.2, s.3, subst (λ (c : Code). by_code A B C ⊥ c) (sym e) a)
         | back e b ↦ inl (s.0, s.1, lt, s.2, s.3, subst (λ (c : Code). by_code A B C ⊥ c) (sym e) b)
         | forward e d ↦ inl (s.0, s.1, lt, s.2, s.3, subst (λ (c : Code). by_code A B C ⊥ c) (sym e) d)
-        | unwritten e d ↦ let k = listed d.0 in inr (k.0, d.0, k.1, k.2, not_true (is_given kind d.0) d.1.1, (s.0, s.1, lt, s.2, s.3, (e, d.1.0, d.1.2)))
+        | unwritten e d ↦ let k = listed d.0 in inr (k.0, d.0, k.1, k.2, not-true (is_given kind d.0) d.1.1, (s.0, s.1, lt, s.2, s.3, (e, d.1.0, d.1.2)))
       ]
 
 pub first_of_procedure : (kind : ProcedureKind) (procedure : Procedure) (a b : Option Fault) → IsFirst (ShapeIn procedure.instructions procedure.lines (length procedure.instructions)) a → IsFirst (ReadOf kind procedure.instructions procedure.lines LOCATIONS 19) b → IsFirst (FaultIn kind procedure) (earlier a b)

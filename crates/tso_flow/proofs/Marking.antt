@@ -2,22 +2,11 @@
 use Rattle.std.proofs.Common.{◌≡◌, ℕ, ◌+◌, ◌<◌, ◌⊎◌, inl, inr, Bool, true, false, ◌||◌, List, [], ◌∷◌, ◌++◌, length, refl, sym, subst, ◌∙◌, arith}
 use Rattle.std.specs.Prelude.{Option, Some, slice_get}
 use Rattle.std.proofs.Common.{below_more}
+use Rattle.std.proofs.lemmas.Bool.{or_left, or_right, or_cases}
 use Rattle.tso_line.specs.declared.instruction.Instruction.{Instruction}
 use Rattle.tso_flow.specs.declared.location.Location.{Location}
 use Rattle.tso_flow.specs.Paths.{goes_on_from, is_edge, Path, Reaches}
 use Rattle.tso_flow.specs.Marks.{is_marked, AllReached, IsClosed}
-
-or_right : (a b : Bool) → b ≡ true → (a || b) ≡ true
-or_right true b e = refl
-or_right false b e = e
-
-or_left : (a b : Bool) → a ≡ true → (a || b) ≡ true
-or_left true b e = refl
-or_left false b e = absurd cc
-
-or_cases : (a b : Bool) → (a || b) ≡ true → (a ≡ true) ⊎ (b ≡ true)
-or_cases true b e = inl refl
-or_cases false b e = inr e
 
 -- two writes one after the other
 pub either_only : (p q : ℕ → Bool) (old mid new : List Bool) → ((k : ℕ) → is_marked mid k ≡ true → (is_marked old k ≡ true) ⊎ (p k ≡ true)) → ((k : ℕ) → is_marked new k ≡ true → (is_marked mid k ≡ true) ⊎ (q k ≡ true)) → (k : ℕ) → is_marked new k ≡ true → (is_marked old k ≡ true) ⊎ ((p k || q k) ≡ true)

@@ -2,11 +2,13 @@
 use Rattle.std.proofs.Common.{◌≡◌, ℕ, ◌≤◌, Bool, true, false, cond, List, length, refl, sym, subst, arith, lit≤}
 use Rattle.std.specs.Prelude.{Option, Some, None, IsTrue, ◌&&◌, ◌||◌}
 use Rattle.std.proofs.lemmas.Bool.Decides.{nat_tests}
+use Rattle.std.proofs.lemmas.Bool.{or_left, or_right, and_parts, and_from}
 use Rattle.tso_line.specs.declared.instruction.Instruction.{Instruction}
 use Rattle.tso_prog.specs.declared.fault.Code.{Code}
 use Rattle.tso_prog.specs.declared.fault.Code.TheVariants.{E01, E02, E03, E04, E05, E06, E07, E08, E09, E10, E11, E12, E13, E14}
 use Rattle.tso_flow.specs.Paths.{next_of, target_of, is_at, goes_on, Reaches}
-use Rattle.tso_flow.specs.Faults.{is_back_without_bound, is_forward_with_bound, GoesPastEnd, by_code, code_number}
+use Rattle.tso_prog.specs.Codes.{code_number}
+use Rattle.tso_flow.specs.Faults.{is_back_without_bound, is_forward_with_bound, GoesPastEnd, by_code}
 use Rattle.tso_flow.specs.First.{is_past, goes_past, shape_code, ShapeAt}
 
 -- ---- codes
@@ -79,14 +81,6 @@ lowest false false false A to from = λ code h. elim (cases A (IsTrue false) (Is
 
 -- ---- positions past the end
 
-or_left : (a b : Bool) → a ≡ true → (a || b) ≡ true
-or_left true b e = refl
-or_left false b e = absurd cc
-
-or_right : (a b : Bool) → b ≡ true → (a || b) ≡ true
-or_right true b e = refl
-or_right false b e = e
-
 past_there : (n : ℕ) (o : Option ℕ) → is_past n o ≡ true → (j : ℕ) × (is_at o j ≡ true) × (n ≤ j)
 past_there n None e = absurd cc
 past_there n (Some t) e = (t, grind (arith, nat_tests), grind (arith, nat_tests))
@@ -110,14 +104,6 @@ past_of n i step j e le = at (is_at (next_of step i) j) refl
     at : (b : Bool) → is_at (next_of step i) j ≡ b → (is_past n (next_of step i) || is_past n (target_of step)) ≡ true
     at true f = or_left (is_past n (next_of step i)) (is_past n (target_of step)) (past_from n (next_of step i) j f le)
     at false f = or_right (is_past n (next_of step i)) (is_past n (target_of step)) (past_from n (target_of step) j (subst (λ (b : Bool). (b || is_at (target_of step) j) ≡ true) f e) le)
-
-and_parts : (a b : Bool) → (a && b) ≡ true → (a ≡ true) × (b ≡ true)
-and_parts true b e = (refl, e)
-and_parts false b e = absurd cc
-
-and_from : (a b : Bool) → a ≡ true → b ≡ true → (a && b) ≡ true
-and_from true b e f = f
-and_from false b e f = absurd cc
 
 -- ---- one instruction
 

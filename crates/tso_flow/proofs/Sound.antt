@@ -1,7 +1,7 @@
 -- From no fault to the promises of each procedure.
 use Rattle.std.proofs.Common.{◌≡◌, ℕ, ◌<◌, inl, inr, Bool, true, false, not, length, get_or, refl, arith}
 use Rattle.std.specs.Prelude.{Some, slice_get}
-use Rattle.std.proofs.lemmas.Bool.{cases_lt}
+use Rattle.std.proofs.lemmas.Bool.{cases_lt, false_from_ne_true, not_from_false}
 use Rattle.std.proofs.lemmas.Option.{slice_get-get_or, slice_get_within}
 use Rattle.tso_line.specs.declared.instruction.Instruction.{Instruction}
 use Rattle.tso_prog.specs.declared.client.Client.{Client}
@@ -13,14 +13,6 @@ use Rattle.tso_flow.specs.Accesses.{is_given}
 use Rattle.tso_flow.specs.Faults.{is_back_without_bound, is_forward_with_bound, FaultIn, HasNoFault}
 use Rattle.tso_flow.specs.Calls.{procedure_of_kind}
 use Rattle.tso_flow.specs.Laws.{StaysWithin, HasBounds, ReadsWritten}
-
-false_from : (b : Bool) → (b ≡ true → ⊥) → b ≡ false
-false_from true f = absurd (f refl)
-false_from false f = refl
-
-true_from : (b : Bool) → b ≡ false → not b ≡ true
-true_from true e = absurd cc
-true_from false e = refl
 
 line_of : (procedure : Procedure) (i : ℕ) (step : Instruction ℕ ℕ) → slice_get procedure.instructions i ≡ Some step → slice_get procedure.lines i ≡ Some (get_or procedure.lines i 0)
 line_of procedure i step e =
@@ -43,11 +35,11 @@ module _ (client : Client) (kind : ProcedureKind) (sound : HasNoFault client) wh
   pub has_bounds : HasBounds (procedure_of_kind client kind)
   has_bounds i step e =
       let p : Procedure = procedure_of_kind client kind in (
-        false_from (is_back_without_bound i step) (λ b. none_in (record { code = E12; line = get_or p.lines i 0 }) (i, step, line_of p i step e, e, b)),
-        false_from (is_forward_with_bound i step) (λ b. none_in (record { code = E13; line = get_or p.lines i 0 }) (i, step, line_of p i step e, e, b)),
+        false_from_ne_true (is_back_without_bound i step) (λ b. none_in (record { code = E12; line = get_or p.lines i 0 }) (i, step, line_of p i step e, e, b)),
+        false_from_ne_true (is_forward_with_bound i step) (λ b. none_in (record { code = E13; line = get_or p.lines i 0 }) (i, step, line_of p i step e, e, b)),
       )
 
   pub reads_written : ReadsWritten kind (procedure_of_kind client kind)
   reads_written i step x e r g path =
       let p : Procedure = procedure_of_kind client kind in
-      none_in (record { code = E14; line = get_or p.lines i 0 }) (i, step, line_of p i step e, e, (x, (r, true_from (is_given kind x) g, path)))
+      none_in (record { code = E14; line = get_or p.lines i 0 }) (i, step, line_of p i step e, e, (x, (r, not_from_false (is_given kind x) g, path)))

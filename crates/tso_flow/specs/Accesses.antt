@@ -20,7 +20,7 @@ use Rattle.tso_flow.specs.declared.location.ProcedureKind.TheVariants.{Push, Pop
 
 -- ---- registers
 
--- the place of a register in the order of registers
+-- the position of a register in the order of registers
 abbrev pub register_number : Register → ℕ
 register_number Rax = 0
 register_number Rbx = 1

@@ -5,8 +5,9 @@ use Rattle.tso_line.specs.declared.instruction.Instruction.TheVariants.{Jump}
 use Rattle.tso_prog.specs.declared.client.Client.{Client}
 use Rattle.tso_prog.specs.declared.client.Procedure.{Procedure}
 use Rattle.tso_prog.specs.declared.fault.Code.{Code}
-use Rattle.tso_prog.specs.declared.fault.Code.TheVariants.{E01, E02, E03, E04, E05, E06, E07, E08, E09, E10, E11, E12, E13, E14}
+use Rattle.tso_prog.specs.declared.fault.Code.TheVariants.{E11, E12, E13, E14}
 use Rattle.tso_prog.specs.declared.fault.Fault.{Fault}
+use Rattle.tso_prog.specs.Codes.{code_number}
 use Rattle.tso_flow.specs.declared.location.Location.{Location}
 use Rattle.tso_flow.specs.declared.location.ProcedureKind.{ProcedureKind}
 use Rattle.tso_flow.specs.Accesses.{reads, is_given}
@@ -55,23 +56,6 @@ FaultIn kind procedure fault = (i : ℕ) × (step : Instruction ℕ ℕ) × (sli
 -- the fault stands in one of the client's procedures
 abbrev pub HasFault : Client → Fault → Type 0
 HasFault client fault = (kind : ProcedureKind) × FaultIn kind (procedure_of_kind client kind) fault
-
--- the number of a code
-abbrev pub code_number : Code → ℕ
-code_number E01 = 1
-code_number E02 = 2
-code_number E03 = 3
-code_number E04 = 4
-code_number E05 = 5
-code_number E06 = 6
-code_number E07 = 7
-code_number E08 = 8
-code_number E09 = 9
-code_number E10 = 10
-code_number E11 = 11
-code_number E12 = 12
-code_number E13 = 13
-code_number E14 = 14
 
 -- by line, and then by number
 unfoldable pub is_no_later : Fault → Fault → Bool

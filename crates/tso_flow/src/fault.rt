@@ -3,7 +3,7 @@
 ghost use Rattle.std.specs.Prelude.{◌≡◌, ◌+◌, ◌<◌, ◌≤◌, ◌↔◌, ℕ, true, length, IfOk, IsTrue, Some, None, slice_get};
 ghost use Rattle.tso_flow.specs.Paths.{goes_on, Reaches};
 ghost use Rattle.tso_flow.specs.Marks.{is_marked};
-ghost use Rattle.tso_flow.specs.Faults.{is_back_without_bound, is_forward_with_bound, FaultIn, HasFault, IsFirst, code_number, is_no_later};
+ghost use Rattle.tso_flow.specs.Faults.{is_back_without_bound, is_forward_with_bound, FaultIn, HasFault, IsFirst, is_no_later};
 ghost use Rattle.tso_flow.specs.First.{earlier, is_past, goes_past, shape_code, ShapeIn, ReadIn, ReadOf, AreExact};
 
 use crate::location::{LOCATIONS, Location, ProcedureKind};
@@ -12,34 +12,12 @@ use std::alloc::{AllocError, Global};
 use tso_line::Instruction;
 use tso_prog::{Client, Code, Fault, Procedure, Step};
 
-// The number of a code.
-fn number(code: Code) -> u8
-    ensures { result ≡ code_number code }
-{
-    match code {
-        Code::E01 => 1,
-        Code::E02 => 2,
-        Code::E03 => 3,
-        Code::E04 => 4,
-        Code::E05 => 5,
-        Code::E06 => 6,
-        Code::E07 => 7,
-        Code::E08 => 8,
-        Code::E09 => 9,
-        Code::E10 => 10,
-        Code::E11 => 11,
-        Code::E12 => 12,
-        Code::E13 => 13,
-        Code::E14 => 14,
-    }
-}
-
 #[tactic(auto, unfolding(crate::specs::Faults::is_no_later))]
 // Whether the first of two faults stands on an earlier line, or on the same with no greater number.
 fn is_no_later(a: Fault, b: Fault) -> bool
     ensures { result ≡ is_no_later a b }
 {
-    a.line < b.line || a.line == b.line && number(a.code) <= number(b.code)
+    a.line < b.line || a.line == b.line && a.code.number() <= b.code.number()
 }
 
 // The first of two faults, if there is one.

@@ -1,7 +1,7 @@
 //! Clients whose control flow is sound.
 
-ghost use Rattle.std.specs.Prelude.{◌≡◌, ◌<◌, length, slice_get, Some, IfOk, IfErr};
-ghost use Rattle.tso_flow.specs.Calls.{calls_of_client, procedure_of, procedure_of_kind, step_limit};
+ghost use Rattle.std.specs.Prelude.{◌≡◌, IfOk, IfErr};
+ghost use Rattle.tso_flow.specs.Calls.{procedure_of_kind, step_limit};
 ghost use Rattle.tso_flow.specs.Laws.{StaysWithin, HasBounds, ReadsWritten};
 ghost use Rattle.tso_flow.specs.Faults.{HasNoFault};
 ghost use Rattle.tso_flow.specs.First.{IsRefusal};
@@ -12,8 +12,7 @@ use crate::limit;
 use crate::location::ProcedureKind;
 use std::alloc::{AllocError, Global};
 use thiserror::Error;
-use tso_line::CallKind;
-use tso_prog::{Client, Fault, Procedure};
+use tso_prog::{Client, Fault};
 
 /// A client in which no fault of control flow stands: control never runs past a procedure's end, each jump back has
 /// a bound and no jump forward has one, and no path reads a register or a flag before it writes it.
@@ -57,43 +56,6 @@ pub fn check(alloc: Global, client: Client) -> Result<Checked, FlowError>
 }
 
 impl Checked {
-    /// The client that was checked.
-    pub fn client(&self) -> &Client
-        ensures { result.now ≡ self.now.client }
-    {
-        &self.client
-    }
-
-    /// The procedure that a call runs.
-    pub fn procedure(&self, call: CallKind) -> &Procedure
-        ensures { result.now ≡ procedure_of self.now.client call }
-    {
-        match call {
-            CallKind::Push(_) => &self.client.push,
-            CallKind::Pop => &self.client.pop,
-        }
-    }
-
-    /// How many threads there are: those of the client, and one more for the prologue where there is one.
-    pub fn thread_count(&self) -> usize
-        ensures { result ≡ length (calls_of_client self.now.client) }
-    {
-        self.client.threads.len() + usize::from(self.client.prologue.len() > 0)
-    }
-
-    /// The calls of a thread. The prologue's number is the count of the other threads.
-    pub fn calls(&self, thread: usize) -> &[CallKind]
-        requires { thread < length (calls_of_client self.now.client) }
-        ensures { slice_get (calls_of_client self.now.client) thread ≡ Some result.now }
-    {
-        let threads = self.client.threads.as_slice();
-        if thread < threads.len() {
-            threads[thread].as_slice()
-        } else {
-            self.client.prologue.as_slice()
-        }
-    }
-
     /// How many steps a run of the client can take at most: over all calls, the prologue's too, the sum of
     /// `5 * n * (1 + b) + 2`, where the call's procedure has `n` instructions and the sum of its bounds is `b`.
     pub fn step_limit(&self) -> u64

@@ -2,7 +2,7 @@
 
 ghost use Rattle.std.specs.Prelude.{◌≡◌, ◌+◌, ◌<◌, ◌≤◌, ◌↔◌, ◌⊎◌, ℕ, true, false, length, IfOk, IsTrue, Some};
 ghost use Rattle.tso_flow.specs.Paths.{next_of, target_of, is_at, goes_on, goes_on_from, leaves, Reaches};
-ghost use Rattle.tso_flow.specs.Marks.{is_marked, unmarked, Keeps, AllReached, IsClosed};
+ghost use Rattle.tso_flow.specs.Marks.{is_marked, unmarked, Keeps, AllReached, IsClosed, HasSuccessors, MarksSuccessors};
 
 use crate::access;
 use crate::location::Location;
@@ -85,9 +85,9 @@ fn mark_successors(marks: &mut [bool], i: usize, step: Step) -> bool
 fn advance(marks: &mut [bool], i: usize, step: Step, tracked: Option<Location>) -> bool
     requires { i < length marks.old }
     ensures keeps { Keeps marks.old marks.new }
-    ensures only { (k : ℕ) → is_marked marks.new k ≡ true → (is_marked marks.old k ≡ true) ⊎ ((is_marked marks.old i ≡ true) × (goes_on_from tracked (Some step) i k ≡ true)) }
+    ensures only { MarksSuccessors tracked step i marks.old marks.new }
     ensures new { result ≡ true → unmarked marks.new < unmarked marks.old }
-    ensures old { result ≡ false → (marks.new ≡ marks.old) × ((k : ℕ) → is_marked marks.old i ≡ true → goes_on_from tracked (Some step) i k ≡ true → k < length marks.old → is_marked marks.old k ≡ true) }
+    ensures old { result ≡ false → (marks.new ≡ marks.old) × HasSuccessors tracked step i marks.old }
 {
     marks[i] && leaves(tracked, step) && mark_successors(marks, i, step)
 }

@@ -15,6 +15,11 @@ use Rattle.tso_line.specs.declared.lexeme.Meaning.{Meaning}
 use Rattle.tso_line.specs.declared.lexeme.Meaning.TheVariants as meanings
 use Rattle.tso_line.specs.declared.lexeme.Mnemonic.{Mnemonic}
 use Rattle.tso_line.specs.declared.lexeme.Mnemonic.TheVariants as mnemonics
+use Rattle.tso_line.specs.declared.lexeme.Ranged.{Ranged}
+use Rattle.tso_line.specs.declared.lexeme.Ranged.TheVariants.{Within, OutOfRange}
+use Rattle.tso_line.specs.Ranges.{within}
+use Rattle.tso_line.specs.declared.shape.Offset.{Offset}
+use Rattle.tso_line.specs.declared.shape.Offset.TheVariants.{Absent, By}
 use Rattle.tso_line.specs.declared.shape.Signed.{Signed}
 use Rattle.tso_line.specs.declared.shape.Scaled.{Scaled}
 use Rattle.tso_line.specs.declared.shape.Cell.{Cell}
@@ -41,14 +46,14 @@ source_of (operands.Number n) = Some (raws.Number n)
 source_of _ = None
 
 -- a known register, times 8
-abbrev pub register_times_8 : Meaning → Option ℕ → Option Register
-register_times_8 (meanings.Register r) (Some n) = if n == 8 then Some r else None
+abbrev pub register_times_8 : Meaning → Ranged ℕ → Option Register
+register_times_8 (meanings.Register r) (Within n) = if n == 8 then Some r else None
 register_times_8 _ _ = None
 
-abbrev pub raw_cell : Span → Option Signed → Option Register → RawCell
+abbrev pub raw_cell : Span → Offset → Option Register → RawCell
 raw_cell array offset index = record { array = array; index = index; offset = offset }
 
-abbrev pub indexed : Span → Option Signed → Option Scaled → Option RawCell
+abbrev pub indexed : Span → Offset → Option Scaled → Option RawCell
 indexed array offset None = Some (raw_cell array offset None)
 indexed array offset (Some i) = option_map (λ r. raw_cell array offset (Some r)) (register_times_8 i.register i.scale)
 
@@ -91,12 +96,12 @@ locked_form operation (lists.Two (operands.Memory cell) register) = option_and_t
 locked_form operation _ = None
 
 -- a label, perhaps with a bound
-abbrev pub jump_form : Option Condition → Operands → Option (Option ℕ) → Option Form
+abbrev pub jump_form : Option Condition → Operands → Option (Ranged ℕ) → Option Form
 jump_form when (lists.One (operands.Word target m)) bound = Some (forms.Jump when target bound)
 jump_form when _ bound = None
 
 -- no instruction but a jump has a bound, and lock stands before cmpxchg and xadd alone
-abbrev pub form_by : Bool → Meaning → Option (Option ℕ) → Operands → Option Form
+abbrev pub form_by : Bool → Meaning → Option (Ranged ℕ) → Operands → Option Form
 form_by false (meanings.Mnemonic (mnemonics.Jump when)) bound operands = jump_form when operands bound
 form_by lock (meanings.Mnemonic (mnemonics.Locked operation)) None operands = if lock && not (takes_lock operation) then None else locked_form operation operands
 form_by false (meanings.Mnemonic mnemonic) None operands = plain_form mnemonic operands
@@ -121,7 +126,7 @@ in_range true least greatest m = if nat_le m least then Some ((2 ^ 64 - m) % 2 ^
 in_range false least greatest m = if nat_le m greatest then Some m else None
 
 abbrev pub word_of : ℕ → ℕ → Signed → Option ℕ
-word_of least greatest n = option_and_then (in_range n.negative least greatest) n.magnitude
+word_of least greatest n = option_and_then (in_range n.negative least greatest) (within n.magnitude)
 
 -- from -2^31 to 2^31-1, sign-extended
 abbrev pub narrow : Signed → Option ℕ
@@ -139,20 +144,20 @@ signed_number false m = pos m
 abbrev pub cells_at : Bool → ℕ → Option ℤ
 cells_at negative m = if m % 8 == 0 && nat_le m (if negative then 2 ^ 31 else 2 ^ 31 - 1) then Some (signed_number negative (m / 8)) else None
 
-abbrev pub cells_of : Option Signed → Option ℤ
-cells_of None = Some (pos 0)
-cells_of (Some n) = option_and_then (cells_at n.negative) n.magnitude
+abbrev pub cells_of : Offset → Option ℤ
+cells_of Absent = Some (pos 0)
+cells_of (By n) = option_and_then (cells_at n.negative) (within n.magnitude)
 
 abbrev pub address_of_cell : RawCell → Option (Address Span)
 address_of_cell c = option_map (λ offset. record { array = c.array; index = c.index; offset = offset }) (cells_of c.offset)
 
 -- from 0 to 15
-abbrev pub bound_at : Option ℕ → Option (Option ℕ)
-bound_at None = None
-bound_at (Some n) = if nat_le n 15 then Some (Some n) else None
+abbrev pub bound_at : Ranged ℕ → Ranged (Option ℕ)
+bound_at OutOfRange = OutOfRange
+bound_at (Within n) = if nat_le n 15 then Within (Some n) else OutOfRange
 
-abbrev pub bound_value : Option (Option ℕ) → Option (Option ℕ)
-bound_value None = Some None
+abbrev pub bound_value : Option (Ranged ℕ) → Ranged (Option ℕ)
+bound_value None = Within None
 bound_value (Some n) = bound_at n
 
 -- the instruction of a form, if its numbers are in range; a word moved to a register has 64 bits
@@ -165,7 +170,7 @@ instruction_of (forms.Compute operation to from) = option_map (instructions.Comp
 instruction_of (forms.Compare comparison left right) = option_map (instructions.Compare comparison left) (from_of right)
 instruction_of (forms.Increment to) = Some (instructions.Increment to)
 instruction_of (forms.Decrement to) = Some (instructions.Decrement to)
-instruction_of (forms.Jump when target bound) = option_map (instructions.Jump when target) (bound_value bound)
+instruction_of (forms.Jump when target bound) = option_map (instructions.Jump when target) (within (bound_value bound))
 instruction_of (forms.Assert c) = Some (instructions.Assert c)
 instruction_of (forms.Locked operation cell register) = option_map (λ a. instructions.Locked operation a register) (address_of_cell cell)
 instruction_of forms.Fence = Some instructions.Fence

@@ -5,6 +5,9 @@ use Rattle.tso_line.specs.declared.lexeme.Lexeme.{Lexeme}
 use Rattle.tso_line.specs.declared.lexeme.Lexeme.TheVariants as lexemes
 use Rattle.tso_line.specs.declared.lexeme.Meaning.{Meaning}
 use Rattle.tso_line.specs.declared.lexeme.Meaning.TheVariants as meanings
+use Rattle.tso_line.specs.declared.lexeme.Ranged.{Ranged}
+use Rattle.tso_line.specs.declared.shape.Offset.{Offset}
+use Rattle.tso_line.specs.declared.shape.Offset.TheVariants as offsets
 use Rattle.tso_line.specs.declared.shape.Signed.{Signed}
 use Rattle.tso_line.specs.declared.shape.Cell.{Cell}
 use Rattle.tso_line.specs.declared.shape.Operand.{Operand}
@@ -17,7 +20,7 @@ abbrev pub is_comma : Lexeme → Bool
 is_comma lexemes.Comma = true
 is_comma _ = false
 
-abbrev pub signed : Bool → Option ℕ → Signed
+abbrev pub signed : Bool → Ranged ℕ → Signed
 signed negative magnitude = record { negative = negative; magnitude = magnitude }
 
 -- a number, and a minus before it
@@ -27,10 +30,10 @@ signed_of (lexemes.Minus ∷ lexemes.Number n ∷ []) = Some (signed true n)
 signed_of _ = None
 
 -- `]`, `+ D ]` or `- D ]`
-abbrev pub offset_of : List Lexeme → Option (Option Signed)
-offset_of (lexemes.Close ∷ []) = Some None
-offset_of (lexemes.Plus ∷ lexemes.Number n ∷ lexemes.Close ∷ []) = Some (Some (signed false n))
-offset_of (lexemes.Minus ∷ lexemes.Number n ∷ lexemes.Close ∷ []) = Some (Some (signed true n))
+abbrev pub offset_of : List Lexeme → Option Offset
+offset_of (lexemes.Close ∷ []) = Some offsets.Absent
+offset_of (lexemes.Plus ∷ lexemes.Number n ∷ lexemes.Close ∷ []) = Some (offsets.By (signed false n))
+offset_of (lexemes.Minus ∷ lexemes.Number n ∷ lexemes.Close ∷ []) = Some (offsets.By (signed true n))
 offset_of _ = None
 
 -- `NAME`, and then perhaps `+ WORD * N`, and then an offset
@@ -78,19 +81,19 @@ operands_of (l ∷ ls) = operands_after lists.Zero (pieces (l ∷ ls))
 
 -- ---- instructions
 
-abbrev pub bound_in : List Lexeme → Option (Option ℕ)
+abbrev pub bound_in : List Lexeme → Option (Ranged ℕ)
 bound_in (lexemes.Word s meanings.Bound ∷ lexemes.Number n ∷ []) = Some n
 bound_in _ = None
 
 -- `bound N` at the end
-abbrev pub bound_of : List Lexeme → Option (Option ℕ)
+abbrev pub bound_of : List Lexeme → Option (Ranged ℕ)
 bound_of ls = bound_in (drop (length ls - 2) ls)
 
 -- what stands before it
 abbrev pub before_bound : List Lexeme → List Lexeme
 before_bound ls = if is_some (bound_of ls) then take (length ls - 2) ls else ls
 
-abbrev pub statement : Bool → Meaning → Option (Option ℕ) → Operands → Statement
+abbrev pub statement : Bool → Meaning → Option (Ranged ℕ) → Operands → Statement
 statement lock mnemonic bound operands = record { lock = lock; mnemonic = mnemonic; operands = operands; bound = bound }
 
 abbrev pub unlocked_of : Bool → List Lexeme → Option Statement

@@ -1,3 +1,4 @@
+pub mod Ranges
 pub mod Instructions
 pub mod Lines
 pub mod Lexemes
@@ -5,3 +6,4 @@ pub mod Forms
 pub mod Reading
 pub mod Proper
 pub mod Words
+pub mod Vocabulary

@@ -2,6 +2,7 @@
 use Rattle.std.specs.Prelude.{ℕ, ◌-◌, ◌^◌, Bool, true, false, ◌&&◌, ◌||◌, ◌==◌, nat_lt, nat_le, List, [], ◌∷◌, length, Option, Some, None, ℤ, pos, negsuc}
 use Rattle.std.specs.List.{list_all}
 use Rattle.std.specs.Char.{is_ascii_digit, is_ascii_alphabetic}
+use Rattle.tso_text.specs.Bytes.{underscore}
 use Rattle.tso_line.specs.declared.instruction.CallKind.{CallKind}
 use Rattle.tso_line.specs.declared.instruction.CallKind.TheVariants as calls
 use Rattle.tso_line.specs.declared.instruction.Source.{Source}
@@ -13,7 +14,7 @@ use Rattle.tso_line.specs.Lines.{Line, capacity, array, instruction, before, thr
 -- ---- names
 
 abbrev pub is_letter : ℕ → Bool
-is_letter b = is_ascii_alphabetic b || b == 95
+is_letter b = is_ascii_alphabetic b || b == underscore
 
 abbrev pub goes_on : ℕ → Bool
 goes_on b = is_letter b || is_ascii_digit b
@@ -70,11 +71,6 @@ is_in_range _ = true
 abbrev pub is_call : CallKind → Bool
 is_call (calls.Push w) = is_word w
 is_call calls.Pop = true
-
--- nothing, or what passes
-abbrev pub or_none : {A : Type 0} → (A → Bool) → Option A → Bool
-or_none p None = true
-or_none p (Some x) = p x
 
 -- at least one call, with their arguments in range
 abbrev pub are_calls : List CallKind → Bool

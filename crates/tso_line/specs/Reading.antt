@@ -14,6 +14,11 @@ use Rattle.tso_line.specs.declared.lexeme.Meaning.TheVariants as meanings
 use Rattle.tso_line.specs.declared.line.Kind.{Kind}
 use Rattle.tso_line.specs.declared.line.Kind.TheVariants as kinds
 use Rattle.tso_line.specs.declared.line.Slip.TheVariants as slips
+use Rattle.tso_line.specs.declared.lexeme.Ranged.{Ranged}
+use Rattle.tso_line.specs.declared.lexeme.Ranged.TheVariants.{Within, OutOfRange}
+use Rattle.tso_line.specs.Ranges.{all_within, ranged}
+use Rattle.tso_line.specs.declared.reading.Calls.{Calls}
+use Rattle.tso_line.specs.declared.reading.Calls.TheVariants as cases
 use Rattle.tso_line.specs.declared.shape.Statement.{Statement}
 use Rattle.tso_line.specs.declared.form.Form.{Form}
 use Rattle.tso_line.specs.Instructions.{renamed}
@@ -22,13 +27,17 @@ use Rattle.tso_line.specs.Forms.{word_of, form_of, lacks_lock, instruction_of, t
 use Rattle.tso_line.specs.Lines.{Name, Line, misshapen, wrong, capacity, mode, array, push, pop, end, label, instruction, before, thread}
 
 -- a value from -2^63 to 2^64-1
-abbrev pub value_of : List Lexeme → Option (Option ℕ)
-value_of ls = option_map (word_of (2 ^ 63) (2 ^ 64 - 1)) (signed_of ls)
+abbrev pub value_of : List Lexeme → Option (Ranged ℕ)
+value_of ls = option_map (λ n. ranged (word_of (2 ^ 63) (2 ^ 64 - 1) n)) (signed_of ls)
 
 -- `push V` or `pop`
-abbrev pub call_of : List Lexeme → Option (Option CallKind)
-call_of (lexemes.Word s meanings.Pop ∷ []) = Some (Some calls.Pop)
-call_of (lexemes.Word s meanings.Push ∷ rest) = option_map (λ w. option_map calls.Push w) (value_of rest)
+abbrev pub push_of : Ranged ℕ → Ranged CallKind
+push_of (Within w) = Within (calls.Push w)
+push_of OutOfRange = OutOfRange
+
+abbrev pub call_of : List Lexeme → Option (Ranged CallKind)
+call_of (lexemes.Word s meanings.Pop ∷ []) = Some (Within calls.Pop)
+call_of (lexemes.Word s meanings.Push ∷ rest) = option_map push_of (value_of rest)
 call_of _ = None
 
 -- each piece read, if each has the shape
@@ -36,46 +45,55 @@ unfoldable pub each : {A : Type 0} → (List Lexeme → Option A) → List (List
 each f [] = Some []
 each f (p ∷ ps) = option_and_then (λ x. option_map (λ xs. x ∷ xs) (each f ps)) (f p)
 
--- the values, if each is in range
-unfoldable pub all_some : {A : Type 0} → List (Option A) → Option (List A)
-all_some [] = Some []
-all_some (x ∷ xs) = option_and_then (λ y. option_map (λ ys. y ∷ ys) (all_some xs)) x
-
 abbrev pub number_wrong : Line
 number_wrong = wrong kinds.Array slips.Number
 
 -- without values all are 0
-abbrev pub array_line : Name → Option ℕ → Line
-array_line name None = number_wrong
-array_line name (Some len) = if nat_le 1 len && nat_le len 256 then array name (replicate len 0) else number_wrong
+abbrev pub array_line : Name → Ranged ℕ → Line
+array_line name OutOfRange = number_wrong
+array_line name (Within len) = if nat_le 1 len && nat_le len 256 then array name (replicate len 0) else number_wrong
 
 abbrev pub array_of_all : Name → Option (List ℕ) → Line
 array_of_all name None = number_wrong
 array_of_all name (Some words) = array name words
 
-abbrev pub counted : Option ℕ → ℕ → Bool
-counted None n = false
-counted (Some len) n = len == n
+-- the length is this count
+abbrev pub is_counted : Ranged ℕ → ℕ → Bool
+is_counted OutOfRange n = false
+is_counted (Within len) n = len == n
 
 -- a wrong count of values comes before a number out of range
-abbrev pub values_line : Name → Option ℕ → List (Option ℕ) → Line
+abbrev pub values_line : Name → Ranged ℕ → List (Ranged ℕ) → Line
 values_line name len values =
-    if counted len (length values) then (if nat_le (length values) 256 then array_of_all name (all_some values) else number_wrong)
+    if is_counted len (length values) then (if nat_le (length values) 256 then array_of_all name (all_within values) else number_wrong)
     else wrong kinds.Array slips.Count
 
-abbrev pub values_or_none : Name → Option ℕ → Option (List (Option ℕ)) → Line
+abbrev pub values_or_none : Name → Ranged ℕ → Option (List (Ranged ℕ)) → Line
 values_or_none name len None = misshapen
 values_or_none name len (Some values) = values_line name len values
 
+-- calls that are in their range, or one is not
+abbrev pub calls_in_range : Option (List CallKind) → Calls
+calls_in_range None = cases.OutOfRange
+calls_in_range (Some calls) = cases.Are calls
+
+abbrev pub calls_if : Option (List (Ranged CallKind)) → Calls
+calls_if None = cases.Misshapen
+calls_if (Some calls) = calls_in_range (all_within calls)
+
 -- calls between commas, if each is one; none of them where a value is out of its range
-abbrev pub calls_of : List Lexeme → Option (Option (List CallKind))
-calls_of ls = option_map all_some (each call_of (pieces ls))
+abbrev pub calls_of : List Lexeme → Calls
+calls_of ls = calls_if (each call_of (pieces ls))
+
+abbrev pub IfCalls : Calls → (List CallKind → Type 0) → Type 0
+IfCalls (cases.Are calls) P = P calls
+IfCalls _ P = Unit {0}
 
 -- a line of calls of this kind
-abbrev pub calls_line : Kind → (List CallKind → Line) → Option (Option (List CallKind)) → Line
-calls_line kind make None = misshapen
-calls_line kind make (Some None) = wrong kind slips.Number
-calls_line kind make (Some (Some calls)) = make calls
+abbrev pub calls_line : Kind → (List CallKind → Line) → Calls → Line
+calls_line kind make cases.Misshapen = misshapen
+calls_line kind make cases.OutOfRange = wrong kind slips.Number
+calls_line kind make (cases.Are calls) = make calls
 
 abbrev pub by_instruction : List ℕ → Bool → Option (Instruction Span Span) → Line
 by_instruction source lacks None = wrong kinds.Instruction slips.Number
@@ -93,9 +111,9 @@ by_statement source (Some statement) = by_form source (lacks_lock statement) (fo
 unfoldable pub instruction_line : List ℕ → List Lexeme → Line
 instruction_line source ls = by_statement source (statement_of ls)
 
-abbrev pub capacity_line : Option ℕ → Line
-capacity_line None = wrong kinds.Capacity slips.Number
-capacity_line (Some n) = if nat_le 1 n && nat_le n 16 then capacity n else wrong kinds.Capacity slips.Number
+abbrev pub capacity_line : Ranged ℕ → Line
+capacity_line OutOfRange = wrong kinds.Capacity slips.Number
+capacity_line (Within n) = if nat_le 1 n && nat_le n 16 then capacity n else wrong kinds.Capacity slips.Number
 
 unfoldable pub directive_line : List ℕ → Directive → List Lexeme → Line
 directive_line source directives.Capacity (lexemes.Number n ∷ []) = capacity_line n

@@ -3,13 +3,14 @@
 ghost use Rattle.std.specs.Prelude.{◌≡◌, ◌≤◌, ◌<◌, ◌^◌, IfSome, IsTrue};
 ghost use Rattle.tso_line.specs.Proper.{is_small, is_word, is_narrow, is_near, is_narrow_source, is_in_range};
 ghost use Rattle.tso_line.specs.Instructions.{renamed};
+ghost use Rattle.tso_line.specs.Ranges.{IfWithin};
 ghost use Rattle.tso_line.specs.Forms.{register_of, source_of, raw_cell_of, move_form, plain_form, takes_lock, locked_form, jump_form, form_of, lacks_lock, word_of, narrow, cells_of, address_of_cell, from_of, bound_value, instruction_of, text_at};
 
 use crate::instruction::{
     Address, Comparison, Instruction, LockedOperation, Operation, Register, Source,
 };
-use crate::lexeme::{Meaning, Mnemonic, Span};
-use crate::shape::{Cell, Operand, Operands, Scaled, Signed, Statement};
+use crate::lexeme::{Meaning, Mnemonic, Ranged, Span};
+use crate::shape::{Cell, Offset, Operand, Operands, Scaled, Signed, Statement};
 use tso_word::Condition;
 
 /// A source whose number is not yet in range.
@@ -24,7 +25,7 @@ pub enum RawSource {
 pub struct RawCell {
     pub array: Span,
     pub index: Option<Register>,
-    pub offset: Option<Signed>,
+    pub offset: Offset,
 }
 
 /// An instruction whose words are known, and whose numbers are not yet in range.
@@ -37,7 +38,7 @@ pub enum Form {
     Compare(Comparison, Register, RawSource),
     Increment(Register),
     Decrement(Register),
-    Jump(Option<Condition>, Span, Option<Option<u64>>),
+    Jump(Option<Condition>, Span, Option<Ranged<u64>>),
     Assert(Condition),
     Locked(LockedOperation, RawCell, Register),
     Fence,
@@ -73,7 +74,7 @@ fn raw_cell_of(cell: Cell) -> Option<RawCell>
         Some(
             Scaled {
                 register: Meaning::Register(register),
-                scale: Some(8),
+                scale: Ranged::Within(8),
             },
         ) => Some(register),
         Some(_) => return None,
@@ -146,7 +147,7 @@ fn locked_form(operation: LockedOperation, operands: Operands) -> Option<Form>
 fn jump_form(
     when: Option<Condition>,
     operands: Operands,
-    bound: Option<Option<u64>>,
+    bound: Option<Ranged<u64>>,
 ) -> Option<Form>
     ensures { result ≡ jump_form when operands bound }
 {
@@ -191,7 +192,7 @@ pub fn word_of(number: Signed, least: u64, greatest: u64) -> Option<u64>
     ensures exact { result ≡ word_of least greatest number }
     ensures range { IfSome result (λ w. IsTrue (is_word w)) }
 {
-    let magnitude = number.magnitude?;
+    let magnitude = number.magnitude.within()?;
     if number.negative {
         (magnitude <= least).then_some(0u64.wrapping_sub(magnitude))
     } else {
@@ -218,14 +219,14 @@ fn from_of(source: RawSource) -> Option<Source>
 }
 
 // How many cells an offset of bytes is.
-fn cells_of(offset: Option<Signed>) -> Option<i64>
+fn cells_of(offset: Offset) -> Option<i64>
     ensures exact { result ≡ cells_of offset }
     ensures range { IfSome result (λ n. IsTrue (is_near n)) }
 {
     match offset {
-        None => Some(0),
-        Some(number) => {
-            let magnitude = number.magnitude?;
+        Offset::Absent => Some(0),
+        Offset::By(number) => {
+            let magnitude = number.magnitude.within()?;
             if magnitude % 8 != 0 || narrow(number).is_none() {
                 return None;
             }
@@ -249,14 +250,14 @@ fn address_of_cell(cell: RawCell) -> Option<Address<Span>>
     })
 }
 
-fn bound_value(bound: Option<Option<u64>>) -> Option<Option<u8>>
+fn bound_value(bound: Option<Ranged<u64>>) -> Ranged<Option<u8>>
     ensures exact { result ≡ bound_value bound }
-    ensures small { IfSome result (λ b. IsTrue (is_small b)) }
+    ensures small { IfWithin result (λ b. IsTrue (is_small b)) }
 {
     match bound {
-        None => Some(None),
-        Some(Some(n)) if n <= 15 => Some(Some(n as u8)),
-        Some(_) => None,
+        None => Ranged::Within(None),
+        Some(Ranged::Within(n)) if n <= 15 => Ranged::Within(Some(n as u8)),
+        Some(_) => Ranged::OutOfRange,
     }
 }
 
@@ -297,7 +298,7 @@ pub fn instruction_of(form: Form) -> Option<Instruction<Span, Span>>
         Form::Jump(when, target, bound) => Some(Instruction::Jump {
             when,
             target,
-            bound: bound_value(bound)?,
+            bound: bound_value(bound).within()?,
         }),
         Form::Assert(condition) => Some(Instruction::Assert(condition)),
         Form::Locked(operation, cell, register) => Some(Instruction::Locked {

@@ -1,5 +1,8 @@
 //! Tokens with their meaning.
 
+ghost use Rattle.std.specs.Prelude.{◌≡◌};
+ghost use Rattle.tso_line.specs.Ranges.{ranged, within};
+
 use crate::instruction::{Comparison, LockedOperation, Operation, Register};
 use tso_word::Condition;
 
@@ -8,6 +11,35 @@ use tso_word::Condition;
 pub struct Span {
     pub start: usize,
     pub end: usize,
+}
+
+/// What is well written, if it is in its range.
+#[derive(Clone, Copy, Debug, PartialEq, Eq)]
+pub enum Ranged<T> {
+    Within(T),
+    OutOfRange,
+}
+
+impl<T: Copy + Drop> Ranged<T> {
+    /// It, if it is in its range.
+    pub fn within(self) -> Option<T>
+        ensures { result ≡ within self }
+    {
+        match self {
+            Ranged::Within(it) => Some(it),
+            Ranged::OutOfRange => None,
+        }
+    }
+
+    /// What is there, as in its range.
+    pub fn of(it: Option<T>) -> Ranged<T>
+        ensures { result ≡ ranged it }
+    {
+        match it {
+            Some(it) => Ranged::Within(it),
+            None => Ranged::OutOfRange,
+        }
+    }
 }
 
 /// A word that begins a line and starts with a dot.
@@ -70,8 +102,8 @@ pub enum Meaning {
 pub enum Lexeme {
     Directive(Directive),
     Word(Span, Meaning),
-    /// A well-formed number; none where it is above 2^64 - 1.
-    Number(Option<u64>),
+    /// A well-formed number, in its range up to 2^64 - 1.
+    Number(Ranged<u64>),
     Colon,
     Comma,
     Open,

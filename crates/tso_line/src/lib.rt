@@ -8,6 +8,7 @@ mod line;
 mod names;
 mod reading;
 mod shape;
+mod vocabulary;
 mod words;
 
 pub use instruction::{
@@ -16,4 +17,5 @@ pub use instruction::{
 pub use lexeme::Lexeme;
 pub use line::{Kind, Line, Slip};
 pub use reading::line_of;
+pub use vocabulary::{comparison_word, condition_word, locked_word, operation_word, register_word};
 pub use words::lexeme_of;

@@ -3,49 +3,51 @@
 ghost use Rattle.std.specs.Prelude.{◌≡◌, ◌≤◌, length, replicate, IfOk, IfSome, IsTrue};
 ghost use Rattle.std.specs.List.{list_all};
 ghost use Rattle.tso_line.specs.Words.{has_name};
-ghost use Rattle.tso_line.specs.Proper.{is_name, is_word, is_call, or_none, are_calls, is_proper};
+ghost use Rattle.tso_line.specs.Proper.{is_name, is_word, is_call, are_calls, is_proper};
+ghost use Rattle.tso_line.specs.Ranges.{all_within, or_out};
 ghost use Rattle.std.specs.Option.{option_map};
 ghost use Rattle.tso_line.specs.Lexemes.{pieces};
 ghost use Rattle.tso_line.specs.Forms.{text_at};
 ghost use Rattle.tso_line.specs.declared.line.Kind.TheVariants.{Before, Thread};
 ghost use Rattle.tso_line.specs.Lines.{view, before, thread};
-ghost use Rattle.tso_line.specs.Reading.{value_of, call_of, each, all_some, calls_of, calls_line, array_line, values_line, instruction_line, directive_line, line_of};
+ghost use Rattle.tso_line.specs.Reading.{value_of, call_of, each, calls_of, calls_line, is_counted, IfCalls, array_line, values_line, instruction_line, directive_line, line_of};
 
 use crate::form::{form_of, instruction_of, lacks_lock, named, text_at, word_of};
 use crate::instruction::{CallKind, Mode};
-use crate::lexeme::{Directive, Lexeme, Meaning};
+use crate::lexeme::{Directive, Lexeme, Meaning, Ranged};
 use crate::line::{Kind, Line, Slip};
 use crate::shape::{cut, signed_of, statement_of};
 use std::alloc::{AllocError, Global};
 use tso_list::Seq;
 
-// A value, from -2^63 to 2^64-1: its word, or none where it is out of range.
-fn value_of(lexemes: &[Lexeme]) -> Option<Option<u64>>
+// A value, in its range from -2^63 to 2^64-1, as a word.
+fn value_of(lexemes: &[Lexeme]) -> Option<Ranged<u64>>
     ensures exact { result ≡ value_of lexemes.now }
-    ensures word { IfSome result (λ o. IsTrue (or_none is_word o)) }
+    ensures word { IfSome result (λ o. IsTrue (or_out is_word o)) }
 {
-    Some(word_of(signed_of(lexemes)?, 1 << 63, u64::MAX))
+    let word = word_of(signed_of(lexemes)?, 1 << 63, u64::MAX);
+    Some(Ranged::of(word))
 }
 
 // `push V` or `pop`.
-fn call_of(lexemes: &[Lexeme]) -> Option<Option<CallKind>>
+fn call_of(lexemes: &[Lexeme]) -> Option<Ranged<CallKind>>
     ensures exact { result ≡ call_of lexemes.now }
-    ensures call { IfSome result (λ o. IsTrue (or_none is_call o)) }
+    ensures call { IfSome result (λ o. IsTrue (or_out is_call o)) }
 {
     match lexemes {
-        [Lexeme::Word(_, Meaning::Pop)] => Some(Some(CallKind::Pop)),
+        [Lexeme::Word(_, Meaning::Pop)] => Some(Ranged::Within(CallKind::Pop)),
         [Lexeme::Word(_, Meaning::Push), value @ ..] => match value_of(value)? {
-            Some(word) => Some(Some(CallKind::Push(word))),
-            None => Some(None),
+            Ranged::Within(word) => Some(Ranged::Within(CallKind::Push(word))),
+            Ranged::OutOfRange => Some(Ranged::OutOfRange),
         },
         _ => None,
     }
 }
 
 // The values between commas.
-fn values_of(alloc: Global, lexemes: &[Lexeme]) -> Result<Option<Vec<Option<u64>>>, AllocError>
+fn values_of(alloc: Global, lexemes: &[Lexeme]) -> Result<Option<Vec<Ranged<u64>>>, AllocError>
     ensures nonempty { IfOk result (λ r. IfSome r (λ v. 1 ≤ length v.items)) }
-    ensures words { IfOk result (λ r. IfSome r (λ v. IsTrue (list_all (or_none is_word) v.items))) }
+    ensures words { IfOk result (λ r. IfSome r (λ v. IsTrue (list_all (or_out is_word) v.items))) }
     ensures exact { IfOk result (λ r. option_map (λ v. v.items) r ≡ each value_of (pieces lexemes.now)) }
 {
     let mut values = Vec::new(alloc);
@@ -68,9 +70,9 @@ fn values_of(alloc: Global, lexemes: &[Lexeme]) -> Result<Option<Vec<Option<u64>
 fn calls_between(
     alloc: Global,
     lexemes: &[Lexeme],
-) -> Result<Option<Vec<Option<CallKind>>>, AllocError>
+) -> Result<Option<Vec<Ranged<CallKind>>>, AllocError>
     ensures nonempty { IfOk result (λ r. IfSome r (λ v. 1 ≤ length v.items)) }
-    ensures calls { IfOk result (λ r. IfSome r (λ v. IsTrue (list_all (or_none is_call) v.items))) }
+    ensures calls { IfOk result (λ r. IfSome r (λ v. IsTrue (list_all (or_out is_call) v.items))) }
     ensures exact { IfOk result (λ r. option_map (λ v. v.items) r ≡ each call_of (pieces lexemes.now)) }
 {
     let mut calls = Vec::new(alloc);
@@ -90,16 +92,16 @@ fn calls_between(
 }
 
 // All of the values, if each is in range.
-fn all_some<T: Copy + Drop>(
+fn all_within<T: Copy + Drop>(
     alloc: Global,
-    values: &[Option<T>],
+    values: &[Ranged<T>],
 ) -> Result<Option<Seq<T>>, AllocError>
     ensures len { IfOk result (λ r. IfSome r (λ v. length v ≡ length values.now)) }
-    ensures exact { IfOk result (λ r. r ≡ all_some values.now) }
+    ensures exact { IfOk result (λ r. r ≡ all_within values.now) }
 {
     let mut found = Vec::new(alloc);
     for value in values {
-        let Some(value) = *value else {
+        let Ranged::Within(value) = *value else {
             return Ok(None);
         };
         found.push(value)?;
@@ -115,13 +117,13 @@ fn zeros(alloc: Global, len: usize) -> Result<Seq<u64>, AllocError>
 }
 
 // An array of zeros.
-fn array_line<'a>(alloc: Global, name: &'a [u8], len: Option<u64>) -> Result<Line<'a>, AllocError>
+fn array_line<'a>(alloc: Global, name: &'a [u8], len: Ranged<u64>) -> Result<Line<'a>, AllocError>
     requires { IsTrue (is_name name.now) }
     ensures proper { IfOk result (λ line. IsTrue (is_proper (view line))) }
     ensures exact { IfOk result (λ line. view line ≡ array_line name.now len) }
 {
     match len {
-        Some(len) if 1 <= len && len <= 256 => {
+        Ranged::Within(len) if 1 <= len && len <= 256 => {
             let words = zeros(alloc, len as usize)?;
             Ok(Line::Array { name, words })
         }
@@ -129,63 +131,85 @@ fn array_line<'a>(alloc: Global, name: &'a [u8], len: Option<u64>) -> Result<Lin
     }
 }
 
+// Whether the length is this count.
+fn is_counted(len: Ranged<u64>, count: usize) -> bool
+    ensures { result ≡ is_counted len count }
+{
+    match len {
+        Ranged::Within(len) => len == count as u64,
+        Ranged::OutOfRange => false,
+    }
+}
+
 // An array with its values.
 fn values_line<'a>(
     alloc: Global,
     name: &'a [u8],
-    len: Option<u64>,
-    values: &[Option<u64>],
+    len: Ranged<u64>,
+    values: &[Ranged<u64>],
 ) -> Result<Line<'a>, AllocError>
     requires named { IsTrue (is_name name.now) }
     requires nonempty { 1 ≤ length values.now }
-    requires words { IsTrue (list_all (or_none is_word) values.now) }
+    requires words { IsTrue (list_all (or_out is_word) values.now) }
     ensures proper { IfOk result (λ line. IsTrue (is_proper (view line))) }
     ensures exact { IfOk result (λ line. view line ≡ values_line name.now len values.now) }
 {
-    if len != Some(values.len() as u64) {
+    if !is_counted(len, values.len()) {
         return Ok(Line::Wrong(Kind::Array, Slip::Count));
     }
     if values.len() > 256 {
         return Ok(Line::Wrong(Kind::Array, Slip::Number));
     }
-    match all_some(alloc, values)? {
+    match all_within(alloc, values)? {
         Some(words) => Ok(Line::Array { name, words }),
         None => Ok(Line::Wrong(Kind::Array, Slip::Number)),
     }
 }
 
-// The calls of a line, if each is one: none of them where a value is out of its range.
-fn calls_of(alloc: Global, lexemes: &[Lexeme]) -> Result<Option<Option<Seq<CallKind>>>, AllocError>
-    ensures proper { IfOk result (λ r. IfSome r (λ o. IfSome o (λ v. IsTrue (are_calls v)))) }
-    ensures exact { IfOk result (λ r. r ≡ calls_of lexemes.now) }
+// What stands behind the first word of a line of calls.
+#[derive(Debug, Drop)]
+enum Calls {
+    /// Not only calls between commas.
+    Misshapen,
+    /// Calls, of which one has an argument out of its range.
+    OutOfRange,
+    Are(Seq<CallKind>),
+}
+
+fn calls_of(alloc: Global, lexemes: &[Lexeme]) -> Result<Calls, AllocError>
+    ensures proper { IfOk result (λ c. IfCalls c (λ v. IsTrue (are_calls v))) }
+    ensures exact { IfOk result (λ c. c ≡ calls_of lexemes.now) }
 {
-    match calls_between(alloc, lexemes)? {
-        Some(calls) => Ok(Some(all_some(alloc, &calls)?)),
-        None => Ok(None),
+    let Some(calls) = calls_between(alloc, lexemes)? else {
+        return Ok(Calls::Misshapen);
+    };
+    match all_within(alloc, &calls)? {
+        Some(calls) => Ok(Calls::Are(calls)),
+        None => Ok(Calls::OutOfRange),
     }
 }
 
-fn before_line<'a>(calls: Option<Option<Seq<CallKind>>>) -> Line<'a>
-    requires { IfSome calls (λ o. IfSome o (λ v. IsTrue (are_calls v))) }
+fn before_line<'a>(calls: Calls) -> Line<'a>
+    requires { IfCalls calls (λ v. IsTrue (are_calls v)) }
     ensures proper { IsTrue (is_proper (view result)) }
     ensures exact { view result ≡ calls_line Before before calls }
 {
     match calls {
-        Some(Some(calls)) => Line::Before(calls),
-        Some(None) => Line::Wrong(Kind::Before, Slip::Number),
-        None => Line::Misshapen,
+        Calls::Are(calls) => Line::Before(calls),
+        Calls::OutOfRange => Line::Wrong(Kind::Before, Slip::Number),
+        Calls::Misshapen => Line::Misshapen,
     }
 }
 
-fn thread_line<'a>(calls: Option<Option<Seq<CallKind>>>) -> Line<'a>
-    requires { IfSome calls (λ o. IfSome o (λ v. IsTrue (are_calls v))) }
+fn thread_line<'a>(calls: Calls) -> Line<'a>
+    requires { IfCalls calls (λ v. IsTrue (are_calls v)) }
     ensures proper { IsTrue (is_proper (view result)) }
     ensures exact { view result ≡ calls_line Thread thread calls }
 {
     match calls {
-        Some(Some(calls)) => Line::Thread(calls),
-        Some(None) => Line::Wrong(Kind::Thread, Slip::Number),
-        None => Line::Misshapen,
+        Calls::Are(calls) => Line::Thread(calls),
+        Calls::OutOfRange => Line::Wrong(Kind::Thread, Slip::Number),
+        Calls::Misshapen => Line::Misshapen,
     }
 }
 
@@ -222,7 +246,7 @@ fn directive_line<'a>(
 {
     match (directive, rest) {
         (Directive::Capacity, [Lexeme::Number(n)]) => match *n {
-            Some(n) if 1 <= n && n <= 16 => Ok(Line::Capacity(n as u8)),
+            Ranged::Within(n) if 1 <= n && n <= 16 => Ok(Line::Capacity(n as u8)),
             _ => Ok(Line::Wrong(Kind::Capacity, Slip::Number)),
         },
         (Directive::Mode, [Lexeme::Word(_, Meaning::Strict)]) => Ok(Line::Mode(Mode::Strict)),
@@ -267,7 +291,7 @@ pub fn line_of<'a>(
         [Lexeme::Directive(directive), rest @ ..] => directive_line(
             alloc, source, *directive, rest,
         ),
-        [Lexeme::Word(name, _), Lexeme::Colon] => Ok(Line::Label(text_at(source, *name))),
+        [Lexeme::Word(name, _), Lexeme::Colon] => Ok(Line::Target(text_at(source, *name))),
         _ => Ok(instruction_line(source, lexemes)),
     }
 }

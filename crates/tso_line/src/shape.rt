@@ -5,27 +5,34 @@ ghost use Rattle.std.specs.List.{prefix_len};
 ghost use Rattle.tso_line.specs.declared.shape.Operands.TheVariants.{Zero};
 ghost use Rattle.tso_line.specs.Lexemes.{signed_of, offset_of, cell_of, operand_of, is_comma, pieces, and_operand, operands_after, operands_of, before_bound, bound_of, unlocked_of, statement_of};
 
-use crate::lexeme::{Lexeme, Meaning, Span};
+use crate::lexeme::{Lexeme, Meaning, Ranged, Span};
 
-/// A number with its sign; no magnitude where it is above 2^64 - 1.
+/// A number with its sign.
 #[derive(Clone, Copy, Debug, PartialEq, Eq)]
 pub struct Signed {
     pub negative: bool,
-    pub magnitude: Option<u64>,
+    pub magnitude: Ranged<u64>,
 }
 
 /// An index in a bracket: a word, and the number behind its star.
 #[derive(Clone, Copy, Debug, PartialEq, Eq)]
 pub struct Scaled {
     pub register: Meaning,
-    pub scale: Option<u64>,
+    pub scale: Ranged<u64>,
+}
+
+/// The displacement of a bracket.
+#[derive(Clone, Copy, Debug, PartialEq, Eq)]
+pub enum Offset {
+    Absent,
+    By(Signed),
 }
 
 #[derive(Clone, Copy, Debug, PartialEq, Eq)]
 pub struct Cell {
     pub array: Span,
     pub index: Option<Scaled>,
-    pub offset: Option<Signed>,
+    pub offset: Offset,
 }
 
 #[derive(Clone, Copy, Debug, PartialEq, Eq)]
@@ -60,17 +67,17 @@ pub fn signed_of(lexemes: &[Lexeme]) -> Option<Signed>
     }
 }
 
-// The offset before the closing bracket, if there is one.
-fn offset_of(lexemes: &[Lexeme]) -> Option<Option<Signed>>
+// The offset before the closing bracket.
+fn offset_of(lexemes: &[Lexeme]) -> Option<Offset>
     ensures { result ≡ offset_of lexemes.now }
 {
     match lexemes {
-        [Lexeme::Close] => Some(None),
-        [Lexeme::Plus, Lexeme::Number(magnitude), Lexeme::Close] => Some(Some(Signed {
+        [Lexeme::Close] => Some(Offset::Absent),
+        [Lexeme::Plus, Lexeme::Number(magnitude), Lexeme::Close] => Some(Offset::By(Signed {
             negative: false,
             magnitude: *magnitude,
         })),
-        [Lexeme::Minus, Lexeme::Number(magnitude), Lexeme::Close] => Some(Some(Signed {
+        [Lexeme::Minus, Lexeme::Number(magnitude), Lexeme::Close] => Some(Offset::By(Signed {
             negative: true,
             magnitude: *magnitude,
         })),
@@ -180,8 +187,8 @@ fn operands_of(lexemes: &[Lexeme]) -> Option<Operands>
     }
 }
 
-/// The bound of a jump, at the end of a line: no magnitude where it is above 2^64 - 1.
-fn without_bound(lexemes: &[Lexeme]) -> (&[Lexeme], Option<Option<u64>>)
+/// What stands before the bound of a jump at the end of a line, and the bound, if there is one.
+fn without_bound(lexemes: &[Lexeme]) -> (&[Lexeme], Option<Ranged<u64>>)
     ensures front { result.0.now ≡ before_bound lexemes.now }
     ensures bound { result.1 ≡ bound_of lexemes.now }
 {
@@ -198,7 +205,7 @@ pub struct Statement {
     pub lock: bool,
     pub mnemonic: Meaning,
     pub operands: Operands,
-    pub bound: Option<Option<u64>>,
+    pub bound: Option<Ranged<u64>>,
 }
 
 fn unlocked_of(lock: bool, lexemes: &[Lexeme]) -> Option<Statement>

@@ -8,51 +8,32 @@ ghost use Rattle.tso_line.specs.Forms.{text_at};
 
 use crate::form::text_at;
 use crate::instruction::{Comparison, LockedOperation, Operation, Register};
-use crate::lexeme::{Directive, Lexeme, Meaning, Mnemonic, Span};
+use crate::lexeme::{Directive, Lexeme, Meaning, Mnemonic, Ranged, Span};
+use crate::vocabulary::{
+    COMPARISONS, CONDITIONS, LOCKED_OPERATIONS, OPERATIONS, REGISTERS, comparison_word,
+    condition_word, locked_word, operation_word, register_word,
+};
 use tso_text::{Token, TokenKind};
-use tso_word::{BitOperation, Condition};
+use tso_word::Condition;
 
 #[tactic(auto, unfolding(crate::specs::Words::register_named))]
 fn register_named(text: &[u8]) -> Option<Register>
     ensures { result ≡ register_named text.now }
 {
-    match text {
-        b"rax" => Some(Register::Rax),
-        b"rbx" => Some(Register::Rbx),
-        b"rcx" => Some(Register::Rcx),
-        b"rdx" => Some(Register::Rdx),
-        b"rsi" => Some(Register::Rsi),
-        b"rdi" => Some(Register::Rdi),
-        b"rbp" => Some(Register::Rbp),
-        b"r8" => Some(Register::R8),
-        b"r9" => Some(Register::R9),
-        b"r10" => Some(Register::R10),
-        b"r11" => Some(Register::R11),
-        b"r12" => Some(Register::R12),
-        b"r13" => Some(Register::R13),
-        b"r14" => Some(Register::R14),
-        b"r15" => Some(Register::R15),
-        _ => None,
-    }
+    REGISTERS
+        .iter()
+        .copied()
+        .find(|register| text == register_word(*register).as_bytes())
 }
 
 #[tactic(auto, unfolding(crate::specs::Words::condition_named))]
 fn condition_named(text: &[u8]) -> Option<Condition>
     ensures { result ≡ condition_named text.now }
 {
-    match text {
-        b"e" => Some(Condition::E),
-        b"ne" => Some(Condition::Ne),
-        b"b" => Some(Condition::B),
-        b"ae" => Some(Condition::Ae),
-        b"be" => Some(Condition::Be),
-        b"a" => Some(Condition::A),
-        b"l" => Some(Condition::L),
-        b"ge" => Some(Condition::Ge),
-        b"le" => Some(Condition::Le),
-        b"g" => Some(Condition::G),
-        _ => None,
-    }
+    CONDITIONS
+        .iter()
+        .copied()
+        .find(|condition| text == condition_word(*condition).as_bytes())
 }
 
 // A `j` before a condition.
@@ -69,40 +50,27 @@ fn jump_named(text: &[u8]) -> Option<Mnemonic>
 fn operation_named(text: &[u8]) -> Option<Operation>
     ensures { result ≡ operation_named text.now }
 {
-    match text {
-        b"add" => Some(Operation::Add),
-        b"sub" => Some(Operation::Sub),
-        b"and" => Some(Operation::Logic(BitOperation::And)),
-        b"or" => Some(Operation::Logic(BitOperation::Or)),
-        b"xor" => Some(Operation::Logic(BitOperation::Xor)),
-        _ => None,
-    }
+    OPERATIONS
+        .iter()
+        .copied()
+        .find(|operation| text == operation_word(*operation).as_bytes())
 }
 
 #[tactic(auto, unfolding(crate::specs::Words::comparison_named))]
 fn comparison_named(text: &[u8]) -> Option<Comparison>
     ensures { result ≡ comparison_named text.now }
 {
-    match text {
-        b"cmp" => Some(Comparison::Cmp),
-        b"test" => Some(Comparison::Test),
-        _ => None,
-    }
+    COMPARISONS.iter().copied().find(|comparison| text == comparison_word(*comparison).as_bytes())
 }
 
 #[tactic(auto, unfolding(crate::specs::Words::locked_named))]
 fn locked_named(text: &[u8]) -> Option<LockedOperation>
     ensures { result ≡ locked_named text.now }
 {
-    if text == b"xchg".as_slice() {
-        Some(LockedOperation::Exchange)
-    } else if text == b"cmpxchg".as_slice() {
-        Some(LockedOperation::CompareExchange)
-    } else if text == b"xadd".as_slice() {
-        Some(LockedOperation::ExchangeAdd)
-    } else {
-        None
-    }
+    LOCKED_OPERATIONS
+        .iter()
+        .copied()
+        .find(|operation| text == locked_word(*operation).as_bytes())
 }
 
 #[tactic(auto, unfolding(crate::specs::Words::single_named))]
@@ -249,20 +217,22 @@ fn word_of_text(span: Span, text: &[u8]) -> Lexeme
     }
 }
 
-// The number of these decimal digits, if they are such: none where it is above 2^64 - 1.
+// The number of these decimal digits, if they are such, up to 2^64 - 1.
 #[tactic(auto, unfolding(crate::specs::Words::decimal_of))]
-fn decimal_of(digits: &[u8]) -> Option<Option<u64>>
+fn decimal_of(digits: &[u8]) -> Option<Ranged<u64>>
     ensures { result ≡ decimal_of digits.now }
 {
-    let mut value = Some(0u64);
+    let mut value = Ranged::Within(0u64);
     for digit in digits {
         if !digit.is_ascii_digit() {
             return None;
         }
         let digit = u64::from(*digit - b'0');
         value = match value {
-            Some(value) if value <= (u64::MAX - digit) / 10 => Some(value * 10 + digit),
-            _ => None,
+            Ranged::Within(value) if value <= (u64::MAX - digit) / 10 => {
+                Ranged::Within(value * 10 + digit)
+            }
+            _ => Ranged::OutOfRange,
         };
     }
     Some(value)
@@ -294,9 +264,9 @@ fn behind_zero(rest: &[u8]) -> Lexeme
     ensures named { (source : List ℕ) → IsTrue (has_name source result) }
 {
     match rest {
-        [] => Lexeme::Number(Some(0)),
+        [] => Lexeme::Number(Ranged::Within(0)),
         [b'x', digits @ ..] => match hex_of(digits) {
-            Some(value) => Lexeme::Number(Some(value)),
+            Some(value) => Lexeme::Number(Ranged::Within(value)),
             None => Lexeme::Other,
         },
         _ => Lexeme::Other,

@@ -1,7 +1,7 @@
 -- Each instruction goes on along an edge of its procedure, and so along the paths that the flow check knows.
 use Rattle.std.proofs.Common.{◌≡◌, ℕ, ◌+◌, ◌<◌, Bool, true, false, nat_le, nat_lt, [], length, take, Option, Some, None, slice_get, slice_set, refl, sym, ap, subst, arith, if◌then◌else◌, ◌==◌, ◌||◌, eq-eqb}
 use Rattle.std.specs.Prelude.{unwrap_or}
-use Rattle.std.proofs.lemmas.Bool.{cond_both}
+use Rattle.std.proofs.lemmas.Bool.{cond_both, or_left, or_right}
 use Rattle.tso_line.specs.declared.instruction.Instruction.{Instruction}
 use Rattle.tso_line.specs.declared.instruction.Instruction.TheVariants as the
 use Rattle.tso_line.specs.declared.instruction.Register.TheVariants.{Rax}
@@ -26,14 +26,6 @@ use Rattle.tso_model.specs.Programs.{Action, CallKind, Silent, Load, Store, Barr
 use Rattle.tso_model.specs.Programs as model
 
 -- ---- edges
-
-or_left : (a b : Bool) → a ≡ true → (a || b) ≡ true
-or_left true b e = refl
-or_left false b e = absurd cc
-
-or_right : (a b : Bool) → b ≡ true → (a || b) ≡ true
-or_right true b e = refl
-or_right false b e = e
 
 here : (o : Option ℕ) (j k : ℕ) → o ≡ Some k → j ≡ k → is_at o j ≡ true
 here o j k is same = let Q : Option ℕ → Type 0 = λ p. is_at p j ≡ true in subst Q (sym is) (eq-eqb k j (sym same))

@@ -13,7 +13,7 @@ use Rattle.tso_machine.specs.Activations.{Activation}
 use Rattle.tso_machine.specs.Initial.{idle_thread}
 use Rattle.tso_machine.specs.Laws.{BuffersStayWithin, EndsAreDecided, FramesStaySound, IsRunOf, LabelsAreFew, RunsAreShort, RunsEnd, SectionsAreGuarded, SizesStay, StopsAreFaults, StopsAreFinal}
 use Rattle.tso_machine.specs.Places.{first_memory}
-use Rattle.tso_machine.specs.Programs.{program_of, prologue_thread}
+use Rattle.tso_machine.specs.Programs.{program_of}
 use Rattle.tso_machine.specs.Soundness.{is_sound_or_past_end, rank}
 use Rattle.tso_model.proofs.Falls as falls
 use Rattle.tso_model.proofs.Faults as faults
@@ -25,7 +25,7 @@ use Rattle.tso_model.specs.Measure.{AllSound}
 use Rattle.tso_model.specs.Programs as model
 
 as_many : (threads : List (List CallKind)) (prologue : List CallKind)
-    → length (map (λ (calls : List model.CallKind). idle_thread) (map (map call_view) (threads ++ prologue_thread prologue))) ≡ length (threads ++ as_thread prologue)
+    → length (map (λ (calls : List model.CallKind). idle_thread) (map (map call_view) (threads ++ as_thread prologue))) ≡ length (threads ++ as_thread prologue)
 as_many threads [] = simp length-map
 as_many threads (k ∷ ks) = simp length-map
 

@@ -1,5 +1,5 @@
 -- The model's limit of labels is at most the client's limit of steps.
-use Rattle.std.proofs.Common.{◌≡◌, ◌∙◌, ℕ, ◌+◌, ◌-◌, ◌*◌, ◌≤◌, List, [], ◌∷◌, ◌++◌, length, map, refl, ap, arith}
+use Rattle.std.proofs.Common.{◌≡◌, ◌∙◌, ℕ, ◌+◌, ◌-◌, ◌*◌, ◌≤◌, List, [], ◌∷◌, ◌++◌, length, map, ap, arith}
 use Rattle.std.specs.List.{sum, sum_by}
 use Rattle.std.proofs.lemmas.List.Sums.{sum_by-cons}
 use Rattle.tso_line.specs.declared.instruction.CallKind.{CallKind}
@@ -11,7 +11,7 @@ use Rattle.tso_flow.specs.Calls as flow
 use Rattle.tso_flow.specs.declared.location.ProcedureKind.TheVariants as procedures
 use Rattle.tso_machine.proofs.Counts.{bounds_below, sum_zeros}
 use Rattle.tso_machine.specs.Instructions.{instructions_of}
-use Rattle.tso_machine.specs.Programs.{calls_of, jump_count, program_of, prologue_thread, start_of}
+use Rattle.tso_machine.specs.Programs.{calls_of, jump_count, program_of, start_of}
 use Rattle.tso_machine.specs.Soundness.{bounds_in, instructions_left, rank}
 use Rattle.tso_model.specs.Measure.{calls_cost, step_limit}
 
@@ -42,9 +42,5 @@ threads_cost c [] = omega arith
 threads_cost c (ks ∷ kss) =
     omega (arith, thread_cost c ks, threads_cost c kss, sum_by-cons (λ (ks : List CallKind). sum_by (λ call. call_limit c call) ks) ks kss)
 
-same_thread : (prologue : List CallKind) → prologue_thread prologue ≡ as_thread prologue
-same_thread [] = refl
-same_thread (k ∷ ks) = refl
-
 pub limit_below : (c : Client) → step_limit (program_of c) (rank c) (calls_of c) ≤ flow.step_limit c
-limit_below c = rw (same_thread c.prologue) (threads_cost c (c.threads ++ as_thread c.prologue))
+limit_below c = threads_cost c (c.threads ++ as_thread c.prologue)

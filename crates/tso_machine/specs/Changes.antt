@@ -1,5 +1,7 @@
 -- Changes of a thread, and back.
 use Rattle.std.specs.Prelude.{◌≡◌, ℕ, ◌+◌, ◌-◌, ◌<◌, ◌^◌, false, length, replicate, slice_set}
+use Rattle.tso_flow.specs.Accesses.{register_number}
+use Rattle.tso_line.specs.declared.instruction.Register.TheVariants.{Rdi}
 use Rattle.tso_machine.specs.declared.change.Change.{Change}
 use Rattle.tso_machine.specs.declared.change.Change.TheVariants as changes
 use Rattle.tso_machine.specs.declared.change.ChangeBack.{ChangeBack}
@@ -18,7 +20,7 @@ use Rattle.tso_machine.specs.Queue.{pushed, popped, drained, undrained}
 abbrev pub first_frame : ℕ → ℕ → Frame
 first_frame argument jumps = record {
   pc = 0;
-  registers = slice_set (replicate 15 0) 5 argument;
+  registers = slice_set (replicate 15 0) (register_number Rdi) argument;
   flags = record { of = false; sf = false; cf = false; zf = false };
   taken = replicate jumps 0;
 }

@@ -1,5 +1,5 @@
 -- That the derived `==` of frames is exact.
-use Rattle.std.specs.Prelude.{◌≡◌, ℕ, true, List}
+use Rattle.std.specs.Prelude.{ℕ, List}
 use Rattle.std.proofs.Common.{rules}
 use Rattle.std.proofs.lemmas.Bool.Decides.{Decides-eqb}
 use Rattle.tso_list.specs.Same.{IsExact, same_two, same_three}

@@ -17,6 +17,7 @@ use Rattle.tso_line.specs.declared.instruction.Instruction.TheVariants as the
 use Rattle.tso_prog.specs.declared.client.Client.{Client}
 use Rattle.tso_machine.specs.declared.frame.Frame.{Frame}
 use Rattle.tso_flow.specs.Accesses.{register_number}
+use Rattle.tso_flow.specs.Calls.{procedure_of_kind}
 use Rattle.tso_flow.specs.declared.location.ProcedureKind.{ProcedureKind}
 use Rattle.tso_flow.specs.declared.location.ProcedureKind.TheVariants as procedures
 use Rattle.tso_machine.specs.Activations.{Activation, activation}
@@ -30,8 +31,8 @@ abbrev pub at_position : ℕ → Frame → Frame
 at_position pc f = record f { pc = pc }
 
 -- at the next instruction
-abbrev pub advanced : Frame → Frame
-advanced f = at_position (f.pc + 1) f
+abbrev pub at_next : Frame → Frame
+at_next f = at_position (f.pc + 1) f
 
 abbrev pub with_register : Register → ℕ → Frame → Frame
 with_register r w f = record f { registers = slice_set f.registers (register_number r) w }
@@ -41,20 +42,33 @@ with_flags flags f = record f { flags = flags }
 
 -- ---- arithmetic and logic
 
-abbrev pub computed : Operation → ℕ → ℕ → ℕ
-computed Add a b = sum a b
-computed Sub a b = difference a b
-computed (Logic operation) a b = bitwise operation a b
+abbrev pub operation_result : Operation → ℕ → ℕ → ℕ
+operation_result Add a b = sum a b
+operation_result Sub a b = difference a b
+operation_result (Logic operation) a b = bitwise operation a b
 
-abbrev pub computed_flags : Operation → ℕ → ℕ → Flags
-computed_flags Add a b = sum_flags a b
-computed_flags Sub a b = difference_flags a b
-computed_flags (Logic operation) a b = bitwise_flags operation a b
+abbrev pub operation_flags : Operation → ℕ → ℕ → Flags
+operation_flags Add a b = sum_flags a b
+operation_flags Sub a b = difference_flags a b
+operation_flags (Logic operation) a b = bitwise_flags operation a b
 
 -- cmp as sub, test as and
-abbrev pub compared_flags : Comparison → ℕ → ℕ → Flags
-compared_flags Cmp a b = difference_flags a b
-compared_flags Test a b = bitwise_flags And a b
+abbrev pub comparison_flags : Comparison → ℕ → ℕ → Flags
+comparison_flags Cmp a b = difference_flags a b
+comparison_flags Test a b = bitwise_flags And a b
+
+-- the frame after an operation on a register and a word
+abbrev pub after_operation : Operation → Register → ℕ → Frame → Frame
+after_operation operation to word f =
+    at_next (with_flags (operation_flags operation (register_of f to) word) (with_register to (operation_result operation (register_of f to) word) f))
+
+-- the frame after inc, which keeps CF
+abbrev pub after_increment : Register → Frame → Frame
+after_increment r f = at_next (with_flags (with_carry f.flags.cf (sum_flags (register_of f r) 1)) (with_register r (sum (register_of f r) 1) f))
+
+-- the frame after dec, which keeps CF
+abbrev pub after_decrement : Register → Frame → Frame
+after_decrement r f = at_next (with_flags (with_carry f.flags.cf (difference_flags (register_of f r) 1)) (with_register r (difference (register_of f r) 1) f))
 
 -- ---- locked instructions
 
@@ -118,30 +132,25 @@ at_place None access = Fail OutOfRange
 at_place (Some place) access = access place
 
 abbrev pub instructions_of : Client → ProcedureKind → List (Instruction ℕ ℕ)
-instructions_of c procedures.Push = c.push.instructions
-instructions_of c procedures.Pop = c.pop.instructions
+instructions_of c name = (procedure_of_kind c name).instructions
 
 abbrev pub instruction_action : Client → ProcedureKind → Frame → Instruction ℕ ℕ → Action Activation
-instruction_action c name f (the.Move to from) = Silent (activation name (advanced (with_register to (value_of f from) f)))
-instruction_action c name f (the.Load to from) = at_place (operand_place c.arrays f from) (λ place. Load place (λ w. activation name (advanced (with_register to w f))))
-instruction_action c name f (the.Store to from) = at_place (operand_place c.arrays f to) (λ place. Store place (value_of f from) (activation name (advanced f)))
-instruction_action c name f (the.Compute operation to from) =
-    Silent (activation name (advanced (with_flags (computed_flags operation (register_of f to) (value_of f from))
-    (with_register to (computed operation (register_of f to) (value_of f from)) f))))
-instruction_action c name f (the.Compare comparison left right) = Silent (activation name (advanced (with_flags (compared_flags comparison (register_of f left) (value_of f right)) f)))
-instruction_action c name f (the.Increment r) =
-    Silent (activation name (advanced (with_flags (with_carry f.flags.cf (sum_flags (register_of f r) 1)) (with_register r (sum (register_of f r) 1) f))))
-instruction_action c name f (the.Decrement r) =
-    Silent (activation name (advanced (with_flags (with_carry f.flags.cf (difference_flags (register_of f r) 1)) (with_register r (difference (register_of f r) 1) f))))
+instruction_action c name f (the.Move to from) = Silent (activation name (at_next (with_register to (value_of f from) f)))
+instruction_action c name f (the.Load to from) = at_place (operand_place c.arrays f from) (λ place. Load place (λ w. activation name (at_next (with_register to w f))))
+instruction_action c name f (the.Store to from) = at_place (operand_place c.arrays f to) (λ place. Store place (value_of f from) (activation name (at_next f)))
+instruction_action c name f (the.Compute operation to from) = Silent (activation name (after_operation operation to (value_of f from) f))
+instruction_action c name f (the.Compare comparison left right) = Silent (activation name (at_next (with_flags (comparison_flags comparison (register_of f left) (value_of f right)) f)))
+instruction_action c name f (the.Increment r) = Silent (activation name (after_increment r f))
+instruction_action c name f (the.Decrement r) = Silent (activation name (after_decrement r f))
 instruction_action c name f (the.Jump when target bound) =
     if is_taken when f.flags then jump name f (back_jumps 0 (take f.pc (instructions_of c name))) target bound
-    else Silent (activation name (advanced f))
-instruction_action c name f (the.Assert condition) = if holds condition f.flags then Silent (activation name (advanced f)) else Fail FalseAssertion
+    else Silent (activation name (at_next f))
+instruction_action c name f (the.Assert condition) = if holds condition f.flags then Silent (activation name (at_next f)) else Fail FalseAssertion
 instruction_action c name f (the.Locked operation cell r) =
-    at_place (operand_place c.arrays f cell) (λ place. Locked place (new_word operation r f) (λ old. activation name (advanced (exchanged operation r f old))))
-instruction_action c name f the.Fence = Barrier (activation name (advanced f))
-instruction_action c name f the.Nop = Silent (activation name (advanced f))
-instruction_action c name f the.Pause = Silent (activation name (advanced f))
+    at_place (operand_place c.arrays f cell) (λ place. Locked place (new_word operation r f) (λ old. activation name (at_next (exchanged operation r f old))))
+instruction_action c name f the.Fence = Barrier (activation name (at_next f))
+instruction_action c name f the.Nop = Silent (activation name (at_next f))
+instruction_action c name f the.Pause = Silent (activation name (at_next f))
 instruction_action c name f the.Return = returned name f
 
 -- behind the last instruction nothing follows

@@ -6,6 +6,7 @@ pub mod Control
 pub mod Frames
 pub mod Initial
 pub mod Instructions
+pub mod Kinds
 pub mod Laws
 pub mod Machines
 pub mod Offers

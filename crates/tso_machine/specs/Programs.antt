@@ -1,10 +1,11 @@
 -- A client as a program of the model.
-use Rattle.std.specs.Prelude.{ℕ, zero, suc, List, [], ◌∷◌, ◌++◌, length, map, Option, Some, None}
+use Rattle.std.specs.Prelude.{ℕ, zero, suc, List, [], ◌∷◌, length, map, Option, Some, None}
 use Rattle.tso_line.specs.declared.instruction.CallKind.{CallKind}
 use Rattle.tso_prog.specs.declared.client.Client.{Client}
 use Rattle.tso_prog.specs.Views.{call_view}
 use Rattle.tso_machine.specs.Activations.{Activation, activation}
 use Rattle.tso_machine.specs.Changes.{first_frame}
+use Rattle.tso_flow.specs.Calls.{calls_of_client}
 use Rattle.tso_flow.specs.declared.location.ProcedureKind.{ProcedureKind}
 use Rattle.tso_flow.specs.declared.location.ProcedureKind.TheVariants as procedures
 use Rattle.tso_machine.specs.Instructions.{back_jumps, instructions_of, next_action}
@@ -19,18 +20,13 @@ abbrev pub start_of : Client → model.CallKind → Activation
 start_of c (model.Push v) = activation procedures.Push (first_frame v (jump_count c procedures.Push))
 start_of c model.Pop = activation procedures.Pop (first_frame 0 (jump_count c procedures.Pop))
 
--- the calls of one more thread, where there is a prologue
-abbrev pub prologue_thread : List CallKind → List (List CallKind)
-prologue_thread [] = []
-prologue_thread (k ∷ ks) = (k ∷ ks) ∷ []
-
 -- the prologue's thread comes after all others
 abbrev pub prologue_number : List CallKind → ℕ → Option ℕ
 prologue_number [] others = None
 prologue_number (k ∷ ks) others = Some others
 
 abbrev pub calls_of : Client → List (List model.CallKind)
-calls_of c = map (map call_view) (c.threads ++ prologue_thread c.prologue)
+calls_of c = map (map call_view) (calls_of_client c)
 
 -- the program of the model that a client stands for
 abbrev pub program_of : Client → model.Program Activation

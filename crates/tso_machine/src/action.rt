@@ -4,8 +4,7 @@ ghost use Rattle.std.specs.Prelude.{◌≡◌, ◌<◌, ◌≤◌, length, take,
 ghost use Rattle.tso_machine.specs.Activations.{activation};
 ghost use Rattle.tso_machine.specs.Actions.{meaning, FitsAction};
 ghost use Rattle.tso_machine.specs.Frames.{patched, register_of};
-ghost use Rattle.tso_word.specs.Word.{sum, difference, sum_flags, difference_flags, with_carry};
-ghost use Rattle.tso_machine.specs.Instructions.{advanced, with_register, with_flags, back_jumps, is_back_jump, is_taken, instruction_action, next_action, instructions_of, jump, returned, computed, computed_flags, compared_flags};
+ghost use Rattle.tso_machine.specs.Instructions.{at_next, with_register, with_flags, back_jumps, is_back_jump, is_taken, instruction_action, next_action, instructions_of, jump, returned, after_operation, after_increment, after_decrement, comparison_flags};
 ghost use Rattle.tso_machine.specs.Places.{index_register, operand_place};
 
 use crate::frame::{Frame, Patch};
@@ -159,7 +158,7 @@ fn action_of(client: &Client, name: ProcedureKind, frame: &Frame, step: Step) ->
 // The frame at the next instruction.
 fn unchanged(frame: &Frame) -> Patch
     requires { frame.now.pc < 256 }
-    ensures after { patched frame.now result ≡ advanced frame.now }
+    ensures after { patched frame.now result ≡ at_next frame.now }
     ensures taken { result.taken ≡ None }
 {
     Patch {
@@ -174,7 +173,7 @@ fn unchanged(frame: &Frame) -> Patch
 fn written(frame: &Frame, to: Register, word: u64) -> Patch
     requires { frame.now.pc < 256 }
     ensures taken { result.taken ≡ None }
-    ensures after { patched frame.now result ≡ advanced (with_register to word frame.now) }
+    ensures after { patched frame.now result ≡ at_next (with_register to word frame.now) }
 {
     Patch {
         register: Some((to, word)),
@@ -186,7 +185,7 @@ fn written(frame: &Frame, to: Register, word: u64) -> Patch
 fn computed(frame: &Frame, operation: Operation, to: Register, word: u64) -> Patch
     requires { frame.now.pc < 256 }
     ensures taken { result.taken ≡ None }
-    ensures after { patched frame.now result ≡ advanced (with_flags (computed_flags operation (register_of frame.now to) word) (with_register to (computed operation (register_of frame.now to) word) frame.now)) }
+    ensures after { patched frame.now result ≡ after_operation operation to word frame.now }
 {
     let old = frame.register(to);
     let (word, flags) = match operation {
@@ -204,7 +203,7 @@ fn computed(frame: &Frame, operation: Operation, to: Register, word: u64) -> Pat
 fn compared(frame: &Frame, comparison: Comparison, left: Register, right: u64) -> Patch
     requires { frame.now.pc < 256 }
     ensures taken { result.taken ≡ None }
-    ensures after { patched frame.now result ≡ advanced (with_flags (compared_flags comparison (register_of frame.now left) right) frame.now) }
+    ensures after { patched frame.now result ≡ at_next (with_flags (comparison_flags comparison (register_of frame.now left) right) frame.now) }
 {
     let left = frame.register(left);
     let (_, flags) = match comparison {
@@ -220,7 +219,7 @@ fn compared(frame: &Frame, comparison: Comparison, left: Register, right: u64) -
 fn counted_up(frame: &Frame, register: Register) -> Patch
     requires { frame.now.pc < 256 }
     ensures taken { result.taken ≡ None }
-    ensures after { patched frame.now result ≡ advanced (with_flags (with_carry frame.now.flags.cf (sum_flags (register_of frame.now register) 1)) (with_register register (sum (register_of frame.now register) 1) frame.now)) }
+    ensures after { patched frame.now result ≡ after_increment register frame.now }
 {
     let (word, flags) = tso_word::inc(frame.register(register), frame.flags);
     Patch {
@@ -232,7 +231,7 @@ fn counted_up(frame: &Frame, register: Register) -> Patch
 fn counted_down(frame: &Frame, register: Register) -> Patch
     requires { frame.now.pc < 256 }
     ensures taken { result.taken ≡ None }
-    ensures after { patched frame.now result ≡ advanced (with_flags (with_carry frame.now.flags.cf (difference_flags (register_of frame.now register) 1)) (with_register register (difference (register_of frame.now register) 1) frame.now)) }
+    ensures after { patched frame.now result ≡ after_decrement register frame.now }
 {
     let (word, flags) = tso_word::dec(frame.register(register), frame.flags);
     Patch {
@@ -241,7 +240,7 @@ fn counted_down(frame: &Frame, register: Register) -> Patch
     }
 }
 
-fn is_taken(when: Option<Condition>, flags: Flags) -> bool
+pub(crate) fn is_taken(when: Option<Condition>, flags: Flags) -> bool
     ensures { result ≡ is_taken when flags }
 {
     match when {
@@ -329,7 +328,7 @@ fn index_register(frame: &Frame, index: Option<Register>) -> u64
 }
 
 // The place of a memory operand, if it is inside its array.
-fn place_of(client: &Client, frame: &Frame, address: Address<usize>) -> Option<usize>
+pub(crate) fn place_of(client: &Client, frame: &Frame, address: Address<usize>) -> Option<usize>
     ensures { result ≡ operand_place client.now.arrays frame.now address }
 {
     let index = index_register(frame, address.index).checked_add_signed(address.offset)?;

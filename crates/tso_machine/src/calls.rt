@@ -4,9 +4,9 @@ ghost use Rattle.std.specs.Prelude.{◌≡◌, ◌+◌, ◌<◌, ◌^◌, length
 ghost use Rattle.std.specs.Option.{option_map};
 ghost use Rattle.tso_prog.specs.Views.{call_view};
 ghost use Rattle.tso_machine.specs.Machines.{core_view, machine_of, thread_view};
+ghost use Rattle.tso_machine.specs.Offers.{may_begin_now};
 ghost use Rattle.tso_machine.specs.Programs.{calls_in, calls_of, program_of};
 ghost use Rattle.tso_model.specs.Labels.{next_call_in, is_over_in, is_idle};
-ghost use Rattle.tso_model.specs.Prologue.{may_begin};
 
 use crate::machine::{Core, Machine, Thread};
 use tso_prog::{CallKind, Client};
@@ -61,7 +61,7 @@ fn is_idle(core: &Core) -> bool
 
 // Whether a thread's calls need not wait for the prologue's.
 fn may_begin(client: &Client, machine: &Machine, thread: usize) -> bool
-    ensures { result ≡ may_begin (program_of client.now).prologue thread (λ j. is_over_in (program_of client.now) j (slice_get (machine_of machine.now).threads j)) }
+    ensures { result ≡ may_begin_now client.now machine.now thread }
 {
     let prologue = client.threads.len();
     if client.prologue.is_empty() || thread == prologue {

@@ -7,10 +7,11 @@ ghost use Rattle.tso_machine.specs.declared.change.Change.TheVariants as changes
 ghost use Rattle.tso_machine.specs.declared.change.ChangeBack.TheVariants as backs;
 
 use crate::buffer::Entry;
-use crate::frame::{Frame, Patch};
+use crate::frame::{Frame, Patch, register_number};
 use crate::machine::{Core, Running, Stage, Thread};
 use std::alloc::{AllocError, Global};
 use tso_flow::ProcedureKind;
+use tso_line::Register;
 use tso_list::Seq;
 use tso_word::Flags;
 
@@ -70,7 +71,7 @@ pub fn first_frame(alloc: Global, argument: u64, jumps: usize) -> Result<Frame, 
 {
     let taken = Seq::from_vec(vec![in alloc; 0u8; jumps]?);
     let mut registers = [0u64; 15];
-    registers[5] = argument;
+    registers[register_number(Register::Rdi)] = argument;
     Ok(Frame {
         pc: 0,
         registers,

@@ -1,6 +1,6 @@
 //! What a running thread knows of itself.
 
-ghost use Rattle.std.specs.Prelude.{◌≡◌, ◌<◌, length, slice_index_or, IfSome, IfNone};
+ghost use Rattle.std.specs.Prelude.{◌≡◌, ◌<◌, length, slice_set};
 ghost use Rattle.tso_flow.specs.Accesses.{register_number};
 ghost use Rattle.tso_machine.specs.Registers.{registers_after, IsCountOf, taken_after};
 
@@ -52,7 +52,7 @@ impl Frame {
     pub fn register(&self, register: Register) -> u64
         ensures { result ≡ register_of self.now register }
     {
-        self.registers[number(register)]
+        self.registers[register_number(register)]
     }
 
     /// The word of a register or an immediate.
@@ -95,9 +95,19 @@ fn write_register(
     ensures back { registers_after registers.new result ≡ registers.old }
 {
     let (register, word) = write?;
-    let old = registers[number(register)];
-    registers[number(register)] = word;
+    let old = replace_word(registers, register_number(register), word);
     Some((register, old))
+}
+
+// Puts a word at an index, and gives the one that was there.
+fn replace_word(words: &mut [u64], index: usize, word: u64) -> u64
+    requires { index < length words.old }
+    ensures after { words.new ≡ slice_set words.old index word }
+    ensures back { slice_set words.new index result ≡ words.old }
+{
+    let old = words[index];
+    words[index] = word;
+    old
 }
 
 // Sets a count, and gives what it was.
@@ -113,8 +123,8 @@ fn write_count(taken: &mut Seq<u8>, write: Option<(usize, u8)>) -> Option<(usize
     Some((jump, old))
 }
 
-// The number of a register in the order of `Register`.
-fn number(register: Register) -> usize
+/// The number of a register in the order of `Register`.
+pub fn register_number(register: Register) -> usize
     ensures is { result ≡ register_number register }
     ensures below { result < 15 }
 {

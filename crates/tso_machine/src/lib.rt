@@ -10,6 +10,7 @@ mod change;
 mod exact;
 mod first;
 mod frame;
+mod kinds;
 mod label;
 mod laws;
 mod machine;
@@ -27,6 +28,7 @@ pub use calls::{call_at, calls_of, next_call};
 pub use change::{Change, ChangeBack, first_frame};
 pub use first::{first_memory, initial, thread_count};
 pub use frame::{Frame, Patch};
+pub use kinds::{ActionKind, next_kind};
 pub use label::{Label, LabelKind};
 pub use laws::{
     buffers_stay_within, cuts_are_bounds, ends_are_decided, frames_are_ranked, frames_stay_sound,

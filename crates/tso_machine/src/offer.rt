@@ -9,7 +9,7 @@ ghost use Rattle.tso_machine.specs.Changes.{FitsChange};
 ghost use Rattle.tso_machine.specs.Instructions.{next_action, at_position, with_register, exchanged, new_word};
 ghost use Rattle.tso_machine.specs.Frames.{patched};
 ghost use Rattle.tso_machine.specs.Machines.{buffer_view, core_view, entry_view, machine_of, stage_view, thread_view};
-ghost use Rattle.tso_machine.specs.Offers.{begin_of, next_of};
+ghost use Rattle.tso_machine.specs.Offers.{begin_of, next_idle, next_in, next_inside, next_of_buffer, next_of_core, next_outside, next_running};
 ghost use Rattle.tso_machine.specs.declared.label.LabelKind.TheVariants as kinds;
 ghost use Rattle.tso_machine.specs.Programs.{calls_of, jump_count, program_of};
 ghost use Rattle.tso_model.specs.Labels.{next_call_in, is_over_in};
@@ -82,7 +82,7 @@ fn outside_offer(
     requires core { thread.now.core ≡ cores.Running running.now }
     requires stage { running.now.stage ≡ stages.Outside }
     requires fits { FitsAction running.now.frame action }
-    ensures is { option_map (next_of machine.now number thread.now) result ≡ model.offer_outside (machine_of machine.now) number (thread_view thread.now) (activation running.now.procedure running.now.frame) (meaning running.now.procedure running.now.frame action) }
+    ensures is { next_in machine.now number thread.now result ≡ next_outside machine.now number thread.now running.now action }
     ensures fits { IfSome result (λ o. FitsChange thread.now o.change) }
 {
     match action {
@@ -169,7 +169,7 @@ fn locked_offer(
     action: LockedAction,
 ) -> Option<Offer>
     requires { thread.now.core ≡ cores.Running running.now }
-    ensures is { option_map (next_of machine.now number thread.now) result ≡ model.offer_locked (machine_of machine.now) number (thread_view thread.now) (activation running.now.procedure running.now.frame) (new_word action.operation action.register running.now.frame) action.place (λ old. activation running.now.procedure (at_position action.next (exchanged action.operation action.register running.now.frame old))) (stage_view running.now.stage) }
+    ensures is { next_in machine.now number thread.now result ≡ next_inside machine.now number thread.now running.now action }
     ensures fits { IfSome result (λ o. FitsChange thread.now o.change) }
 {
     match running.stage {
@@ -224,7 +224,7 @@ fn running_offer(
     running: &Running,
 ) -> Option<Offer>
     requires { thread.now.core ≡ cores.Running running.now }
-    ensures is { option_map (next_of machine.now number thread.now) result ≡ model.offer_running (program_of client.now) (machine_of machine.now) number (thread_view thread.now) (activation running.now.procedure running.now.frame) (stage_view running.now.stage) }
+    ensures is { next_in machine.now number thread.now result ≡ next_running client.now machine.now number thread.now running.now }
     ensures fits { IfSome result (λ o. FitsChange thread.now o.change) }
 {
     let action = next_action(client, running.procedure, &running.frame);
@@ -274,7 +274,7 @@ fn begin(client: &Client, kind: CallKind) -> Offer
 #[tactic(auto, using(crate::proofs::Views::begun_view))]
 fn idle_offer(client: &Client, machine: &Machine, number: usize, thread: &Thread) -> Option<Offer>
     requires { thread.now.core ≡ cores.Idle }
-    ensures is { option_map (next_of machine.now number thread.now) result ≡ model.offer_call (program_of client.now) (machine_of machine.now) number (thread_view thread.now) (next_call_in (program_of client.now) (machine_of machine.now) number thread.now.begun) }
+    ensures is { next_in machine.now number thread.now result ≡ next_idle client.now machine.now number thread.now }
     ensures fits { IfSome result (λ o. FitsChange thread.now o.change) }
 {
     match next_call(client, machine, number, thread.begun) {
@@ -290,7 +290,7 @@ pub fn core_offer(
     number: usize,
     thread: &Thread,
 ) -> Option<Offer>
-    ensures is { option_map (next_of machine.now number thread.now) result ≡ model.offer_core (program_of client.now) (machine_of machine.now) number (thread_view thread.now) (core_view thread.now.core) }
+    ensures is { next_in machine.now number thread.now result ≡ next_of_core client.now machine.now number thread.now }
     ensures fits { IfSome result (λ o. FitsChange thread.now o.change) }
 {
     match &thread.core {
@@ -303,7 +303,7 @@ pub fn core_offer(
 /// The label that a thread's buffer has next: the drain of its oldest entry.
 #[tactic(auto, using(crate::proofs::Views::threads_view, crate::proofs::Views::drained_view))]
 pub fn buffer_offer(machine: &Machine, number: usize, thread: &Thread) -> Option<Offer>
-    ensures is { option_map (next_of machine.now number thread.now) result ≡ model.offer_entry (machine_of machine.now) number (thread_view thread.now) (buffer_view thread.now.buffer) }
+    ensures is { next_in machine.now number thread.now result ≡ next_of_buffer machine.now number thread.now }
     ensures fits { IfSome result (λ o. FitsChange thread.now o.change) }
 {
     let entry = thread.buffer.live().first()?;

@@ -4,7 +4,7 @@ ghost use Rattle.std.specs.Prelude.{◌≡◌, ◌<◌, length, slice_get, Some,
 ghost use Rattle.std.specs.Option.{option_map};
 ghost use Rattle.tso_machine.specs.Changes.{thread_after, FitsChange};
 ghost use Rattle.tso_machine.specs.Machines.{label_of, machine_of};
-ghost use Rattle.tso_machine.specs.Offers.{memory_after, lock_after, next_of, performed};
+ghost use Rattle.tso_machine.specs.Offers.{memory_after, lock_after, next_in, next_of_actor, Performs};
 ghost use Rattle.tso_machine.specs.Programs.{program_of};
 ghost use Rattle.tso_machine.specs.Stepping.{is_drain, IsNoStep, IsOffered, IsStep};
 ghost use Rattle.tso_model.specs.Labels.{Step};
@@ -63,7 +63,7 @@ fn perform(
 ) -> Result<Undo, AllocError>
     requires there { number < length machine.old.threads }
     requires fits { (t : AThread) → slice_get machine.old.threads number ≡ Some t → FitsChange t offer.change }
-    ensures after { (t : AThread) → slice_get machine.old.threads number ≡ Some t → OnOk result (machine.new ≡ performed machine.old number offer.kind (thread_after t offer.change)) }
+    ensures after { OnOk result (Performs machine.old number offer machine.new) }
     ensures err { OnErr result (machine.new ≡ machine.old) }
     ensures back { IfOk result (λ u. Undoes u machine.new machine.old) }
 {
@@ -89,7 +89,7 @@ fn is_drain(kind: LabelKind) -> bool
 // What the thread that a label names has next, of its buffer where the label is a drain, else of its core.
 fn next_offer(client: &Client, machine: &Machine, label: Label, thread: &Thread) -> Option<Offer>
     requires { slice_get machine.now.threads label.thread ≡ Some thread.now }
-    ensures is { option_map (next_of machine.now label.thread thread.now) result ≡ offer (program_of client.now) (machine_of machine.now) (actor_of (label_of label)) }
+    ensures is { next_in machine.now label.thread thread.now result ≡ next_of_actor client.now machine.now label }
     ensures fits { IfSome result (λ o. FitsChange thread.now o.change) }
 {
     if is_drain(label.kind) {

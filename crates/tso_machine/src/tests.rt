@@ -9,188 +9,11 @@ use std::test::Fail;
 use tso_flow::Checked;
 use tso_line::Register;
 use tso_prog::{Answer, CallKind};
+use tso_samples::{
+    BOTH_EXCHANGE, BOUNDED, COMPARE_EXCHANGE, EXCHANGE_ADD, EXCHANGE_AND_STORE, OUTSIDE, PROLOGUE,
+    STORE_BUFFERING, STORE_BUFFERING_FENCED,
+};
 use tso_word::Flags;
-
-const EXCHANGE: &str = ".capacity 1
-.mode weak
-.array n 1
-.array m 1
-.push
-  mov rbx, 5
-  xchg qword ptr [n], rbx
-  cmp rbx, 5
-  assert e
-  mov rax, 0
-  ret
-.end
-.pop
-  mov qword ptr [m], 1
-  mov rbx, qword ptr [n]
-  mov rdx, 0
-  mov rax, 2
-  ret
-.end
-.thread push 7
-.thread pop
-";
-
-const COMPARE_EXCHANGE: &str = ".capacity 1
-.mode weak
-.array n 1 = 4
-.push
-  mov rax, 3
-  mov rbx, 9
-  lock cmpxchg qword ptr [n], rbx
-  ret
-.end
-.pop
-  mov rdx, 0
-  mov rax, 0
-  ret
-.end
-.thread push 7
-";
-
-const EXCHANGE_ADD: &str = ".capacity 1
-.mode weak
-.array n 1 = 5
-.push
-  mov rbx, -1
-  lock xadd qword ptr [n], rbx
-  mov rax, 1
-  ret
-.end
-.pop
-  mov rdx, 0
-  mov rax, 0
-  ret
-.end
-.thread push 7
-";
-
-const STORE_BUFFERING: &str = ".capacity 1
-.mode weak
-.array x 1
-.array y 1
-.push
-  mov qword ptr [x], 1
-  mov rax, qword ptr [y]
-  ret
-.end
-.pop
-  mov qword ptr [y], 1
-  mov rax, qword ptr [x]
-  mov rdx, rax
-  ret
-.end
-.thread push 7
-.thread pop
-";
-
-const FENCED: &str = ".capacity 1
-.mode weak
-.array x 1
-.array y 1
-.push
-  mov qword ptr [x], 1
-  mfence
-  mov rax, qword ptr [y]
-  ret
-.end
-.pop
-  mov qword ptr [y], 1
-  mfence
-  mov rax, qword ptr [x]
-  mov rdx, rax
-  ret
-.end
-.thread push 7
-.thread pop
-";
-
-const BOUNDED: &str = ".capacity 1
-.mode weak
-.array n 1
-.push
-again:
-  mov qword ptr [n], 1
-  cmp rdi, 7
-  je again bound 1
-  mov rax, 0
-  ret
-.end
-.pop
-  mov rbx, 0
-again:
-  inc rbx
-  cmp rbx, 2
-  jne again bound 1
-  mov rax, 1
-  mov rdx, rbx
-  ret
-.end
-.thread push 7
-.thread pop, pop
-";
-
-const PROLOGUE: &str = ".capacity 1
-.mode weak
-.array n 1
-.push
-  mov qword ptr [n], rdi
-  mov rax, 1
-  ret
-.end
-.pop
-  mov rdx, qword ptr [n]
-  mov rax, 1
-  ret
-.end
-.before push 8
-.thread pop
-.thread push 7
-";
-
-const BOTH_LOCK: &str = ".capacity 1
-.mode weak
-.array n 2
-.push
-  mov qword ptr [n + 8], 1
-  mov rbx, 5
-  xchg qword ptr [n], rbx
-  mov rax, 1
-  ret
-.end
-.pop
-  mov rbx, 6
-  xchg qword ptr [n], rbx
-  mov rdx, 0
-  mov rax, 0
-  ret
-.end
-.thread push 7
-.thread pop
-";
-
-const OUTSIDE: &str = ".capacity 1
-.mode weak
-.array n 2
-.push
-  mov rcx, 2
-  xchg qword ptr [n + rcx*8], rcx
-  mov rax, 1
-  ret
-.end
-.pop
-  mov rcx, 2
-  mov rbx, qword ptr [n + rcx*8]
-  mov rdx, 0
-  mov rax, 0
-  ret
-.end
-.thread push 7
-.thread pop
-";
 
 // A thread and what it does.
 type Step = (usize, LabelKind);
@@ -398,7 +221,7 @@ fn exchanges_are_five_steps(rt: HostRuntime) -> Result<(), Fail> {
         (0, REFUSED),
         (0, LabelKind::Fence),
     ];
-    goes(&rt, alloc, EXCHANGE, &EXCHANGED, &all)?;
+    goes(&rt, alloc, EXCHANGE_AND_STORE, &EXCHANGED, &all)?;
     for (count, other) in [
         (0, (0, POP)),
         (0, (0, LabelKind::Call(CallKind::Push(8)))),
@@ -418,7 +241,7 @@ fn exchanges_are_five_steps(rt: HostRuntime) -> Result<(), Fail> {
         (8, (0, LabelKind::Fault(FaultKind::OutOfRange))),
     ] {
         let steps = EXCHANGED.get(..count).ok_or("so many steps")?;
-        goes(&rt, alloc, EXCHANGE, steps, &[other])?;
+        goes(&rt, alloc, EXCHANGE_AND_STORE, steps, &[other])?;
     }
     Ok(())
 }
@@ -483,7 +306,7 @@ fn stores_wait_for_a_fence(rt: HostRuntime) -> Result<(), Fail> {
     goes(
         &rt,
         alloc,
-        FENCED,
+        STORE_BUFFERING_FENCED,
         &both,
         &[(0, LabelKind::Fence), (0, reads!(1, 0))],
     )?;
@@ -517,11 +340,17 @@ fn stores_wait_for_a_fence(rt: HostRuntime) -> Result<(), Fail> {
         (1, drains!(1, 1)),
         (1, LabelKind::Fence),
     ];
-    goes(&rt, alloc, FENCED, &fenced, &[(1, reads!(0, 0)), (1, REG)])?;
+    goes(
+        &rt,
+        alloc,
+        STORE_BUFFERING_FENCED,
+        &fenced,
+        &[(1, reads!(0, 0)), (1, REG)],
+    )?;
     let value = LabelKind::Return(Answer::Value(1));
     let ended = [(1, reads!(0, 1)), (1, REG), (1, value), (0, REFUSED)];
-    let after = machine_after(alloc, FENCED, &fenced)?;
-    let checked = checked_of(alloc, FENCED)?;
+    let after = machine_after(alloc, STORE_BUFFERING_FENCED, &fenced)?;
+    let checked = checked_of(alloc, STORE_BUFFERING_FENCED)?;
     let mut machine = after;
     walk(&rt, alloc, &checked, &mut machine, &ended, &[(1, POP)])
 }
@@ -537,7 +366,7 @@ fn locks_block_other_threads(rt: HostRuntime) -> Result<(), Fail> {
         (1, writes!(1, 1)),
     ];
     let others = [(1, drains!(1, 1)), (1, reads!(0, 0)), (0, LabelKind::Lock)];
-    goes(&rt, alloc, EXCHANGE, &blocked, &others)?;
+    goes(&rt, alloc, EXCHANGE_AND_STORE, &blocked, &others)?;
     let unblocked = [
         (1, POP),
         (0, PUSH),
@@ -554,7 +383,13 @@ fn locks_block_other_threads(rt: HostRuntime) -> Result<(), Fail> {
         (1, REG),
         (1, LabelKind::Fault(FaultKind::BadAnswer)),
     ];
-    goes(&rt, alloc, EXCHANGE, &unblocked, &[(1, POP), (1, REG)])
+    goes(
+        &rt,
+        alloc,
+        EXCHANGE_AND_STORE,
+        &unblocked,
+        &[(1, POP), (1, REG)],
+    )
 }
 
 #[test]
@@ -569,9 +404,15 @@ fn locks_wait_for_the_own_buffer_and_for_each_other(rt: HostRuntime) -> Result<(
         (1, REG),
         (0, LabelKind::Lock),
     ];
-    goes(&rt, alloc, BOTH_LOCK, &held[..3], &[(0, LabelKind::Lock)])?;
+    goes(
+        &rt,
+        alloc,
+        BOTH_EXCHANGE,
+        &held[..3],
+        &[(0, LabelKind::Lock)],
+    )?;
     let others = [(1, LabelKind::Lock), (1, LabelKind::Unlock)];
-    goes(&rt, alloc, BOTH_LOCK, &held, &others)
+    goes(&rt, alloc, BOTH_EXCHANGE, &held, &others)
 }
 
 #[test]

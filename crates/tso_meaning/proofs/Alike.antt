@@ -1,6 +1,7 @@
 -- What an instruction does depends on what it reads alone.
 use Rattle.std.proofs.Common.{◌≡◌, ◌∙◌, ℕ, ◌+◌, Bool, true, false, nat_le, nat_lt, not, ◌||◌, List, length, take, Option, Some, None, slice_get, slice_set, refl, sym, ap, subst, if◌then◌else◌, ◌==◌}
 use Rattle.std.specs.Prelude.{unwrap_or}
+use Rattle.std.proofs.lemmas.Bool.{or_left, or_right}
 use Rattle.tso_word.specs.declared.Condition.{Condition}
 use Rattle.tso_word.specs.declared.Condition.TheVariants.{E, Ne, B, Ae, Be, A, L, Ge, Le, G}
 use Rattle.tso_word.specs.declared.Flags.{Flags}
@@ -26,7 +27,7 @@ use Rattle.tso_flow.specs.declared.location.ProcedureKind.TheVariants as procedu
 use Rattle.tso_machine.proofs.Fine.{exchanged_pc, exchanged_taken}
 use Rattle.tso_machine.specs.Activations.{Activation, activation}
 use Rattle.tso_machine.specs.Frames.{register_of, value_of}
-use Rattle.tso_machine.specs.Instructions.{action_at, advanced, at_place, back_jumps, counted_jump, exchanged, instruction_action, instructions_of, is_taken, jump, next_action, returned, with_register}
+use Rattle.tso_machine.specs.Instructions.{action_at, at_next, at_place, back_jumps, counted_jump, exchanged, instruction_action, instructions_of, is_taken, jump, next_action, returned, with_register}
 use Rattle.tso_machine.specs.Places.{index_register, operand_place}
 use Rattle.tso_machine.specs.declared.frame.Frame.{Frame}
 use Rattle.tso_model.specs.Programs.{Action, Silent, Value}
@@ -35,14 +36,6 @@ use Rattle.tso_meaning.specs.Accesses.{flag_of, AgreeAfter, AreAlike, HoldSame, 
 
 no_write : {P : Type 0} → false ≡ true → P
 no_write e = absurd cc
-
-pub or_left : (a b : Bool) → a ≡ true → (a || b) ≡ true
-or_left true b e = refl
-or_left false b e = absurd cc
-
-or_right : (a b : Bool) → b ≡ true → (a || b) ≡ true
-or_right true b e = refl
-or_right false b e = e
 
 -- ---- one choice in two calls
 
@@ -169,7 +162,7 @@ module _ (c : Client) (name : ProcedureKind) (pc : ℕ) (taken rs qs : List ℕ)
   jump_alike when target bound same =
       let step : Instruction ℕ ℕ = the.Jump when target bound in
       let number = back_jumps 0 (take pc (instructions_of c name)) in
-      both_if (AgreeAfter step) (is_taken when p) (is_taken when q) (jump name left number target bound) (Silent (activation name (advanced left))) (jump name right number target bound) (Silent (activation name (advanced right))) (taken_same when target bound same)
+      both_if (AgreeAfter step) (is_taken when p) (is_taken when q) (jump name left number target bound) (Silent (activation name (at_next left))) (jump name right number target bound) (Silent (activation name (at_next right))) (taken_same when target bound same)
       (λ e. both_if (AgreeAfter step) (nat_le target pc) (nat_le target pc) _ _ _ _ refl (λ back. counted_alike when target bound (unwrap_or bound 0) number (slice_get taken number))
       (λ ahead. moved step target taken (no_writes_jump when target bound)))
       (λ e. moved step (pc + 1) taken (no_writes_jump when target bound))
@@ -209,7 +202,7 @@ module _ (c : Client) (name : ProcedureKind) (pc : ℕ) (taken rs qs : List ℕ)
       (λ at. (
         refl,
         (λ old. rw (expected, own) refl),
-        (λ old. both (the.Locked CompareExchange cell r) name left right many (advanced (exchanged CompareExchange r left old)) (advanced (exchanged CompareExchange r right old))
+        (λ old. both (the.Locked CompareExchange cell r) name left right many (at_next (exchanged CompareExchange r left old)) (at_next (exchanged CompareExchange r right old))
             (ap (λ (n : ℕ). n + 1) (exchanged_pc CompareExchange r left old ∙ sym (exchanged_pc CompareExchange r right old)))
             (exchanged_taken CompareExchange r left old ∙ sym (exchanged_taken CompareExchange r right old))
             (λ s e. either_rax (register_of left Rax == old) (register_of right Rax == old) left right old s (ap (λ (n : ℕ). n == old) expected) e many (rax s e))

@@ -19,7 +19,7 @@ use Rattle.tso_flow.specs.declared.location.ProcedureKind.{ProcedureKind}
 use Rattle.tso_machine.specs.Activations.{Activation, activation}
 use Rattle.tso_machine.specs.Control.{instruction_at}
 use Rattle.tso_machine.specs.Frames.{register_of, value_of}
-use Rattle.tso_machine.specs.Instructions.{action_at, advanced, at_place, back_jumps, counted_jump, done_answer, exchanged, instruction_action, instructions_of, is_taken, jump, new_word, next_action, returned, with_register}
+use Rattle.tso_machine.specs.Instructions.{action_at, at_next, at_place, back_jumps, counted_jump, done_answer, exchanged, instruction_action, instructions_of, is_taken, jump, new_word, next_action, returned, with_register}
 use Rattle.tso_machine.specs.Places.{operand_place}
 use Rattle.tso_machine.specs.declared.frame.Frame.{Frame}
 use Rattle.tso_model.specs.Programs.{Action, Silent, Ret, Fail, Cut, Refused, OutOfRange, BadAnswer, FalseAssertion}
@@ -82,7 +82,7 @@ jump_none : (test : Action Activation → Bool) → ((b : Activation) → test (
     → test (instruction_action c name f (the.Jump when target bound)) ≡ false
 jump_none test silent cut c name f when target bound =
     let number = back_jumps 0 (take f.pc (instructions_of c name)) in
-    cond_both (is_taken when f.flags) (jump name f number target bound) (Silent (activation name (advanced f))) (λ x. test x ≡ false)
+    cond_both (is_taken when f.flags) (jump name f number target bound) (Silent (activation name (at_next f))) (λ x. test x ≡ false)
     (λ e. cond_both (nat_le target f.pc) (counted_jump name f target (unwrap_or bound 0) number (slice_get f.taken number)) (Silent (activation name (record f { pc = target }))) (λ x. test x ≡ false)
     (λ e'. counted_none test silent cut name f target (unwrap_or bound 0) number (slice_get f.taken number)) (λ e'. silent _))
     (λ e. silent _)
@@ -230,7 +230,7 @@ frame_other : (f : Frame) (old : ℕ) (b : Bool) → HasRegisters f → b ≡ fa
 frame_other f old true many e = absurd cc
 frame_other f old false many e = held f Rax old many
 
-locked_does : (operation : LockedOperation) (r : Register) (f : Frame) (old : ℕ) → HasRegisters f → Does operation r f old (new_word operation r f old) (advanced (exchanged operation r f old))
+locked_does : (operation : LockedOperation) (r : Register) (f : Frame) (old : ℕ) → HasRegisters f → Does operation r f old (new_word operation r f old) (at_next (exchanged operation r f old))
 locked_does Exchange r f old many = record { memory = refl; register = held f r old many; flags = refl }
 locked_does ExchangeAdd r f old many = record { memory = refl; register = held f r old many; flags = refl }
 locked_does CompareExchange r f old many = record {

@@ -23,7 +23,7 @@ use Rattle.tso_machine.proofs.Fine.{exchanged_taken}
 use Rattle.tso_machine.specs.Activations.{Activation, activation}
 use Rattle.tso_machine.specs.Control.{GoesOnWith}
 use Rattle.tso_machine.specs.Frames.{register_of, value_of}
-use Rattle.tso_machine.specs.Instructions.{action_at, advanced, at_place, back_jumps, counted_jump, done_answer, exchanged, instruction_action, instructions_of, is_taken, jump, next_action, returned, with_register}
+use Rattle.tso_machine.specs.Instructions.{action_at, at_next, at_place, back_jumps, counted_jump, done_answer, exchanged, instruction_action, instructions_of, is_taken, jump, next_action, returned, with_register}
 use Rattle.tso_machine.specs.Places.{operand_place}
 use Rattle.tso_machine.specs.declared.frame.Frame.{Frame}
 use Rattle.tso_model.specs.Programs.{Action, Silent, Ret, Fail, Cut, Refused, BadAnswer, FalseAssertion}
@@ -102,7 +102,7 @@ jump_rest c name f when target bound =
     (λ x. GoesOnWith (LeavesRest step (activation name f)) x) (λ back. counted_rest when target bound name f (unwrap_or bound 0) number (slice_get f.taken number)) (λ ahead. as_is step name f target))
     (λ e. as_is step name f (f.pc + 1))
 
-asserted_rest : (condition : Condition) (name : ProcedureKind) (f : Frame) (b : Bool) → GoesOnWith (LeavesRest (the.Assert condition) (activation name f)) (if b then Silent (activation name (advanced f)) else Fail FalseAssertion)
+asserted_rest : (condition : Condition) (name : ProcedureKind) (f : Frame) (b : Bool) → GoesOnWith (LeavesRest (the.Assert condition) (activation name f)) (if b then Silent (activation name (at_next f)) else Fail FalseAssertion)
 asserted_rest condition name f true = as_is (the.Assert condition) name f (f.pc + 1)
 asserted_rest condition name f false = tt
 
@@ -115,12 +115,12 @@ either_many true f w = refl
 either_many false f w = as_many f Rax w
 
 locked_rest : (name : ProcedureKind) (f : Frame) (operation : LockedOperation) (cell : Address ℕ) (r : Register) (old : ℕ)
-    → LeavesRest (the.Locked operation cell r) (activation name f) (activation name (advanced (exchanged operation r f old)))
+    → LeavesRest (the.Locked operation cell r) (activation name f) (activation name (at_next (exchanged operation r f old)))
 unfolding writes
 locked_rest name f Exchange cell r old = one_register (the.Locked Exchange cell r) name f r old (f.pc + 1) (λ s e. e)
 locked_rest name f ExchangeAdd cell r old = register_and_flags (the.Locked ExchangeAdd cell r) name f r old (f.pc + 1) (sum_flags old (register_of f r)) (λ s e. e) (λ x e. absurd_flag e)
 locked_rest name f CompareExchange cell r old =
-    changed (the.Locked CompareExchange cell r) name f (advanced (exchanged CompareExchange r f old)) (λ s e. either_rest (register_of f Rax == old) f old s e) (λ x e. absurd_flag e)
+    changed (the.Locked CompareExchange cell r) name f (at_next (exchanged CompareExchange r f old)) (λ s e. either_rest (register_of f Rax == old) f old s e) (λ x e. absurd_flag e)
     (either_many (register_of f Rax == old) f old) (λ j. exchanged_taken CompareExchange r f old)
 
 instruction_rest : (c : Client) (name : ProcedureKind) (f : Frame) (step : Instruction ℕ ℕ) → GoesOnWith (LeavesRest step (activation name f)) (instruction_action c name f step)

@@ -15,7 +15,7 @@ use Rattle.tso_prog.specs.declared.client.Client.{Client}
 use Rattle.tso_machine.specs.Activations.{Activation, activation}
 use Rattle.tso_machine.specs.Control.{instruction_at}
 use Rattle.tso_machine.specs.Frames.{register_of, value_of}
-use Rattle.tso_machine.specs.Instructions.{advanced, next_action}
+use Rattle.tso_machine.specs.Instructions.{at_next, next_action}
 use Rattle.tso_machine.specs.Places.{operand_place}
 use Rattle.tso_machine.specs.declared.frame.Frame.{Frame}
 use Rattle.tso_model.specs.Programs.{Action, Silent, Load, Store, Barrier, Locked, Fail, OutOfRange}
@@ -64,7 +64,7 @@ FencesWait c = (a : Activation) → IsTrue (is_barrier (next_action c a)) ↔ (i
 
 -- it changes nothing but the position
 abbrev pub FencesChangeNothing : Client → Type 0
-FencesChangeNothing c = (a : Activation) → instruction_at c a ≡ Some the.Fence → next_action c a ≡ Barrier (activation a.procedure (advanced a.frame))
+FencesChangeNothing c = (a : Activation) → instruction_at c a ≡ Some the.Fence → next_action c a ≡ Barrier (activation a.procedure (at_next a.frame))
 
 -- ---- operands in memory
 

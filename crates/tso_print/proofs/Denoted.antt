@@ -11,7 +11,7 @@ use Rattle.tso_prog.specs.declared.fault.ReadError.TheVariants.{Refused, Memory}
 use Rattle.tso_prog.specs.Client.{client}
 use Rattle.tso_prog.specs.Clients.{ClientOf}
 use Rattle.tso_prog.specs.Contents.{Content}
-use Rattle.tso_prog.specs.Finish.{finished}
+use Rattle.tso_prog.specs.Finish.{client_or_fault}
 use Rattle.tso_prog.specs.Program.{◌>>=◌, Numbered, read_from, lines_of}
 use Rattle.tso_prog.specs.Start.{start}
 use Rattle.tso_prog.specs.Text.{program_of}
@@ -23,11 +23,11 @@ use Rattle.tso_print.proofs.Whole.{IsSound, calls_in, lines_said, client_reads}
 use Rattle.tso_print.proofs.Said.{client_are}
 use Rattle.tso_print.proofs.Sizes.{printed_bytes, printed_fits}
 
-lines_make : (c : ClientOf) → IsSound c → (read_from start (lines_of (printed c) (tokens_of (printed c))) >>= λ d. finished d) ≡ Ok c
+lines_make : (c : ClientOf) → IsSound c → (read_from start (lines_of (printed c) (tokens_of (printed c))) >>= λ d. client_or_fault d) ≡ Ok c
 unfolding printed
 lines_make c s =
     let r = client_reads c s in
-    ap (λ (ls : List Numbered). read_from start ls >>= λ d. finished d) (lines_read (client_lines c) (lines_said c) (client_are c s)) ∙ ap (λ (o : Result Content Fault). o >>= λ d. finished d) r.reads ∙ r.passes
+    ap (λ (ls : List Numbered). read_from start ls >>= λ d. client_or_fault d) (lines_read (client_lines c) (lines_said c) (client_are c s)) ∙ ap (λ (o : Result Content Fault). o >>= λ d. client_or_fault d) r.reads ∙ r.passes
 
 pub printed_denotes : (c : ClientOf) → IsSound c → Denotes (printed c) c
 unfolding program_of

@@ -11,8 +11,8 @@ use Rattle.tso_line.specs.declared.instruction.Instruction.TheVariants as instru
 use Rattle.tso_line.specs.Instructions.{label_of}
 use Rattle.tso_line.specs.Lines.{Name}
 use Rattle.tso_prog.specs.declared.fault.Fault.{Fault}
-use Rattle.tso_prog.specs.Contents.{LabelOf, StepOf}
-use Rattle.tso_prog.specs.Finish.{label_place, jump_to, labelled_step, labelled}
+use Rattle.tso_prog.specs.Contents.{TargetOf, StepOf}
+use Rattle.tso_prog.specs.Finish.{target_position, jump_to, labelled_step, labelled}
 use Rattle.tso_prog.specs.Limits.{has_target_within}
 use Rattle.tso_prog.specs.Program.{◌>>=◌}
 use Rattle.tso_print.specs.Layout.{label_name, is_target, is_jumped_to}
@@ -21,7 +21,7 @@ use Rattle.tso_print.proofs.Reading.{labelled_by, label_made, labels_from}
 
 -- ---- labels
 
-place_at : (steps : List (Instruction ℕ ℕ)) (t : ℕ) (more : List LabelOf) → is_jumped_to steps t ≡ true → label_place (label_made steps t ++ more) (label_name t) ≡ Some t
+place_at : (steps : List (Instruction ℕ ℕ)) (t : ℕ) (more : List TargetOf) → is_jumped_to steps t ≡ true → target_position (label_made steps t ++ more) (label_name t) ≡ Some t
 place_at steps t more e = rw e (place_here t more)
 
 made_before : (b : Bool) (at : ℕ) → Before (at + 1) (cond b (label_at at ∷ []) [])
@@ -32,21 +32,21 @@ later : (a t : ℕ) → a ≤ t → (t == a) ≡ false → a + 1 ≤ t
 later a t le e = grind (arith, nat_tests)
 
 found_at : (b : Bool) (steps : List (Instruction ℕ ℕ)) (i : Instruction ℕ ℕ) (is : List (Instruction ℕ ℕ)) (at t : ℕ) → (t == at) ≡ b → at ≤ t → t ≤ 256 → is_jumped_to steps t ≡ true
-    → (at + 1 ≤ t → label_place (labels_from steps (at + 1) is) (label_name t) ≡ Some t) → label_place (labels_from steps at (i ∷ is)) (label_name t) ≡ Some t
-found_at true steps i is at t f low few e again = subst (λ (a : ℕ). label_place (label_made steps a ++ labels_from steps (at + 1) is) (label_name t) ≡ Some t) (eqb-true t at f) (place_at steps t (labels_from steps (at + 1) is) e)
+    → (at + 1 ≤ t → target_position (labels_from steps (at + 1) is) (label_name t) ≡ Some t) → target_position (labels_from steps at (i ∷ is)) (label_name t) ≡ Some t
+found_at true steps i is at t f low few e again = subst (λ (a : ℕ). target_position (label_made steps a ++ labels_from steps (at + 1) is) (label_name t) ≡ Some t) (eqb-true t at f) (place_at steps t (labels_from steps (at + 1) is) e)
 found_at false steps i is at t f low few e again =
     let next = later at t low f in
     place_behind (label_made steps at) (labels_from steps (at + 1) is) (label_name t) (before_none (at + 1) t (label_made steps at) next few (made_before (is_jumped_to steps at) at)) ∙ again next
 
-found_from : (steps is : List (Instruction ℕ ℕ)) (at t : ℕ) → at ≤ t → t ≤ at + length is → t ≤ 256 → is_jumped_to steps t ≡ true → label_place (labels_from steps at is) (label_name t) ≡ Some t
+found_from : (steps is : List (Instruction ℕ ℕ)) (at t : ℕ) → at ≤ t → t ≤ at + length is → t ≤ 256 → is_jumped_to steps t ≡ true → target_position (labels_from steps at is) (label_name t) ≡ Some t
 found_from steps [] at t low high few e =
     let same : t ≡ at = omega (arith, low, high) in
-    subst (λ (a : ℕ). label_place (label_made steps a) (label_name t) ≡ Some t) same (ap (λ (ls : List LabelOf). label_place ls (label_name t)) (sym (append-nil (label_made steps t))) ∙ place_at steps t [] e)
+    subst (λ (a : ℕ). target_position (label_made steps a) (label_name t) ≡ Some t) same (ap (λ (ls : List TargetOf). target_position ls (label_name t)) (sym (append-nil (label_made steps t))) ∙ place_at steps t [] e)
 found_from steps (i ∷ is) at t low high few e = found_at (t == at) steps i is at t refl low few e (λ next. found_from steps is (at + 1) t next (omega (arith, high)) few e)
 
 -- the place of each label that an instruction names is among these
-abbrev pub Finds : List LabelOf → Instruction ℕ ℕ → Type 0
-Finds labels i = (t : ℕ) → label_of i ≡ Some t → label_place labels (label_name t) ≡ Some t
+abbrev pub Finds : List TargetOf → Instruction ℕ ℕ → Type 0
+Finds labels i = (t : ℕ) → label_of i ≡ Some t → target_position labels (label_name t) ≡ Some t
 
 target_near : (len : ℕ) (i : Instruction ℕ ℕ) (t : ℕ) → has_target_within len i ≡ true → label_of i ≡ Some t → t ≤ len
 target_near len (instructions.Move to from) t e f = absurd cc
@@ -82,7 +82,7 @@ all_found steps front (i ∷ is) e few within =
       all_found steps (front ++ i ∷ []) is (append_assoc front (i ∷ []) is ∙ e) few a.1,
     )
 
-step_is : (labels : List LabelOf) (i : Instruction ℕ ℕ) (n : ℕ) → Finds labels i → labelled_step labels (record { instruction = labelled_by i; line = n }) ≡ Ok i
+step_is : (labels : List TargetOf) (i : Instruction ℕ ℕ) (n : ℕ) → Finds labels i → labelled_step labels (record { instruction = labelled_by i; line = n }) ≡ Ok i
 step_is labels (instructions.Move to from) n h = refl
 step_is labels (instructions.Load to from) n h = refl
 step_is labels (instructions.Store to from) n h = refl
@@ -106,7 +106,7 @@ rest_steps : List (Instruction ℕ Name) → List (Instruction ℕ Name)
 rest_steps [] = []
 rest_steps (i ∷ is) = is
 
-pub all_labelled : (labels : List LabelOf) (is : List (Instruction ℕ ℕ)) (ts : List StepOf) → map (λ (s : StepOf). s.instruction) ts ≡ map labelled_by is → AllByRecursion (λ (i : Instruction ℕ ℕ). Finds labels i) is → labelled labels ts ≡ Ok is
+pub all_labelled : (labels : List TargetOf) (is : List (Instruction ℕ ℕ)) (ts : List StepOf) → map (λ (s : StepOf). s.instruction) ts ≡ map labelled_by is → AllByRecursion (λ (i : Instruction ℕ ℕ). Finds labels i) is → labelled labels ts ≡ Ok is
 unfolding labelled first_step rest_steps
 all_labelled labels [] [] e h = refl
 all_labelled labels [] (t ∷ ts) e h = absurd cc

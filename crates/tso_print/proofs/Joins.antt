@@ -12,7 +12,7 @@ use Rattle.tso_line.specs.declared.instruction.Source.{Source}
 use Rattle.tso_line.specs.declared.instruction.LockedOperation.{LockedOperation}
 use Rattle.tso_line.specs.declared.instruction.Instruction.TheVariants.{Store, Locked}
 use Rattle.tso_print.specs.Layout.{head_lines, array_pieces, body_lines, prologue_lines, thread_pieces, printed, array_name, source_pieces, locked_pieces, instruction_pieces, index_pieces, offset_pieces, cell_pieces}
-use Rattle.tso_print.specs.Signs.{register_word}
+use Rattle.tso_line.specs.Vocabulary.{register_word}
 use Rattle.tso_print.specs.Pieces.{Piece, spelled, text_of}
 
 pub spelled-append : (ps qs : List Piece) → spelled (ps ++ qs) ≡ spelled ps ++ spelled qs
@@ -57,3 +57,8 @@ pub client_joins : (c : ClientOf) (t0 t1 t2 t3 t4 t5 t6 : List ℕ) → t0 ≡ [
     → t6 ≡ printed c
 unfolding printed
 client_joins c t0 t1 t2 t3 t4 t5 t6 e0 e1 e2 e3 e4 e5 e6 = rw (e6, e5, e4, e3, e2, e1, e0) (simp (append_assoc, text_of-append))
+
+-- ---- procedures
+
+pub procedure_joins : (t0 t1 t2 t3 t4 directive body : List ℕ) → t1 ≡ t0 ++ directive → t2 ≡ t1 ++ codes "\n" → t3 ≡ t2 ++ body → t4 ≡ t3 ++ codes ".end\n" → t4 ≡ t0 ++ (directive ++ (codes "\n" ++ (body ++ codes ".end\n")))
+procedure_joins t0 t1 t2 t3 t4 directive body e1 e2 e3 e4 = rw (e4, e3, e2, e1) (simp append_assoc)

@@ -15,7 +15,8 @@ use Rattle.tso_text.proofs.Pieces.{run, after_run, word_piece, number_piece, dot
 use Rattle.tso_line.specs.declared.lexeme.Directive.{Directive}
 use Rattle.tso_line.specs.declared.lexeme.Directive.TheVariants as directives
 use Rattle.tso_line.specs.Proper.{is_letter, goes_on, is_name}
-use Rattle.tso_print.specs.Signs.{Sign, directive, keyword, name, number, colon, comma, bracket, end_bracket, plus, minus, star, equals, sign_text, keyword_word, directive_word}
+use Rattle.tso_line.specs.Vocabulary.{keyword_word, directive_word}
+use Rattle.tso_print.specs.Signs.{Sign, directive, keyword, name, number, colon, comma, bracket, end_bracket, plus, minus, star, equals, sign_text}
 use Rattle.tso_print.proofs.Meant.{has_word, keyword_named}
 use Rattle.tso_print.proofs.Digits.{decimal_all}
 use Rattle.tso_print.proofs.Names.{name_goes}

@@ -1,9 +1,12 @@
 -- What each printed line says that is no instruction.
-use Rattle.std.proofs.Common.{◌≡◌, ℕ, suc, ◌-◌, ◌^◌, ◌<◌, ◌≤◌, Bool, true, false, cond, List, [], ◌∷◌, ◌++◌, length, replicate, map, Option, Some, refl, sym, ap, ◌∙◌, eq-eqb, arith}
+use Rattle.std.proofs.Common.{◌≡◌, ℕ, suc, ◌-◌, ◌^◌, ◌<◌, ◌≤◌, Bool, true, false, cond, List, [], ◌∷◌, ◌++◌, length, replicate, map, Some, refl, sym, ap, ◌∙◌, eq-eqb, arith}
 use Rattle.std.specs.Prelude.{◌==◌, nat_le}
 use Rattle.std.specs.List.{list_all}
 use Rattle.std.proofs.lemmas.Bool.{and_parts, leb-true, le-leb, eqb-true}
 use Rattle.std.proofs.lemmas.List.{length-map}
+use Rattle.tso_line.specs.Ranges.{all_within}
+use Rattle.tso_line.specs.declared.lexeme.Ranged.{Ranged}
+use Rattle.tso_line.specs.declared.lexeme.Ranged.TheVariants.{Within}
 use Rattle.tso_line.specs.declared.instruction.Mode.{Mode}
 use Rattle.tso_line.specs.declared.instruction.Mode.TheVariants as modes
 use Rattle.tso_line.specs.declared.instruction.CallKind.{CallKind}
@@ -16,7 +19,7 @@ use Rattle.tso_line.specs.declared.line.Kind.TheVariants as kinds
 use Rattle.tso_line.specs.Lexemes.{is_comma, split_by}
 use Rattle.tso_line.specs.Lines.{Name, Line, capacity, mode, array, push, pop, end, label, before, thread}
 use Rattle.tso_line.specs.Proper.{is_word, is_call}
-use Rattle.tso_line.specs.Reading.{value_of, call_of, each, all_some, array_line, values_or_none, calls_of, calls_line, directive_line as read_directive}
+use Rattle.tso_line.specs.Reading.{value_of, call_of, each, array_line, values_or_none, calls_of, calls_line, directive_line as read_directive}
 use Rattle.tso_prog.specs.declared.client.Array.{Array}
 use Rattle.tso_print.specs.Signs.{directive, name, number, colon, comma, equals}
 use Rattle.tso_print.specs.Pieces.{Piece, tight, spaced}
@@ -61,20 +64,20 @@ word_fits : (w : ℕ) → is_word w ≡ true → nat_le w (2 ^ 64 - 1) ≡ true
 word_fits w e = let lt : w < 2 ^ 64 = leb-true (suc w) (2 ^ 64) e in le-leb w (2 ^ 64 - 1) (omega arith)
 
 -- one value in each piece
-values_cut : (v : ℕ) (vs : List ℕ) (at : ℕ) → split_by is_comma (lexemes.Number (Some v) ∷ lexemes_at at (more_values vs)) ≡ map (λ (w : ℕ). lexemes.Number (Some w) ∷ []) (v ∷ vs)
+values_cut : (v : ℕ) (vs : List ℕ) (at : ℕ) → split_by is_comma (lexemes.Number (Within v) ∷ lexemes_at at (more_values vs)) ≡ map (λ (w : ℕ). lexemes.Number (Within w) ∷ []) (v ∷ vs)
 unfolding split_by
 values_cut v [] at = refl
 values_cut v (w ∷ ws) at = rw (values_cut w ws (sign_end (sign_end at (tight comma)) (spaced (number w)))) refl
 
-each_value : (vs : List ℕ) → list_all is_word vs ≡ true → each value_of (map (λ (w : ℕ). lexemes.Number (Some w) ∷ []) vs) ≡ Some (map (λ (w : ℕ). Some w) vs)
+each_value : (vs : List ℕ) → list_all is_word vs ≡ true → each value_of (map (λ (w : ℕ). lexemes.Number (Within w) ∷ []) vs) ≡ Some (map (λ (w : ℕ). Within w) vs)
 unfolding each
 each_value [] e = refl
 each_value (v ∷ vs) e =
     let a = and_parts (is_word v) (list_all is_word vs) e in
     rw (word_fits v a.0, each_value vs a.1) refl
 
-all_values : {A : Type 0} (vs : List A) → all_some (map (λ (w : A). Some w) vs) ≡ Some vs
-unfolding all_some
+all_values : {A : Type 0} (vs : List A) → all_within (map (λ (w : A). Within w) vs) ≡ Some vs
+unfolding all_within
 all_values [] = refl
 all_values (v ∷ vs) = rw (all_values vs) refl
 
@@ -85,19 +88,19 @@ zeros (w ∷ ws) e =
     (λ i. sym (eqb-true w 0 a.0) i ∷ zeros ws a.1 i)
 
 values_said : (n : Name) (v : ℕ) (vs : List ℕ) (at : ℕ) → length (v ∷ vs) ≤ 256 → list_all is_word (v ∷ vs) ≡ true
-    → values_or_none n (Some (length (v ∷ vs))) (each value_of (split_by is_comma (lexemes.Number (Some v) ∷ lexemes_at at (more_values vs)))) ≡ array n (v ∷ vs)
+    → values_or_none n (Within (length (v ∷ vs))) (each value_of (split_by is_comma (lexemes.Number (Within v) ∷ lexemes_at at (more_values vs)))) ≡ array n (v ∷ vs)
 values_said n v vs at few all =
-    let len : length (map (λ (w : ℕ). Some w) (v ∷ vs)) ≡ length (v ∷ vs) = length-map (v ∷ vs) (λ (w : ℕ). Some w) in
+    let len : length (map (λ (w : ℕ). Within w) (v ∷ vs)) ≡ length (v ∷ vs) = length-map (v ∷ vs) (λ (w : ℕ). Within w) in
     let same : (length (v ∷ vs) == length (v ∷ vs)) ≡ true = eq-eqb (length (v ∷ vs)) (length (v ∷ vs)) refl in
     let most : nat_le (length (v ∷ vs)) 256 ≡ true = le-leb (length (v ∷ vs)) 256 few in
-    ap (λ (ps : List (List Lexeme)). values_or_none n (Some (length (v ∷ vs))) (each value_of ps)) (values_cut v vs at)
-    ∙ ap (values_or_none n (Some (length (v ∷ vs)))) (each_value (v ∷ vs) all)
-    ∙ counted_said n (map (λ (w : ℕ). Some w) (v ∷ vs)) (v ∷ vs) len same most (all_values (v ∷ vs))
+    ap (λ (ps : List (List Lexeme)). values_or_none n (Within (length (v ∷ vs))) (each value_of ps)) (values_cut v vs at)
+    ∙ ap (values_or_none n (Within (length (v ∷ vs)))) (each_value (v ∷ vs) all)
+    ∙ counted_said n (map (λ (w : ℕ). Within w) (v ∷ vs)) (v ∷ vs) len same most (all_values (v ∷ vs))
   where
-    counted_said : (n : Name) (values : List (Option ℕ)) (ws : List ℕ) → length values ≡ length ws → (length ws == length ws) ≡ true → nat_le (length ws) 256 ≡ true → all_some values ≡ Some ws → values_or_none n (Some (length ws)) (Some values) ≡ array n ws
+    counted_said : (n : Name) (values : List (Ranged ℕ)) (ws : List ℕ) → length values ≡ length ws → (length ws == length ws) ≡ true → nat_le (length ws) 256 ≡ true → all_within values ≡ Some ws → values_or_none n (Within (length ws)) (Some values) ≡ array n ws
     counted_said n values ws len same most all = rw (len, same, most, all) refl
 
-zero_line : (n : Name) (v : ℕ) (vs : List ℕ) → length (v ∷ vs) ≤ 256 → list_all (λ (w : ℕ). w == 0) (v ∷ vs) ≡ true → array_line n (Some (length (v ∷ vs))) ≡ array n (v ∷ vs)
+zero_line : (n : Name) (v : ℕ) (vs : List ℕ) → length (v ∷ vs) ≤ 256 → list_all (λ (w : ℕ). w == 0) (v ∷ vs) ≡ true → array_line n (Within (length (v ∷ vs))) ≡ array n (v ∷ vs)
 zero_line n v vs few none =
     let low : nat_le 1 (length (v ∷ vs)) ≡ true = le-leb 1 (length (v ∷ vs)) (omega arith) in
     let high : nat_le (length (v ∷ vs)) 256 ≡ true = le-leb (length (v ∷ vs)) 256 few in
@@ -113,9 +116,9 @@ second_at n len v at = sign_end (sign_end (sign_end (sign_end (sign_end at (tigh
 pieces_say : (b : Bool) (n : Name) (v : ℕ) (vs : List ℕ) → list_all (λ (w : ℕ). w == 0) (v ∷ vs) ≡ b → length (v ∷ vs) ≤ 256 → list_all is_word (v ∷ vs) ≡ true
     → Says (array_with n (length (v ∷ vs)) (cond b [] (spaced equals ∷ spaced (number v) ∷ more_values vs))) (array n (v ∷ vs))
 unfolding read_directive
-pieces_say true n v vs none few all source at h = ap (λ (m : Name). array_line m (Some (length (v ∷ vs)))) h.1.0 ∙ zero_line n v vs few none
+pieces_say true n v vs none few all source at h = ap (λ (m : Name). array_line m (Within (length (v ∷ vs)))) h.1.0 ∙ zero_line n v vs few none
 pieces_say false n v vs none few all source at h =
-    ap (λ (m : Name). values_or_none m (Some (length (v ∷ vs))) (each value_of (split_by is_comma (lexemes.Number (Some v) ∷ lexemes_at (second_at n (length (v ∷ vs)) v at) (more_values vs))))) h.1.0
+    ap (λ (m : Name). values_or_none m (Within (length (v ∷ vs))) (each value_of (split_by is_comma (lexemes.Number (Within v) ∷ lexemes_at (second_at n (length (v ∷ vs)) v at) (more_values vs))))) h.1.0
     ∙ values_said n v vs (second_at n (length (v ∷ vs)) v at) few all
 
 words_say : (n : Name) (ws : List ℕ) → 1 ≤ length ws → length ws ≤ 256 → list_all is_word ws ≡ true → Says (array_with n (length ws) (value_pieces ws)) (array n ws)
@@ -127,7 +130,7 @@ array_says a some few all = words_say a.name a.words some few all
 
 -- ---- calls
 
-each_call : (c : CallKind) (cs : List CallKind) (at : ℕ) → list_all is_call (c ∷ cs) ≡ true → each call_of (split_by is_comma (lexemes_at at (call_pieces c ++ more_calls cs))) ≡ Some (map (λ (d : CallKind). Some d) (c ∷ cs))
+each_call : (c : CallKind) (cs : List CallKind) (at : ℕ) → list_all is_call (c ∷ cs) ≡ true → each call_of (split_by is_comma (lexemes_at at (call_pieces c ++ more_calls cs))) ≡ Some (map (λ (d : CallKind). Within d) (c ∷ cs))
 unfolding split_by each
 each_call (calls.Push v) [] at e = let a = and_parts (is_word v) true e in rw (word_fits v a.0) refl
 each_call calls.Pop [] at e = refl

@@ -1,5 +1,5 @@
 -- The lexemes of printed lines, and the lines that they make.
-use Rattle.std.proofs.Common.{◌≡◌, ℕ, suc, ◌+◌, ◌-◌, ◌^◌, ◌<◌, true, false, List, [], ◌∷◌, ◌++◌, length, drop, replicate, map, Some, refl, sym, ap, subst, ◌∙◌, append_assoc, arith}
+use Rattle.std.proofs.Common.{◌≡◌, ℕ, suc, ◌+◌, ◌-◌, ◌^◌, ◌<◌, true, false, List, [], ◌∷◌, ◌++◌, length, drop, replicate, map, refl, sym, ap, subst, ◌∙◌, append_assoc, arith}
 use Rattle.std.specs.Prelude.{◌==◌, nat_le}
 use Rattle.std.specs.List.{list_all, flat_map}
 use Rattle.std.proofs.Math.Seq.{drop-append_seam, take-append_seam}
@@ -8,6 +8,7 @@ use Rattle.std.proofs.lemmas.Bool.Decides.{nat_tests}
 use Rattle.std.proofs.lemmas.List.{drop-drop, length-append, length-replicate}
 use Rattle.tso_text.specs.declared.token.Token.{Token}
 use Rattle.tso_text.specs.Lexing.{tokens_of}
+use Rattle.tso_line.specs.declared.lexeme.Ranged.TheVariants.{Within}
 use Rattle.tso_line.specs.declared.lexeme.Span.{Span}
 use Rattle.tso_line.specs.declared.lexeme.Lexeme.{Lexeme}
 use Rattle.tso_line.specs.declared.lexeme.Lexeme.TheVariants as lexemes
@@ -18,7 +19,8 @@ use Rattle.tso_line.specs.Proper.{is_letter, goes_on, is_name}
 use Rattle.tso_line.specs.Reading.{line_of}
 use Rattle.tso_line.specs.Words.{meaning_of, word_of_text, by_kind, lexeme_of}
 use Rattle.tso_prog.specs.Program.{ends_line, Numbered, numbered, lines_of}
-use Rattle.tso_print.specs.Signs.{Sign, directive, keyword, name, number, colon, comma, bracket, end_bracket, plus, minus, star, equals, sign_text, keyword_word}
+use Rattle.tso_line.specs.Vocabulary.{keyword_word}
+use Rattle.tso_print.specs.Signs.{Sign, directive, keyword, name, number, colon, comma, bracket, end_bracket, plus, minus, star, equals, sign_text}
 use Rattle.tso_print.specs.Pieces.{Piece, spelled, text_of}
 use Rattle.tso_print.proofs.Digits.{number_read}
 use Rattle.tso_print.proofs.Meant.{keyword_meant, keyword_named, directive_meant}
@@ -31,7 +33,7 @@ abbrev pub sign_lexeme : Span → Sign → Lexeme
 sign_lexeme s (directive d) = lexemes.Directive d
 sign_lexeme s (keyword m) = lexemes.Word s m
 sign_lexeme s (name n) = lexemes.Word s (meaning_of n)
-sign_lexeme s (number n) = lexemes.Number (Some n)
+sign_lexeme s (number n) = lexemes.Number (Within n)
 sign_lexeme s colon = lexemes.Colon
 sign_lexeme s comma = lexemes.Comma
 sign_lexeme s bracket = lexemes.Open

@@ -1,13 +1,15 @@
 -- Numbers that are printed are read as the same words and displacements.
-use Rattle.std.proofs.Common.{◌≡◌, ℕ, suc, ◌+◌, ◌-◌, ◌*◌, ◌/◌, ◌%◌, ◌^◌, ◌<◌, ◌≤◌, Bool, true, false, cond, List, [], ◌∷◌, Option, Some, None, ℤ, pos, refl, sym, ap, arith}
+use Rattle.std.proofs.Common.{◌≡◌, ℕ, suc, ◌+◌, ◌-◌, ◌*◌, ◌/◌, ◌%◌, ◌^◌, ◌<◌, ◌≤◌, Bool, true, false, cond, List, [], ◌∷◌, Some, ℤ, pos, refl, sym, ap, arith}
 use Rattle.std.specs.Prelude.{◌==◌, nat_lt, nat_le, negsuc}
 use Rattle.std.specs.Option.{option_map}
 use Rattle.std.proofs.lemmas.Bool.{leb-true, leb-false, le-leb, eqb-true}
 use Rattle.std.proofs.lemmas.Bool.Decides.{nat_tests}
+use Rattle.tso_line.specs.declared.lexeme.Ranged.TheVariants.{Within}
+use Rattle.tso_line.specs.declared.shape.Offset.{Offset as CellOffset}
+use Rattle.tso_line.specs.declared.shape.Offset.TheVariants as offsets
 use Rattle.tso_line.specs.declared.instruction.Register.{Register}
 use Rattle.tso_line.specs.declared.instruction.Source.{Source}
 use Rattle.tso_line.specs.declared.instruction.Source.TheVariants as sources
-use Rattle.tso_line.specs.declared.shape.Signed.{Signed}
 use Rattle.tso_line.specs.declared.form.RawSource.{RawSource}
 use Rattle.tso_line.specs.declared.form.RawSource.TheVariants as raws
 use Rattle.tso_line.specs.declared.form.Form.TheVariants as forms
@@ -35,10 +37,10 @@ pieces_of_offset none = []
 pieces_of_offset (up m) = spaced plus ∷ spaced (number m) ∷ []
 pieces_of_offset (down m) = spaced minus ∷ spaced (number m) ∷ []
 
-abbrev pub signed_of_offset : Offset → Option Signed
-signed_of_offset none = None
-signed_of_offset (up m) = Some (signed false (Some m))
-signed_of_offset (down m) = Some (signed true (Some m))
+abbrev pub signed_of_offset : Offset → CellOffset
+signed_of_offset none = offsets.Absent
+signed_of_offset (up m) = offsets.By (signed false (Within m))
+signed_of_offset (down m) = offsets.By (signed true (Within m))
 
 pub offset_is : (z : ℤ) → offset_pieces z ≡ pieces_of_offset (offset_of z)
 offset_is (negsuc n) = refl
@@ -64,8 +66,8 @@ pieces_of_origin (negative m) = spaced minus ∷ tight (number m) ∷ []
 
 abbrev pub raw_of_origin : Origin → RawSource
 raw_of_origin (register r) = raws.Register r
-raw_of_origin (word w) = raws.Number (signed false (Some w))
-raw_of_origin (negative m) = raws.Number (signed true (Some m))
+raw_of_origin (word w) = raws.Number (signed false (Within w))
+raw_of_origin (negative m) = raws.Number (signed true (Within m))
 
 pub source_is : (s : Source) → source_pieces s ≡ pieces_of_origin (origin_of s)
 source_is (sources.Register r) = refl
@@ -107,10 +109,10 @@ cells_is (pos n) e = by (n == 0) refl
 mod_small : (w : ℕ) → w < 2 ^ 64 → (2 ^ 64 - (2 ^ 64 - w)) % 2 ^ 64 ≡ w
 mod_small w lt = let e : 2 ^ 64 - (2 ^ 64 - w) ≡ w = omega arith in rw e (omega arith)
 
-word_plain : (w least greatest : ℕ) → w ≤ greatest → word_of least greatest (signed false (Some w)) ≡ Some w
+word_plain : (w least greatest : ℕ) → w ≤ greatest → word_of least greatest (signed false (Within w)) ≡ Some w
 word_plain w least greatest le = let t : nat_le w greatest ≡ true = le-leb w greatest le in rw t refl
 
-word_far : (w least greatest : ℕ) → w < 2 ^ 64 → 2 ^ 64 - w ≤ least → word_of least greatest (signed true (Some (2 ^ 64 - w))) ≡ Some w
+word_far : (w least greatest : ℕ) → w < 2 ^ 64 → 2 ^ 64 - w ≤ least → word_of least greatest (signed true (Within (2 ^ 64 - w))) ≡ Some w
 word_far w least greatest lt le = let t : nat_le (2 ^ 64 - w) least ≡ true = le-leb (2 ^ 64 - w) least le in rw (t, mod_small w lt) refl
 
 narrow_near : (w : ℕ) → is_narrow w ≡ true → nat_lt w (2 ^ 63) ≡ true → w ≤ 2 ^ 31 - 1

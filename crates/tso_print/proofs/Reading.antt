@@ -15,7 +15,7 @@ use Rattle.tso_prog.specs.declared.client.Array.{Array}
 use Rattle.tso_prog.specs.declared.draft.Part.TheVariants as parts
 use Rattle.tso_prog.specs.declared.fault.Code.{Code}
 use Rattle.tso_prog.specs.Clients.{ClientOf}
-use Rattle.tso_prog.specs.Contents.{LabelOf, StepOf, BodyOf, Content}
+use Rattle.tso_prog.specs.Contents.{TargetOf, StepOf, BodyOf, Content}
 use Rattle.tso_prog.specs.Faults.{repeats, lacks_array, passes_limit, fault_at, lacks_at, long_label}
 use Rattle.tso_prog.specs.After.{after, step, numbered}
 use Rattle.tso_prog.specs.Limits.{are_distinct, has_array_below, has_target_within, is_short_name}
@@ -128,10 +128,10 @@ abbrev pub others : Bool → Content → ℕ
 others true c = length c.pop.steps
 others false c = length c.push.steps
 
-abbrev pub body : List LabelOf → List StepOf → BodyOf
+abbrev pub body : List TargetOf → List StepOf → BodyOf
 body labels steps = record { labels = labels; steps = steps }
 
-label_clean : (w : Bool) (c : Content) (b : BodyOf) (n : Name) → list_any (λ (l : LabelOf). bytes_eq l.name n) b.labels ≡ false → length n ≤ 32 → fault_at (at_body w c b) (label n) ≡ None
+label_clean : (w : Bool) (c : Content) (b : BodyOf) (n : Name) → list_any (λ (l : TargetOf). bytes_eq l.name n) b.labels ≡ false → length n ≤ 32 → fault_at (at_body w c b) (label n) ≡ None
 unfolding fault_at repeats lacks_array passes_limit
 label_clean true c b n new short = let e9 = not_over 32 (length n) short in rw (new, e9) refl
 label_clean false c b n new short = let e9 = not_over 32 (length n) short in rw (new, e9) refl
@@ -235,32 +235,32 @@ abbrev pub body_said : List Array → List (Instruction ℕ ℕ) → ℕ → Lis
 body_said arrays steps at [] = label_said steps at
 body_said arrays steps at (i ∷ is) = label_said steps at ++ instruction_said arrays i ∷ body_said arrays steps (at + 1) is
 
-abbrev pub label_made : List (Instruction ℕ ℕ) → ℕ → List LabelOf
+abbrev pub label_made : List (Instruction ℕ ℕ) → ℕ → List TargetOf
 label_made steps at = cond (is_jumped_to steps at) (label_at at ∷ []) []
 
 -- the labels among them
-abbrev pub labels_from : List (Instruction ℕ ℕ) → ℕ → List (Instruction ℕ ℕ) → List LabelOf
+abbrev pub labels_from : List (Instruction ℕ ℕ) → ℕ → List (Instruction ℕ ℕ) → List TargetOf
 labels_from steps at [] = label_made steps at
 labels_from steps at (i ∷ is) = label_made steps at ++ labels_from steps (at + 1) is
 
-label_after : (w : Bool) (c : Content) (labels : List LabelOf) (ss : List StepOf) (n : ℕ) (m : Name) → after (at_body w c (body labels ss)) n (label m) ≡ at_body w c (body (labels ++ (record { name = m; at = length ss }) ∷ []) ss)
+label_after : (w : Bool) (c : Content) (labels : List TargetOf) (ss : List StepOf) (n : ℕ) (m : Name) → after (at_body w c (body labels ss)) n (label m) ≡ at_body w c (body (labels ++ (record { name = m; at = length ss }) ∷ []) ss)
 label_after true c labels ss n m = refl
 label_after false c labels ss n m = refl
 
-step_after : (w : Bool) (c : Content) (labels : List LabelOf) (ss : List StepOf) (n : ℕ) (i : Instruction Name Name) → after (at_body w c (body labels ss)) n (instruction i false) ≡ at_body w c (body labels (ss ++ step n (numbered c i) ∷ []))
+step_after : (w : Bool) (c : Content) (labels : List TargetOf) (ss : List StepOf) (n : ℕ) (i : Instruction Name Name) → after (at_body w c (body labels ss)) n (instruction i false) ≡ at_body w c (body labels (ss ++ step n (numbered c i) ∷ []))
 step_after true c labels ss n i = refl
 step_after false c labels ss n i = refl
 
-label_reads : (b : Bool) (w : Bool) (c : Content) (labels : List LabelOf) (ss : List StepOf) (at n : ℕ) (ls : List Line) (good : Content → Type 0) → Before at labels → at ≤ 256 → length ss ≡ at
+label_reads : (b : Bool) (w : Bool) (c : Content) (labels : List TargetOf) (ss : List StepOf) (at n : ℕ) (ls : List Line) (good : Content → Type 0) → Before at labels → at ≤ 256 → length ss ≡ at
     → ((m : ℕ) → Reads (at_body w c (body (labels ++ cond b (label_at at ∷ []) []) ss)) m ls good) → Reads (at_body w c (body labels ss)) n (cond b (label (label_name at) ∷ []) [] ++ ls) good
 label_reads true w c labels ss at n ls good older few len k =
     let here : after (at_body w c (body labels ss)) n (label (label_name at)) ≡ at_body w c (body (labels ++ label_at at ∷ []) ss) = label_after w c labels ss n (label_name at) ∙ ap (λ (j : ℕ). at_body w c (body (labels ++ (record { name = label_name at; at = j }) ∷ []) ss)) len in
     reads_line (at_body w c (body labels ss)) n (label (label_name at)) ls good (label_clean w c (body labels ss) (label_name at) (before_none at at labels (omega arith) few older) (name_fits at few))
     (subst (λ (d : Content). Reads d (n + 1) ls good) (sym here) (k (n + 1)))
 label_reads false w c labels ss at n ls good older few len k =
-    subst (λ (xs : List LabelOf). Reads (at_body w c (body xs ss)) n ls good) (append-nil labels) (k n)
+    subst (λ (xs : List TargetOf). Reads (at_body w c (body xs ss)) n ls good) (append-nil labels) (k n)
 
-label_before : (b : Bool) (at : ℕ) (labels : List LabelOf) → Before at labels → Before (at + 1) (labels ++ cond b (label_at at ∷ []) [])
+label_before : (b : Bool) (at : ℕ) (labels : List TargetOf) → Before at labels → Before (at + 1) (labels ++ cond b (label_at at ∷ []) [])
 label_before true at labels h = before_push at labels h
 label_before false at labels h = subst (Before (at + 1)) (sym (append-nil labels)) (before_more at labels h)
 
@@ -268,7 +268,7 @@ label_before false at labels h = subst (Before (at + 1)) (sym (append-nil labels
 abbrev pub is_placed : ℕ → ℕ → Instruction ℕ ℕ → Bool
 is_placed arrays len i = has_array_below arrays i && has_target_within len i
 
-one_step : (w : Bool) (c : Content) (i : Instruction ℕ ℕ) (len at : ℕ) (made : List LabelOf) (ss : List StepOf) (m : ℕ) (rest : List Line) (good : Content → Type 0) → are_distinct (map (λ (a : Array). a.name) c.arrays) ≡ true
+one_step : (w : Bool) (c : Content) (i : Instruction ℕ ℕ) (len at : ℕ) (made : List TargetOf) (ss : List StepOf) (m : ℕ) (rest : List Line) (good : Content → Type 0) → are_distinct (map (λ (a : Array). a.name) c.arrays) ≡ true
     → is_placed (length c.arrays) len i ≡ true → len ≤ 256 → at + others w c < 256 → length ss ≡ at → ((s : StepOf) → s.instruction ≡ labelled_by i → Reads (at_body w c (body made (ss ++ s ∷ []))) (m + 1) rest good)
     → Reads (at_body w c (body made ss)) m (instruction_said c.arrays i ∷ rest) good
 one_step w c i len at made ss m rest good distinct placed small few l k =
@@ -276,7 +276,7 @@ one_step w c i len at made ss m rest good distinct placed small few l k =
     reads_line (at_body w c (body made ss)) m (instruction_said c.arrays i) rest good (step_clean w c (body made ss) (named c.arrays i) (known c i distinct q.0) (short_label c.arrays len i small q.1) (omega (arith, few, l)))
     (subst (λ (d : Content). Reads d (m + 1) rest good) (sym (step_after w c made ss m (named c.arrays i))) (k (step m (numbered c (named c.arrays i))) (numbered_is c i distinct q.0)))
 
-pub body_reads : (w : Bool) (c : Content) (steps is : List (Instruction ℕ ℕ)) (len at : ℕ) (labels : List LabelOf) (ss : List StepOf) (n : ℕ) (ls : List Line) (good : Content → Type 0) → are_distinct (map (λ (a : Array). a.name) c.arrays) ≡ true
+pub body_reads : (w : Bool) (c : Content) (steps is : List (Instruction ℕ ℕ)) (len at : ℕ) (labels : List TargetOf) (ss : List StepOf) (n : ℕ) (ls : List Line) (good : Content → Type 0) → are_distinct (map (λ (a : Array). a.name) c.arrays) ≡ true
     → list_all (is_placed (length c.arrays) len) is ≡ true → len ≤ 256 → at + length is + others w c ≤ 256 → Before at labels → length ss ≡ at
     → ((m : ℕ) (ts : List StepOf) → map (λ (s : StepOf). s.instruction) ts ≡ map labelled_by is → Reads (at_body w c (body (labels ++ labels_from steps at is) (ss ++ ts))) m ls good)
     → Reads (at_body w c (body labels ss)) n (body_said c.arrays steps at is ++ ls) good
@@ -285,7 +285,7 @@ body_reads w c steps [] len at labels ss n ls good distinct placed small few old
     (λ m. subst (λ (ts : List StepOf). Reads (at_body w c (body (labels ++ label_made steps at) ts)) m ls good) (append-nil ss) (k m [] refl))
 body_reads w c steps (i ∷ is) len at labels ss n ls good distinct placed small few older l k =
     let p = and_parts (is_placed (length c.arrays) len i) (list_all (is_placed (length c.arrays) len) is) placed in
-    let made : List LabelOf = labels ++ label_made steps at in
+    let made : List TargetOf = labels ++ label_made steps at in
     let line : Line = instruction_said c.arrays i in
     let rest : List Line = body_said c.arrays steps (at + 1) is ++ ls in
     let regroup : body_said c.arrays steps at (i ∷ is) ++ ls ≡ label_said steps at ++ (line ∷ rest) = append_assoc (label_said steps at) (line ∷ body_said c.arrays steps (at + 1) is) ls in
@@ -293,5 +293,5 @@ body_reads w c steps (i ∷ is) len at labels ss n ls good distinct placed small
     (label_reads (is_jumped_to steps at) w c labels ss at n (line ∷ rest) good older (omega (arith, few)) l
     (λ m. one_step w c i len at made ss m rest good distinct p.0 small (omega (arith, few)) l
     (λ s e. body_reads w c steps is len (at + 1) made (ss ++ s ∷ []) (m + 1) ls good distinct p.1 small (omega (arith, few)) (label_before (is_jumped_to steps at) at labels older) (length-append ss (s ∷ []) ∙ (omega (arith, l)))
-    (λ o ts f. subst (λ (xs : List LabelOf). Reads (at_body w c (body xs ((ss ++ s ∷ []) ++ ts))) o ls good) (sym (append_assoc labels (label_made steps at) (labels_from steps (at + 1) is)))
+    (λ o ts f. subst (λ (xs : List TargetOf). Reads (at_body w c (body xs ((ss ++ s ∷ []) ++ ts))) o ls good) (sym (append_assoc labels (label_made steps at) (labels_from steps (at + 1) is)))
     (subst (λ (us : List StepOf). Reads (at_body w c (body (labels ++ labels_from steps at (i ∷ is)) us)) o ls good) (sym (append_assoc ss (s ∷ []) ts)) (k o (s ∷ ts) (λ j. e j ∷ f j)))))))

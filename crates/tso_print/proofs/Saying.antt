@@ -3,6 +3,9 @@ use Rattle.std.proofs.Common.{◌≡◌, ℕ, true, false, List, [], ◌∷◌, 
 use Rattle.std.specs.Prelude.{option_and_then}
 use Rattle.std.specs.Option.{option_map}
 use Rattle.std.proofs.lemmas.Bool.{and_parts}
+use Rattle.tso_line.specs.declared.lexeme.Ranged.{Ranged}
+use Rattle.tso_line.specs.Ranges.{within}
+use Rattle.tso_line.specs.declared.lexeme.Ranged.TheVariants.{Within}
 use Rattle.tso_line.specs.declared.instruction.Register.{Register}
 use Rattle.tso_line.specs.declared.instruction.Address.{Address}
 use Rattle.tso_line.specs.declared.instruction.Source.{Source}
@@ -77,7 +80,7 @@ locked_says arrays operation cell r e source at h =
     ∙ ap (λ (o : Option ℤ). by_instruction source false (option_map (λ (a : Address Span). instructions.Locked operation a r) (option_map (address span cell.index) o))) (cells_is cell.offset e)
     ∙ ap (λ (m : Name). instruction (instructions.Locked operation (address m cell.index cell.offset) r) false) there
 
-bound_is : (bound : Option ℕ) → is_small bound ≡ true → bound_value (option_map (λ (n : ℕ). Some n) bound) ≡ Some bound
+bound_is : (bound : Option ℕ) → is_small bound ≡ true → bound_value (option_map (λ (n : ℕ). Within n) bound) ≡ Within bound
 bound_is None e = refl
 bound_is (Some n) e = rw e refl
 
@@ -103,7 +106,7 @@ instruction_says arrays (instructions.Increment to) e = λ source at h. refl
 instruction_says arrays (instructions.Decrement to) e = λ source at h. refl
 instruction_says arrays (instructions.Jump when target bound) e = λ source at h.
     jump_shape when (label_name target) bound source at
-    ∙ ap (λ (o : Option (Option ℕ)). by_instruction source false (option_map (instructions.Jump when (name_span at (jump_pieces when (label_name target) bound))) o)) (bound_is bound e)
+    ∙ ap (λ (o : Ranged (Option ℕ)). by_instruction source false (option_map (instructions.Jump when (name_span at (jump_pieces when (label_name target) bound))) (within o))) (bound_is bound e)
     ∙ ap (λ (m : Name). instruction (instructions.Jump when m bound) false) h.1.0
 instruction_says arrays (instructions.Assert condition) e = λ source at h. refl
 instruction_says arrays (instructions.Locked operation cell r) e =

@@ -2,6 +2,8 @@
 use Rattle.std.proofs.Common.{◌≡◌, ℕ, false, List, [], ◌∷◌, ◌++◌, Option, Some, None, refl}
 use Rattle.std.specs.Option.{option_map}
 use Rattle.tso_word.specs.declared.Condition.{Condition}
+use Rattle.tso_line.specs.declared.lexeme.Ranged.TheVariants.{Within}
+use Rattle.tso_line.specs.declared.shape.Offset.TheVariants as offsets
 use Rattle.tso_line.specs.declared.instruction.Register.{Register}
 use Rattle.tso_line.specs.declared.instruction.Operation.{Operation}
 use Rattle.tso_line.specs.declared.instruction.Comparison.{Comparison}
@@ -82,7 +84,7 @@ compare_shape comparison left (negative m) source at = refl
 -- a name that could be the word bound is none
 load_plain : (source : List ℕ) (to : Register) (m : Meaning) (s t u v w : Span)
     → line_of source (lexemes.Word s (meanings.Mnemonic mnemonics.Mov) ∷ lexemes.Word t (meanings.Register to) ∷ lexemes.Comma ∷ lexemes.Word u meanings.Qword ∷ lexemes.Word v meanings.Ptr ∷ lexemes.Open ∷ lexemes.Word w m ∷ lexemes.Close ∷ [])
-    ≡ by_instruction source false (instruction_of (forms.Load to (raw_cell w None None)))
+    ≡ by_instruction source false (instruction_of (forms.Load to (raw_cell w offsets.Absent None)))
 unfolding instruction_line split_by operands_after
 load_plain source to meanings.Plain s t u v w = refl
 load_plain source to (meanings.Register r) s t u v w = refl
@@ -181,7 +183,7 @@ locked_shape locked.ExchangeAdd array (Some i) (up m) r source at = refl
 locked_shape locked.ExchangeAdd array (Some i) (down m) r source at = refl
 
 pub jump_shape : (when : Option Condition) (target : List ℕ) (bound : Option ℕ) (source : List ℕ) (at : ℕ)
-    → line_of source (lexemes_at at (jump_pieces when target bound)) ≡ by_instruction source false (instruction_of (forms.Jump when (name_span at (jump_pieces when target bound)) (option_map (λ n. Some n) bound)))
+    → line_of source (lexemes_at at (jump_pieces when target bound)) ≡ by_instruction source false (instruction_of (forms.Jump when (name_span at (jump_pieces when target bound)) (option_map (λ n. Within n) bound)))
 unfolding instruction_line split_by operands_after
 jump_shape when target None source at =
     let p0 : Piece = mnemonic (mnemonics.Jump when) in

@@ -9,12 +9,7 @@ use Rattle.std.proofs.lemmas.Bool.Decides.{nat_tests}
 use Rattle.std.proofs.lemmas.Fmt.{length-decimal-le}
 use Rattle.std.proofs.lemmas.List.{length-append, length-replicate}
 use Rattle.tso_text.specs.Lexing.{is_text, first_bad_line}
-use Rattle.tso_word.specs.declared.Condition.TheVariants as conds
-use Rattle.tso_word.specs.declared.BitOperation.TheVariants as bits
 use Rattle.tso_line.specs.declared.instruction.Register.{Register}
-use Rattle.tso_line.specs.declared.instruction.Register.TheVariants as registers
-use Rattle.tso_line.specs.declared.instruction.Operation.TheVariants as operations
-use Rattle.tso_line.specs.declared.instruction.Comparison.TheVariants as comparisons
 use Rattle.tso_line.specs.declared.instruction.Mode.{Mode}
 use Rattle.tso_line.specs.declared.instruction.Mode.TheVariants as modes
 use Rattle.tso_line.specs.declared.instruction.Address.{Address}
@@ -28,18 +23,17 @@ use Rattle.tso_line.specs.declared.instruction.Instruction.{Instruction}
 use Rattle.tso_line.specs.declared.instruction.Instruction.TheVariants as instructions
 use Rattle.tso_line.specs.declared.lexeme.Directive.{Directive}
 use Rattle.tso_line.specs.declared.lexeme.Directive.TheVariants as directives
-use Rattle.tso_line.specs.declared.lexeme.Mnemonic.TheVariants as mnemonics
-use Rattle.tso_line.specs.declared.lexeme.Meaning.{Meaning}
 use Rattle.tso_line.specs.declared.lexeme.Meaning.TheVariants as meanings
 use Rattle.tso_line.specs.Lines.{Line}
 use Rattle.tso_line.specs.Proper.{goes_on, is_name}
 use Rattle.tso_prog.specs.declared.client.Array.{Array}
 use Rattle.tso_prog.specs.Clients.{ClientOf}
-use Rattle.tso_print.specs.Signs.{Sign, directive, keyword, name, number, colon, comma, bracket, end_bracket, plus, minus, star, equals, sign_text, keyword_word, directive_word}
+use Rattle.tso_line.specs.Vocabulary.{keyword_word, directive_word}
+use Rattle.tso_print.specs.Signs.{Sign, directive, keyword, name, number, colon, comma, bracket, end_bracket, plus, minus, star, equals, sign_text}
 use Rattle.tso_print.specs.Pieces.{Piece, tight, spaced, spelled, text_of}
 use Rattle.tso_print.specs.Layout.{source_pieces, index_pieces, offset_pieces, bound_pieces, locked_pieces, cell_pieces, instruction_pieces, is_jumped_to, label_name, label_lines, body_lines, mode_sign, more_values, value_pieces, array_pieces, call_pieces, more_calls, calls_pieces, prologue_lines, thread_pieces, procedure_lines, client_lines, printed}
 use Rattle.tso_print.proofs.Digits.{decimal_all}
-use Rattle.tso_print.proofs.Meant.{has_word, keyword_named}
+use Rattle.tso_print.proofs.Meant.{keyword_named, keyword_short}
 use Rattle.tso_print.proofs.Names.{name_goes}
 use Rattle.tso_print.proofs.Lexed.{is_sign}
 use Rattle.tso_print.proofs.Tokens.{is_piece, are_pieces}
@@ -128,71 +122,6 @@ sign_size (name n) = 32
 sign_size (number n) = 20
 sign_size _ = 1
 
-word_size : (m : Meaning) → has_word m ≡ true → nat_le (length (keyword_word m)) 7 ≡ true
-word_size meanings.Plain e = absurd cc
-word_size (meanings.Register registers.Rax) e = refl
-word_size (meanings.Register registers.Rbx) e = refl
-word_size (meanings.Register registers.Rcx) e = refl
-word_size (meanings.Register registers.Rdx) e = refl
-word_size (meanings.Register registers.Rsi) e = refl
-word_size (meanings.Register registers.Rdi) e = refl
-word_size (meanings.Register registers.Rbp) e = refl
-word_size (meanings.Register registers.R8) e = refl
-word_size (meanings.Register registers.R9) e = refl
-word_size (meanings.Register registers.R10) e = refl
-word_size (meanings.Register registers.R11) e = refl
-word_size (meanings.Register registers.R12) e = refl
-word_size (meanings.Register registers.R13) e = refl
-word_size (meanings.Register registers.R14) e = refl
-word_size (meanings.Register registers.R15) e = refl
-word_size (meanings.Mnemonic mnemonics.Mov) e = refl
-word_size (meanings.Mnemonic (mnemonics.Compute operations.Add)) e = refl
-word_size (meanings.Mnemonic (mnemonics.Compute operations.Sub)) e = refl
-word_size (meanings.Mnemonic (mnemonics.Compute (operations.Logic bits.And))) e = refl
-word_size (meanings.Mnemonic (mnemonics.Compute (operations.Logic bits.Or))) e = refl
-word_size (meanings.Mnemonic (mnemonics.Compute (operations.Logic bits.Xor))) e = refl
-word_size (meanings.Mnemonic (mnemonics.Compare comparisons.Cmp)) e = refl
-word_size (meanings.Mnemonic (mnemonics.Compare comparisons.Test)) e = refl
-word_size (meanings.Mnemonic mnemonics.Increment) e = refl
-word_size (meanings.Mnemonic mnemonics.Decrement) e = refl
-word_size (meanings.Mnemonic (mnemonics.Jump None)) e = refl
-word_size (meanings.Mnemonic (mnemonics.Jump (Some conds.E))) e = refl
-word_size (meanings.Mnemonic (mnemonics.Jump (Some conds.Ne))) e = refl
-word_size (meanings.Mnemonic (mnemonics.Jump (Some conds.B))) e = refl
-word_size (meanings.Mnemonic (mnemonics.Jump (Some conds.Ae))) e = refl
-word_size (meanings.Mnemonic (mnemonics.Jump (Some conds.Be))) e = refl
-word_size (meanings.Mnemonic (mnemonics.Jump (Some conds.A))) e = refl
-word_size (meanings.Mnemonic (mnemonics.Jump (Some conds.L))) e = refl
-word_size (meanings.Mnemonic (mnemonics.Jump (Some conds.Ge))) e = refl
-word_size (meanings.Mnemonic (mnemonics.Jump (Some conds.Le))) e = refl
-word_size (meanings.Mnemonic (mnemonics.Jump (Some conds.G))) e = refl
-word_size (meanings.Mnemonic mnemonics.Assert) e = refl
-word_size (meanings.Mnemonic (mnemonics.Locked locked.Exchange)) e = refl
-word_size (meanings.Mnemonic (mnemonics.Locked locked.CompareExchange)) e = refl
-word_size (meanings.Mnemonic (mnemonics.Locked locked.ExchangeAdd)) e = refl
-word_size (meanings.Mnemonic mnemonics.Fence) e = refl
-word_size (meanings.Mnemonic mnemonics.Nop) e = refl
-word_size (meanings.Mnemonic mnemonics.Pause) e = refl
-word_size (meanings.Mnemonic mnemonics.Return) e = refl
-word_size (meanings.Condition conds.E) e = refl
-word_size (meanings.Condition conds.Ne) e = refl
-word_size (meanings.Condition conds.B) e = refl
-word_size (meanings.Condition conds.Ae) e = refl
-word_size (meanings.Condition conds.Be) e = refl
-word_size (meanings.Condition conds.A) e = refl
-word_size (meanings.Condition conds.L) e = refl
-word_size (meanings.Condition conds.Ge) e = refl
-word_size (meanings.Condition conds.Le) e = refl
-word_size (meanings.Condition conds.G) e = refl
-word_size meanings.Lock e = refl
-word_size meanings.Bound e = refl
-word_size meanings.Qword e = refl
-word_size meanings.Ptr e = refl
-word_size meanings.Strict e = refl
-word_size meanings.Weak e = refl
-word_size meanings.Push e = refl
-word_size meanings.Pop e = refl
-
 directive_size : (d : Directive) → nat_le (length (directive_word d)) 9 ≡ true
 directive_size directives.Capacity = refl
 directive_size directives.Mode = refl
@@ -205,7 +134,7 @@ directive_size directives.Thread = refl
 
 sign_fits : (s : Sign) → is_sign s ≡ true → length (sign_text s) ≤ sign_size s
 sign_fits (directive d) e = leb-true (length (directive_word d)) 9 (directive_size d)
-sign_fits (keyword m) e = leb-true (length (keyword_word m)) 7 (word_size m e)
+sign_fits (keyword m) e = leb-true (length (keyword_word m)) 7 (keyword_short m e)
 sign_fits (name n) e = leb-true (length n) 32 (and_parts (is_name n) (nat_le (length n) 32) e).1
 sign_fits (number n) e = let lt : n < 2 ^ 64 = leb-true (suc n) (2 ^ 64) e in length-decimal-le 20 n (omega arith) (omega (arith, lt)) lt
 sign_fits colon e = omega arith

@@ -16,7 +16,7 @@ use Rattle.tso_prog.specs.Clients.{ClientOf}
 use Rattle.tso_prog.specs.Contents.{StepOf, BodyOf, Content}
 use Rattle.tso_prog.specs.Faults.{may_stand, repeats, lacks_array, passes_limit, fault_at}
 use Rattle.tso_prog.specs.After.{after}
-use Rattle.tso_prog.specs.Finish.{labelled, finished}
+use Rattle.tso_prog.specs.Finish.{labelled, client_or_fault}
 use Rattle.tso_prog.specs.Limits.{are_arrays_below, are_targets_within, are_in_range, are_distinct, are_words, has_array_below, has_target_within, is_short_name, is_prologue, is_thread}
 use Rattle.tso_prog.specs.Start.{start}
 use Rattle.tso_print.proofs.Reading.{Reads, reads_none, reads_line, too_few, not_over, at_arrays, head_reads, array_said, words_in, arrays_read, at_body, others, body, end_clean, labelled_by, body_said, labels_from, is_placed, body_reads}
@@ -163,10 +163,10 @@ unfolding fault_at repeats lacks_array passes_limit
 pop_clean c ts = refl
 
 abbrev pub Finishes : ClientOf → Content → Type 0
-Finishes c d = finished d ≡ Ok c
+Finishes c d = client_or_fault d ≡ Ok c
 
 whole : (c : ClientOf) (ts us : List StepOf) (calls : ℕ) → 1 ≤ length c.threads → labelled (labels_from c.push 0 c.push) ts ≡ Ok c.push → labelled (labels_from c.pop 0 c.pop) us ≡ Ok c.pop → Finishes c (at_calls parts.Threads (at_prologue c ts us) c.prologue c.threads calls)
-unfolding finished
+unfolding client_or_fault
 whole c ts us calls some push_is pop_is = let t : nat_lt 0 (length c.threads) ≡ true = le-leb 1 (length c.threads) some in rw (t, push_is, pop_is) refl
 
 pub client_reads : (c : ClientOf) → IsSound c → Reads start 1 (lines_said c) (Finishes c)

@@ -1,5 +1,5 @@
 -- The lines that a client is printed as.
-use Rattle.std.specs.Prelude.{ℕ, ◌+◌, ◌-◌, ◌*◌, ◌^◌, Bool, false, ◌==◌, nat_lt, if◌then◌else◌, List, [], ◌∷◌, ◌++◌, length, map, slice_index_or, Option, Some, None, ℤ, pos, negsuc}
+use Rattle.std.specs.Prelude.{ℕ, ◌+◌, ◌-◌, ◌*◌, ◌^◌, Bool, false, ◌==◌, nat_lt, if◌then◌else◌, List, [], ◌∷◌, ◌++◌, length, map, drop, codes, slice_index_or, Option, Some, None, ℤ, pos, negsuc}
 use Rattle.std.specs.List.{list_all, list_any}
 use Rattle.std.specs.Fmt.{decimal}
 use Rattle.tso_line.specs.declared.instruction.Register.{Register}
@@ -56,11 +56,19 @@ cell_pieces arrays cell =
 
 -- `l` and the position of the instruction before which the label stands
 abbrev pub label_name : ℕ → List ℕ
-label_name at = 108 ∷ decimal at
+label_name at = codes "l" ++ decimal at
+
+-- `R, S`
+abbrev pub two_pieces : Register → Source → List Piece
+two_pieces left right = spaced (register_sign left) ∷ tight comma ∷ source_pieces right
 
 abbrev pub bound_pieces : Option ℕ → List Piece
 bound_pieces None = []
 bound_pieces (Some n) = spaced (keyword meanings.Bound) ∷ spaced (number n) ∷ []
+
+-- a label, and perhaps a bound
+abbrev pub jump_pieces : ℕ → Option ℕ → List Piece
+jump_pieces target bound = spaced (name (label_name target)) ∷ bound_pieces bound
 
 -- a compare and exchange, and an exchange and add, stand behind lock
 abbrev pub locked_pieces : LockedOperation → List Piece
@@ -68,14 +76,14 @@ locked_pieces locked.Exchange = indented (keyword (meanings.Mnemonic (mnemonics.
 locked_pieces operation = indented (keyword meanings.Lock) ∷ spaced (keyword (meanings.Mnemonic (mnemonics.Locked operation))) ∷ []
 
 abbrev pub instruction_pieces : List Array → Instruction ℕ ℕ → List Piece
-instruction_pieces arrays (instructions.Move to from) = indented (keyword (meanings.Mnemonic mnemonics.Mov)) ∷ spaced (register_sign to) ∷ tight comma ∷ source_pieces from
+instruction_pieces arrays (instructions.Move to from) = indented (keyword (meanings.Mnemonic mnemonics.Mov)) ∷ two_pieces to from
 instruction_pieces arrays (instructions.Load to from) = indented (keyword (meanings.Mnemonic mnemonics.Mov)) ∷ spaced (register_sign to) ∷ tight comma ∷ cell_pieces arrays from
 instruction_pieces arrays (instructions.Store to from) = indented (keyword (meanings.Mnemonic mnemonics.Mov)) ∷ (cell_pieces arrays to ++ tight comma ∷ source_pieces from)
-instruction_pieces arrays (instructions.Compute operation to from) = indented (keyword (meanings.Mnemonic (mnemonics.Compute operation))) ∷ spaced (register_sign to) ∷ tight comma ∷ source_pieces from
-instruction_pieces arrays (instructions.Compare comparison left right) = indented (keyword (meanings.Mnemonic (mnemonics.Compare comparison))) ∷ spaced (register_sign left) ∷ tight comma ∷ source_pieces right
+instruction_pieces arrays (instructions.Compute operation to from) = indented (keyword (meanings.Mnemonic (mnemonics.Compute operation))) ∷ two_pieces to from
+instruction_pieces arrays (instructions.Compare comparison left right) = indented (keyword (meanings.Mnemonic (mnemonics.Compare comparison))) ∷ two_pieces left right
 instruction_pieces arrays (instructions.Increment to) = indented (keyword (meanings.Mnemonic mnemonics.Increment)) ∷ spaced (register_sign to) ∷ []
 instruction_pieces arrays (instructions.Decrement to) = indented (keyword (meanings.Mnemonic mnemonics.Decrement)) ∷ spaced (register_sign to) ∷ []
-instruction_pieces arrays (instructions.Jump when target bound) = indented (keyword (meanings.Mnemonic (mnemonics.Jump when))) ∷ spaced (name (label_name target)) ∷ bound_pieces bound
+instruction_pieces arrays (instructions.Jump when target bound) = indented (keyword (meanings.Mnemonic (mnemonics.Jump when))) ∷ jump_pieces target bound
 instruction_pieces arrays (instructions.Assert condition) = indented (keyword (meanings.Mnemonic mnemonics.Assert)) ∷ spaced (keyword (meanings.Condition condition)) ∷ []
 instruction_pieces arrays (instructions.Locked operation cell register) = locked_pieces operation ++ (cell_pieces arrays cell ++ tight comma ∷ spaced (register_sign register) ∷ [])
 instruction_pieces arrays instructions.Fence = indented (keyword (meanings.Mnemonic mnemonics.Fence)) ∷ []
@@ -89,7 +97,7 @@ abbrev pub is_target : ℕ → Option ℕ → Bool
 is_target at None = false
 is_target at (Some target) = target == at
 
--- some of the instructions jumps to this place
+-- some of the instructions jumps to this position
 abbrev pub is_jumped_to : List (Instruction ℕ ℕ) → ℕ → Bool
 is_jumped_to steps at = list_any (λ i. is_target at (label_of i)) steps
 
@@ -97,10 +105,22 @@ is_jumped_to steps at = list_any (λ i. is_target at (label_of i)) steps
 abbrev pub label_lines : List (Instruction ℕ ℕ) → ℕ → List (List Piece)
 label_lines steps at = if is_jumped_to steps at then (tight (name (label_name at)) ∷ tight colon ∷ []) ∷ [] else []
 
--- the lines of the last instructions, which begin at this place, and the label behind them
+-- the lines of the last instructions, which begin at this position, and the label behind them
 abbrev pub body_lines : List Array → List (Instruction ℕ ℕ) → ℕ → List (Instruction ℕ ℕ) → List (List Piece)
 body_lines arrays steps at [] = label_lines steps at
 body_lines arrays steps at (i ∷ is) = label_lines steps at ++ instruction_pieces arrays i ∷ body_lines arrays steps (at + 1) is
+
+-- the text of those from a position on
+abbrev pub text_from : List Array → List (Instruction ℕ ℕ) → ℕ → List ℕ
+text_from arrays steps at = text_of (body_lines arrays steps at (drop at steps))
+
+-- the lines of a procedure
+abbrev pub body_text : List Array → List (Instruction ℕ ℕ) → List ℕ
+body_text arrays steps = text_of (body_lines arrays steps 0 steps)
+
+-- a procedure from its directive to its end
+abbrev pub procedure_text : List Array → List ℕ → List (Instruction ℕ ℕ) → List ℕ
+procedure_text arrays head steps = head ++ (codes "\n" ++ (body_text arrays steps ++ codes ".end\n"))
 
 -- ---- the other lines
 

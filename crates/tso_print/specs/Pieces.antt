@@ -1,5 +1,6 @@
 -- Lines of signs, with the spaces between them.
 use Rattle.std.specs.Prelude.{ℕ, List, [], ◌∷◌, ◌++◌, replicate}
+use Rattle.tso_text.specs.Bytes.{space}
 use Rattle.tso_print.specs.Signs.{Sign, sign_text}
 
 -- a sign with so many spaces before it
@@ -19,7 +20,7 @@ indented sign = record { spaces = 2; sign = sign }
 -- the bytes of a line
 abbrev pub spelled : List Piece → List ℕ
 spelled [] = []
-spelled (p ∷ ps) = replicate p.spaces 32 ++ (sign_text p.sign ++ spelled ps)
+spelled (p ∷ ps) = replicate p.spaces space ++ (sign_text p.sign ++ spelled ps)
 
 -- the bytes of lines, each with its newline
 abbrev pub text_of : List (List Piece) → List ℕ

@@ -7,7 +7,7 @@ ghost use Rattle.tso_prog.specs.Limits.{is_short_name, are_arrays_below};
 ghost use Rattle.tso_prog.specs.Client.{client};
 ghost use Rattle.tso_print.specs.Denotes.{Denotes};
 ghost use Rattle.tso_print.specs.Pieces.{spelled, text_of};
-ghost use Rattle.tso_print.specs.Layout.{value_pieces, more_values, array_pieces, call_pieces, more_calls, calls_pieces, prologue_lines, thread_pieces, head_lines, body_lines, printed};
+ghost use Rattle.tso_print.specs.Layout.{value_pieces, more_values, array_pieces, call_pieces, more_calls, calls_pieces, prologue_lines, thread_pieces, head_lines, procedure_text, printed};
 
 use crate::operand::{push_name, push_number};
 use crate::procedure::push_body;
@@ -151,7 +151,7 @@ fn push_procedure(
 ) -> Result<(), AllocError>
     requires names { IsTrue (list_all (λ a. is_short_name a.name) arrays.now) }
     requires below { IsTrue (are_arrays_below (length arrays.now) procedure.now.instructions) }
-    ensures { OnOk result (string_bytes text.new ≡ string_bytes text.old ++ (directive.now ++ (codes "\n" ++ (text_of (body_lines arrays.now procedure.now.instructions 0 procedure.now.instructions) ++ codes ".end\n")))) }
+    ensures { OnOk result (string_bytes text.new ≡ string_bytes text.old ++ procedure_text arrays.now directive.now procedure.now.instructions) }
 {
     text.push_str(directive)?;
     text.push_str("\n")?;

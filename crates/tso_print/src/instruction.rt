@@ -6,18 +6,21 @@ ghost use Rattle.std.specs.String.{string_bytes};
 ghost use Rattle.tso_line.specs.Proper.{is_in_range, is_near};
 ghost use Rattle.tso_prog.specs.Limits.{is_short_name, has_array_below};
 ghost use Rattle.tso_print.specs.Pieces.{spelled, tight, spaced};
-ghost use Rattle.tso_print.specs.Signs.{condition_word, jump_word, name, comma};
-ghost use Rattle.tso_print.specs.Layout.{register_sign, source_pieces, label_name, bound_pieces, locked_pieces, instruction_pieces};
+ghost use Rattle.tso_line.specs.Vocabulary.{condition_word, jump_word};
+ghost use Rattle.tso_print.specs.Signs.{name, comma};
+ghost use Rattle.tso_print.specs.Layout.{register_sign, label_name, bound_pieces, jump_pieces, two_pieces, locked_pieces, instruction_pieces};
 ghost use Rattle.tso_line.specs.declared.instruction.Instruction.TheVariants.{Load, Store, Locked};
 
 use crate::operand::{push_cell, push_number, push_source};
-use crate::words::{comparison_word, condition_word, locked_word, operation_word, register_word};
 use std::alloc::AllocError;
-use tso_line::{Address, LockedOperation, Register, Source};
+use tso_line::{
+    Address, LockedOperation, Register, Source, comparison_word, condition_word, locked_word,
+    operation_word, register_word,
+};
 use tso_prog::{Array, Step};
 use tso_word::Condition;
 
-// The name of the label at this place.
+// The name of the label at this position.
 pub fn push_label_name(text: &mut String, at: usize) -> Result<(), AllocError>
     ensures { OnOk result (string_bytes text.new ≡ string_bytes text.old ++ label_name at) }
 {
@@ -40,7 +43,7 @@ fn push_one(text: &mut String, word: &str, register: Register) -> Result<(), All
 // A mnemonic with a register and a source.
 #[tactic(auto, using(crate::proofs::Joins::joins))]
 fn push_two(text: &mut String, word: &str, left: Register, right: Source) -> Result<(), AllocError>
-    ensures { OnOk result (string_bytes text.new ≡ string_bytes text.old ++ (codes "  " ++ (word.now ++ spelled (spaced (register_sign left) ∷ tight comma ∷ source_pieces right)))) }
+    ensures { OnOk result (string_bytes text.new ≡ string_bytes text.old ++ (codes "  " ++ (word.now ++ spelled (two_pieces left right)))) }
 {
     push_one(text, word, left)?;
     text.push_str(",")?;
@@ -116,7 +119,7 @@ fn push_jump(
     target: usize,
     bound: Option<u8>,
 ) -> Result<(), AllocError>
-    ensures { OnOk result (string_bytes text.new ≡ string_bytes text.old ++ (codes "  " ++ (jump_word when ++ spelled (spaced (name (label_name target)) ∷ bound_pieces bound)))) }
+    ensures { OnOk result (string_bytes text.new ≡ string_bytes text.old ++ (codes "  " ++ (jump_word when ++ spelled (jump_pieces target bound)))) }
 {
     push_jump_word(text, when)?;
     text.push_str(" ")?;

@@ -9,9 +9,8 @@ ghost use Rattle.tso_prog.specs.Limits.{is_short_name};
 ghost use Rattle.tso_print.specs.Pieces.{spelled};
 ghost use Rattle.tso_print.specs.Layout.{source_pieces, index_pieces, offset_pieces, cell_pieces};
 
-use crate::words::register_word;
 use std::alloc::AllocError;
-use tso_line::{Address, Register, Source};
+use tso_line::{Address, Register, Source, register_word};
 use tso_prog::Array;
 
 // A name, whose bytes are ASCII.

@@ -5,13 +5,13 @@ ghost use Rattle.std.specs.List.{list_all};
 ghost use Rattle.std.specs.String.{string_bytes};
 ghost use Rattle.tso_prog.specs.Limits.{is_short_name, are_arrays_below, are_in_range};
 ghost use Rattle.tso_print.specs.Pieces.{text_of};
-ghost use Rattle.tso_print.specs.Layout.{is_jumped_to, label_lines, body_lines};
+ghost use Rattle.tso_print.specs.Layout.{is_jumped_to, label_lines, text_from, body_text};
 
 use crate::instruction::{push_instruction, push_label_name};
 use std::alloc::AllocError;
 use tso_prog::{Array, Step};
 
-// Whether some instruction jumps to this place.
+// Whether some instruction jumps to this position.
 fn is_jumped_to(steps: &[Step], at: usize) -> bool
     ensures { result ≡ is_jumped_to steps.now at }
 {
@@ -20,7 +20,7 @@ fn is_jumped_to(steps: &[Step], at: usize) -> bool
         .any(|step| step.label().is_some_and(|target| target == at))
 }
 
-// The label at this place, where it is jumped to.
+// The label at this position, where it is jumped to.
 #[tactic(auto, using(crate::proofs::Joins::joins))]
 fn push_label(text: &mut String, steps: &[Step], at: usize) -> Result<(), AllocError>
     ensures { OnOk result (string_bytes text.new ≡ string_bytes text.old ++ text_of (label_lines steps.now at)) }
@@ -44,7 +44,7 @@ fn push_step(
     requires names { IsTrue (list_all (λ a. is_short_name a.name) arrays.now) }
     requires below { IsTrue (are_arrays_below (length arrays.now) steps.now) }
     requires in_range { IsTrue (are_in_range steps.now) }
-    ensures { OnOk result (string_bytes text.new ++ text_of (body_lines arrays.now steps.now (at + 1) (drop (at + 1) steps.now)) ≡ string_bytes text.old ++ text_of (body_lines arrays.now steps.now at (drop at steps.now))) }
+    ensures { OnOk result (string_bytes text.new ++ text_from arrays.now steps.now (at + 1) ≡ string_bytes text.old ++ text_from arrays.now steps.now at) }
 {
     push_label(text, steps, at)?;
     push_instruction(text, arrays, steps[at])?;
@@ -57,7 +57,7 @@ pub fn push_body(text: &mut String, arrays: &[Array], steps: &[Step]) -> Result<
     requires names { IsTrue (list_all (λ a. is_short_name a.name) arrays.now) }
     requires below { IsTrue (are_arrays_below (length arrays.now) steps.now) }
     requires in_range { IsTrue (are_in_range steps.now) }
-    ensures { OnOk result (string_bytes text.new ≡ string_bytes text.old ++ text_of (body_lines arrays.now steps.now 0 steps.now)) }
+    ensures { OnOk result (string_bytes text.new ≡ string_bytes text.old ++ body_text arrays.now steps.now) }
 {
     for at in 0..steps.len() {
         push_step(text, arrays, steps, at)?;

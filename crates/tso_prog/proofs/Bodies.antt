@@ -20,12 +20,12 @@ use Rattle.tso_prog.specs.declared.draft.Part.TheVariants as parts
 use Rattle.tso_prog.specs.declared.fault.Code.{Code}
 use Rattle.tso_prog.specs.declared.fault.Code.TheVariants.{E03, E04, E05, E07}
 use Rattle.tso_prog.specs.declared.fault.Fault.{Fault}
-use Rattle.tso_prog.specs.Contents.{LabelOf, StepOf, BodyOf, Content}
+use Rattle.tso_prog.specs.Contents.{TargetOf, StepOf, BodyOf, Content}
 use Rattle.tso_prog.specs.Faults.{may_stand, has, lacks_at, lacks_array}
 use Rattle.tso_prog.specs.After.{after, after_end, with_label, with_step, with_opened, step, numbered}
 use Rattle.tso_prog.specs.Program.{Numbered, content_of, IsClean}
-use Rattle.tso_prog.specs.Finish.{label_place, jump_to, labelled_step, labelled, line_numbers}
-use Rattle.tso_prog.specs.Parts.{is_end, before_end, behind_end, instruction_in, number_in, numbers_in, with_label_in, labels_from, number_of, array_place, array_named, denoted, AreOf}
+use Rattle.tso_prog.specs.Finish.{target_position, jump_to, labelled_step, labelled, line_numbers}
+use Rattle.tso_prog.specs.Parts.{is_end, before_end, behind_end, instruction_in, number_in, numbers_in, with_label_in, labels_from, number_of, array_position, array_named, denoted, AreOf}
 use Rattle.tso_prog.proofs.First.{then_content}
 use Rattle.tso_prog.proofs.Clean.{stands, count_no, left, opened_part, clean_here, clean_rest}
 use Rattle.tso_prog.proofs.Placing.{labelled_both}
@@ -34,7 +34,7 @@ use Rattle.tso_prog.proofs.Placing.{labelled_both}
 
 -- the number of the array of this name, or 0
 abbrev pub numbering : List Words → Name → ℕ
-numbering arrays name = unwrap_or (array_place arrays name) 0
+numbering arrays name = unwrap_or (array_position arrays name) 0
 
 abbrev pub bodied_line : List Words → BodyOf → ℕ → Line → BodyOf
 bodied_line arrays b n (label name) = with_label b name
@@ -160,7 +160,7 @@ thread_step parts.Pop A n calls a b ls e = absurd cc
 thread_step parts.Prologue A n calls a b ls e = (refl, refl)
 thread_step parts.Threads A n calls a b ls e = (refl, refl)
 
-label_step : (p : Part) (c : Content) (n : ℕ) (name : Name) (ls : List Numbered) → may_stand p kinds.Label ≡ true → (push_from p c.arrays (with_opened p c (λ b. with_label b name)).push ls ≡ push_from p c.arrays c.push (at n (label name) ∷ ls)) × (pop_from p c.arrays (with_opened p c (λ b. with_label b name)).pop ls ≡ pop_from p c.arrays c.pop (at n (label name) ∷ ls))
+label_step : (p : Part) (c : Content) (n : ℕ) (name : Name) (ls : List Numbered) → may_stand p kinds.Target ≡ true → (push_from p c.arrays (with_opened p c (λ b. with_label b name)).push ls ≡ push_from p c.arrays c.push (at n (label name) ∷ ls)) × (pop_from p c.arrays (with_opened p c (λ b. with_label b name)).pop ls ≡ pop_from p c.arrays c.pop (at n (label name) ∷ ls))
 unfolding bodied before_end behind_end
 label_step parts.Capacity c n name ls e = absurd cc
 label_step parts.Mode c n name ls e = absurd cc
@@ -234,7 +234,7 @@ no_array parts.Pop s e = cc
 no_array parts.Prologue s e = cc
 no_array parts.Threads s e = cc
 
-label_settled : (p : Part) → may_stand p kinds.Label ≡ true → is_settled p ≡ true
+label_settled : (p : Part) → may_stand p kinds.Target ≡ true → is_settled p ≡ true
 label_settled parts.Capacity e = absurd cc
 label_settled parts.Mode e = absurd cc
 label_settled parts.Arrays e = absurd cc
@@ -359,12 +359,12 @@ bodies (l ∷ ls) c A clean same =
 -- ---- the arrays that instructions name
 
 abbrev pub is_known : List Words → Line → Bool
-is_known A (instruction i lacks) = is_some (number_of (array_place A) (array_named (address_of i)))
+is_known A (instruction i lacks) = is_some (number_of (array_position A) (array_named (address_of i)))
 is_known A _ = true
 
-known_at : (A : List Words) (c : Content) (o : Option (Address Name)) → A ≡ c.arrays → lacks_at c o ≡ false → is_some (number_of (array_place A) (array_named o)) ≡ true
+known_at : (A : List Words) (c : Content) (o : Option (Address Name)) → A ≡ c.arrays → lacks_at c o ≡ false → is_some (number_of (array_position A) (array_named o)) ≡ true
 known_at A c None same e = refl
-known_at A c (Some cell) same e = ap (λ (B : List Words). is_some (array_place B cell.array)) same ∙ there (array_place c.arrays cell.array) e
+known_at A c (Some cell) same e = ap (λ (B : List Words). is_some (array_position B cell.array)) same ∙ there (array_position c.arrays cell.array) e
   where
     there : (o : Option ℕ) → is_none o ≡ false → is_some o ≡ true
     there None e = absurd cc
@@ -438,7 +438,7 @@ unfolding bodied
 bodied_steps A [] b = sym (append-nil b.steps)
 bodied_steps A (l ∷ ls) b = bodied_steps A ls (bodied_line A b l.number l.line) ∙ ap (λ (xs : List StepOf). xs ++ steps_in A ls) (line_steps A b l.number l.line) ∙ append_assoc b.steps (step_in A l.number l.line) (steps_in A ls)
 
-line_labels : (A : List Words) (b : BodyOf) (n : ℕ) (l : Line) (rest : ℕ → List LabelOf) → (bodied_line A b n l).labels ++ rest (length (bodied_line A b n l).steps) ≡ b.labels ++ with_label_in l (length b.steps) rest
+line_labels : (A : List Words) (b : BodyOf) (n : ℕ) (l : Line) (rest : ℕ → List TargetOf) → (bodied_line A b n l).labels ++ rest (length (bodied_line A b n l).steps) ≡ b.labels ++ with_label_in l (length b.steps) rest
 line_labels A b n misshapen rest = refl
 line_labels A b n (wrong kind slip) rest = refl
 line_labels A b n (capacity k) rest = refl
@@ -473,17 +473,17 @@ with_target (Some place) s make t h e = let f : renamed (λ a. a) (λ _. place) 
 plain : (x t : Instruction ℕ ℕ) → made x ≡ Ok t → Some x ≡ Some t
 plain x t e = let f : x ≡ t = cc in ap (λ (x : Instruction ℕ ℕ). Some x) f
 
-denoted_is : (A : List Words) (labels : List LabelOf) (n : ℕ) (i : Instruction Name Name) (t : Instruction ℕ ℕ) → is_some (number_of (array_place A) (array_named (address_of i))) ≡ true → labelled_step labels (step n (renamed (numbering A) (λ l. l) i)) ≡ Ok t → denoted A labels i ≡ Some t
+denoted_is : (A : List Words) (labels : List TargetOf) (n : ℕ) (i : Instruction Name Name) (t : Instruction ℕ ℕ) → is_some (number_of (array_position A) (array_named (address_of i))) ≡ true → labelled_step labels (step n (renamed (numbering A) (λ l. l) i)) ≡ Ok t → denoted A labels i ≡ Some t
 denoted_is A labels n (instructions.Move to from) t h e = plain (instructions.Move to from) t e
-denoted_is A labels n (instructions.Load to from) t h e = with_array (array_place A from.array) (λ k. instructions.Load to (record { array = k; index = from.index; offset = from.offset })) t h e
-denoted_is A labels n (instructions.Store to from) t h e = with_array (array_place A to.array) (λ k. instructions.Store (record { array = k; index = to.index; offset = to.offset }) from) t h e
+denoted_is A labels n (instructions.Load to from) t h e = with_array (array_position A from.array) (λ k. instructions.Load to (record { array = k; index = from.index; offset = from.offset })) t h e
+denoted_is A labels n (instructions.Store to from) t h e = with_array (array_position A to.array) (λ k. instructions.Store (record { array = k; index = to.index; offset = to.offset }) from) t h e
 denoted_is A labels n (instructions.Compute operation to from) t h e = plain (instructions.Compute operation to from) t e
 denoted_is A labels n (instructions.Compare comparison left right) t h e = plain (instructions.Compare comparison left right) t e
 denoted_is A labels n (instructions.Increment to) t h e = plain (instructions.Increment to) t e
 denoted_is A labels n (instructions.Decrement to) t h e = plain (instructions.Decrement to) t e
-denoted_is A labels n (instructions.Jump when target bound) t h e = with_target (label_place labels target) (step n (instructions.Jump when target bound)) (λ place. instructions.Jump when place bound) t (λ place. refl) e
+denoted_is A labels n (instructions.Jump when target bound) t h e = with_target (target_position labels target) (step n (instructions.Jump when target bound)) (λ place. instructions.Jump when place bound) t (λ place. refl) e
 denoted_is A labels n (instructions.Assert condition) t h e = plain (instructions.Assert condition) t e
-denoted_is A labels n (instructions.Locked operation cell register) t h e = with_array (array_place A cell.array) (λ k. instructions.Locked operation (record { array = k; index = cell.index; offset = cell.offset }) register) t h e
+denoted_is A labels n (instructions.Locked operation cell register) t h e = with_array (array_position A cell.array) (λ k. instructions.Locked operation (record { array = k; index = cell.index; offset = cell.offset }) register) t h e
 denoted_is A labels n instructions.Fence t h e = plain instructions.Fence t e
 denoted_is A labels n instructions.Nop t h e = plain instructions.Nop t e
 denoted_is A labels n instructions.Pause t h e = plain instructions.Pause t e
@@ -493,7 +493,7 @@ abbrev named_in : List Numbered → List (Instruction Name Name)
 named_in ls = flat_map (λ (l : Numbered). instruction_in l.line) ls
 
 -- one line more of a procedure
-denoted_line : (A : List Words) (labels : List LabelOf) (n : ℕ) (l : Line) (ls : List Numbered) (ts : List (Instruction ℕ ℕ)) → is_known A l ≡ true
+denoted_line : (A : List Words) (labels : List TargetOf) (n : ℕ) (l : Line) (ls : List Numbered) (ts : List (Instruction ℕ ℕ)) → is_known A l ≡ true
     → ((us : List (Instruction ℕ ℕ)) → labelled labels (steps_in A ls) ≡ Ok us → map (denoted A labels) (named_in ls) ≡ map (λ i. Some i) us)
     → labelled labels (step_in A n l ++ steps_in A ls) ≡ Ok ts → map (denoted A labels) (instruction_in l ++ named_in ls) ≡ map (λ i. Some i) ts
 denoted_line A labels n misshapen ls ts h again e = again ts e
@@ -513,7 +513,7 @@ denoted_line A labels n (instruction i lacks) ls ts h again e =
 denoted_line A labels n (before calls) ls ts h again e = again ts e
 denoted_line A labels n (thread calls) ls ts h again e = again ts e
 
-denoted_all : (A : List Words) (labels : List LabelOf) (ls : List Numbered) (ts : List (Instruction ℕ ℕ)) → list_all (λ l. is_known A l.line) ls ≡ true → labelled labels (steps_in A ls) ≡ Ok ts → map (denoted A labels) (named_in ls) ≡ map (λ i. Some i) ts
+denoted_all : (A : List Words) (labels : List TargetOf) (ls : List Numbered) (ts : List (Instruction ℕ ℕ)) → list_all (λ l. is_known A l.line) ls ≡ true → labelled labels (steps_in A ls) ≡ Ok ts → map (denoted A labels) (named_in ls) ≡ map (λ i. Some i) ts
 unfolding labelled
 denoted_all A labels [] ts h e = let f : [] ≡ ts = cc in ap (map (λ (i : Instruction ℕ ℕ). Some i)) f
 denoted_all A labels (l ∷ ls) ts h e =

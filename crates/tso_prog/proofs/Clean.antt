@@ -1,8 +1,9 @@
 -- Clean lines, one after the other.
 use Rattle.std.proofs.Common.{◌≡◌, ℕ, Bool, true, false, not, List, [], ◌∷◌, map, Some, refl, subst}
 use Rattle.std.specs.Prelude.{◌&&◌, ◌||◌}
+use Rattle.std.proofs.lemmas.Bool.{false_from_ne_true}
 use Rattle.tso_line.specs.declared.line.Kind.{Kind}
-use Rattle.tso_line.specs.declared.line.Kind.TheVariants.{Capacity, Mode, Array, Push, Pop, End, Label, Instruction as Step, Before, Thread}
+use Rattle.tso_line.specs.declared.line.Kind.TheVariants.{Capacity, Mode, Array, Push, Pop, End, Target, Instruction as Step, Before, Thread}
 use Rattle.tso_line.specs.declared.line.Slip.TheVariants as slips
 use Rattle.tso_line.specs.Lines.{Line, misshapen, wrong, capacity, mode, array, push, pop, end, label, instruction, before, thread, kind_of}
 use Rattle.tso_prog.specs.declared.draft.Part.{Part}
@@ -17,10 +18,6 @@ use Rattle.tso_prog.proofs.First.{then_content, before_it}
 use Rattle.tso_prog.proofs.Walk.{part_next, Walks}
 
 -- ---- a clean line
-
-pub not_true : (b : Bool) → (b ≡ true → ⊥) → b ≡ false
-not_true true h = absurd (h refl)
-not_true false h = refl
 
 pub stands : (b : Bool) → (not b || false) ≡ false → b ≡ true
 stands true e = refl
@@ -61,7 +58,7 @@ goes c n (array name words) e f g = record { kind = Array; kind_is = refl; may =
 goes c n push e f g = record { kind = Push; kind_is = refl; may = stands _ e; next = refl }
 goes c n pop e f g = record { kind = Pop; kind_is = refl; may = stands _ e; next = refl }
 goes c n end e f g = record { kind = End; kind_is = refl; may = left _ _ (stands _ e); next = refl }
-goes c n (label name) e f g = record { kind = Label; kind_is = refl; may = stands _ e; next = opened_part c.part c _ }
+goes c n (label name) e f g = record { kind = Target; kind_is = refl; may = stands _ e; next = opened_part c.part c _ }
 goes c n (instruction i lacks) e f g = record { kind = Step; kind_is = refl; may = stands _ e; next = opened_part c.part c _ }
 goes c n (before calls) e f g = record { kind = Before; kind_is = refl; may = stands _ e; next = refl }
 goes c n (thread calls) e f g = record { kind = Thread; kind_is = refl; may = stands _ e; next = refl }
@@ -70,7 +67,7 @@ goes c n (thread calls) e f g = record { kind = Thread; kind_is = refl; may = st
 
 pub clean_here : (c : Content) (l : Numbered) (ls : List Numbered) → IsClean c (l ∷ ls) → (code : Code) → has c l.line code ≡ false
 unfolding content_of
-clean_here c l ls clean code = not_true _ (λ t. clean [] code l.number (record { at = l; rest = ls; split = refl; has_it = t; numbered_so = refl }))
+clean_here c l ls clean code = false_from_ne_true _ (λ t. clean [] code l.number (record { at = l; rest = ls; split = refl; has_it = t; numbered_so = refl }))
 
 pub clean_rest : (c : Content) (l : Numbered) (ls : List Numbered) → IsClean c (l ∷ ls) → IsClean (then_content c l) ls
 clean_rest c l ls clean = λ before code number s. clean (l ∷ before) code number (before_it c l ls before code number s)

@@ -5,7 +5,7 @@ use Rattle.std.specs.List.{flat_map}
 use Rattle.std.proofs.lemmas.List.{append-nil}
 use Rattle.tso_text.specs.declared.token.Token.{Token}
 use Rattle.tso_text.specs.declared.scan.LexError.TheVariants.{TooLong}
-use Rattle.tso_text.specs.Lexing.{first_bad_line, tokens_or_bad_line, lexed, tokens_of}
+use Rattle.tso_text.specs.Lexing.{first_bad_line, tokens_or_bad_line, tokens_or_fault, tokens_of}
 use Rattle.tso_line.specs.declared.instruction.CallKind.{CallKind}
 use Rattle.tso_line.specs.declared.instruction.Instruction.{Instruction}
 use Rattle.tso_line.specs.declared.instruction.Mode.{Mode as QueueMode}
@@ -25,7 +25,7 @@ use Rattle.tso_prog.specs.Faults.{may_stand, has}
 use Rattle.tso_prog.specs.After.{after, after_end, with_opened}
 use Rattle.tso_prog.specs.Start.{start}
 use Rattle.tso_prog.specs.Program.{Gives, ◌>>=◌, fault, Numbered, lines_of, read_from, content_of, IsClean}
-use Rattle.tso_prog.specs.Finish.{labelled_body, line_numbers, finished, is_threads}
+use Rattle.tso_prog.specs.Finish.{labelled_body, line_numbers, client_or_fault, is_threads}
 use Rattle.tso_prog.specs.Parts.{HasParts, HasLines, before_end, behind_end, capacity_in, mode_in, array_in, prologue_in, calls_in, numbers_in}
 use Rattle.tso_prog.specs.Text.{program_of, bytes_or_lines}
 use Rattle.tso_prog.proofs.First.{then_content, Meets, read_meets}
@@ -343,7 +343,7 @@ first_line c (array name words) p clean = absurd (let e : may_stand parts.Capaci
 first_line c push p clean = absurd (let e : may_stand parts.Capacity kinds.Push ≡ true = ap (λ (x : Part). may_stand x kinds.Push) (sym p) ∙ stands _ (clean E03) in cc)
 first_line c pop p clean = absurd (let e : may_stand parts.Capacity kinds.Pop ≡ true = ap (λ (x : Part). may_stand x kinds.Pop) (sym p) ∙ stands _ (clean E03) in cc)
 first_line c end p clean = absurd (let e : may_stand parts.Capacity kinds.End ≡ true = ap (λ (x : Part). may_stand x kinds.End) (sym p) ∙ left _ _ (stands _ (clean E03)) in cc)
-first_line c (label name) p clean = absurd (let e : may_stand parts.Capacity kinds.Label ≡ true = ap (λ (x : Part). may_stand x kinds.Label) (sym p) ∙ stands _ (clean E03) in cc)
+first_line c (label name) p clean = absurd (let e : may_stand parts.Capacity kinds.Target ≡ true = ap (λ (x : Part). may_stand x kinds.Target) (sym p) ∙ stands _ (clean E03) in cc)
 first_line c (instruction i lacks) p clean = absurd (let e : may_stand parts.Capacity kinds.Instruction ≡ true = ap (λ (x : Part). may_stand x kinds.Instruction) (sym p) ∙ stands _ (clean E03) in cc)
 first_line c (before calls) p clean = absurd (let e : may_stand parts.Capacity kinds.Before ≡ true = ap (λ (x : Part). may_stand x kinds.Before) (sym p) ∙ stands _ (clean E03) in cc)
 first_line c (thread calls) p clean = absurd (let e : may_stand parts.Capacity kinds.Thread ≡ true = ap (λ (x : Part). may_stand x kinds.Thread) (sym p) ∙ stands _ (clean E03) in cc)
@@ -359,7 +359,7 @@ second_line c (array name words) p clean = absurd (let e : may_stand parts.Mode 
 second_line c push p clean = absurd (let e : may_stand parts.Mode kinds.Push ≡ true = ap (λ (x : Part). may_stand x kinds.Push) (sym p) ∙ stands _ (clean E03) in cc)
 second_line c pop p clean = absurd (let e : may_stand parts.Mode kinds.Pop ≡ true = ap (λ (x : Part). may_stand x kinds.Pop) (sym p) ∙ stands _ (clean E03) in cc)
 second_line c end p clean = absurd (let e : may_stand parts.Mode kinds.End ≡ true = ap (λ (x : Part). may_stand x kinds.End) (sym p) ∙ left _ _ (stands _ (clean E03)) in cc)
-second_line c (label name) p clean = absurd (let e : may_stand parts.Mode kinds.Label ≡ true = ap (λ (x : Part). may_stand x kinds.Label) (sym p) ∙ stands _ (clean E03) in cc)
+second_line c (label name) p clean = absurd (let e : may_stand parts.Mode kinds.Target ≡ true = ap (λ (x : Part). may_stand x kinds.Target) (sym p) ∙ stands _ (clean E03) in cc)
 second_line c (instruction i lacks) p clean = absurd (let e : may_stand parts.Mode kinds.Instruction ≡ true = ap (λ (x : Part). may_stand x kinds.Instruction) (sym p) ∙ stands _ (clean E03) in cc)
 second_line c (before calls) p clean = absurd (let e : may_stand parts.Mode kinds.Before ≡ true = ap (λ (x : Part). may_stand x kinds.Before) (sym p) ∙ stands _ (clean E03) in cc)
 second_line c (thread calls) p clean = absurd (let e : may_stand parts.Mode kinds.Thread ≡ true = ap (λ (x : Part). may_stand x kinds.Thread) (sym p) ∙ stands _ (clean E03) in cc)
@@ -422,8 +422,8 @@ kept_by true c cl (Ok xs) (Err f) r s h e = absurd cc
 kept_by true c cl (Err f) q r s h e = absurd cc
 kept_by false c cl p q r s h e = absurd cc
 
-kept : (c : Content) (cl : ClientOf) → finished c ≡ Ok cl → Kept c cl
-unfolding finished
+kept : (c : Content) (cl : ClientOf) → client_or_fault c ≡ Ok cl → Kept c cl
+unfolding client_or_fault
 kept c cl e = kept_by (is_threads c.part && nat_lt 0 (length c.threads)) c cl (labelled_body c.push) (labelled_body c.pop) refl refl (λ t. threads_part c.part (left _ _ t)) e
 
 -- ---- the text
@@ -456,7 +456,7 @@ lines_are ls clean =
     let b = bodies ls start d.arrays clean refl in
     (ap (λ (x : BodyOf). line_numbers x) b.0 ∙ numbers_are d.arrays (before_end ls), ap (λ (x : BodyOf). line_numbers x) b.1 ∙ numbers_are d.arrays (before_end (behind_end ls)))
 
-of_lines : (ls : List Numbered) (cl : ClientOf) (r : Result Content Fault) → Meets start ls r → (r >>= λ c. finished c) ≡ Ok cl → HasParts ls cl
+of_lines : (ls : List Numbered) (cl : ClientOf) (r : Result Content Fault) → Meets start ls r → (r >>= λ c. client_or_fault c) ≡ Ok cl → HasParts ls cl
 of_lines ls cl (Err f) m e = absurd cc
 of_lines ls cl (Ok c) m e =
     let Q : Content → Type 0 = λ x. Kept x cl in
@@ -497,7 +497,7 @@ lines_from ls d first second m p =
       pop_lines = p.1 ∙ ap (λ (x : Content). line_numbers x.pop) m.1 ∙ l.1;
     }
 
-pub lines_of_text : {X E : Type 0} (first second : X → List ℕ) (text : List ℕ) (ts : List Token) (d : Content) (r : Result X E) → lexed text ≡ Ok ts → IsClean start (lines_of text ts) × (d ≡ content_of (lines_of text ts) start)
+pub lines_of_text : {X E : Type 0} (first second : X → List ℕ) (text : List ℕ) (ts : List Token) (d : Content) (r : Result X E) → tokens_or_fault text ≡ Ok ts → IsClean start (lines_of text ts) × (d ≡ content_of (lines_of text ts) start)
     → IfOk r (λ x. (first x ≡ line_numbers d.push) × (second x ≡ line_numbers d.pop)) → IfOk r (λ x. HasLines (lines_of text (tokens_of text)) (first x) (second x))
 lines_of_text first second text ts d (Err e) lexes m p = tt
 lines_of_text first second text ts d (Ok x) lexes m p =

@@ -11,29 +11,30 @@ use Rattle.tso_line.specs.Lines.{Line}
 use Rattle.tso_prog.specs.Contents.{Content}
 use Rattle.tso_prog.specs.Faults.{has, codes, fault_at}
 use Rattle.tso_prog.specs.After.{after}
-use Rattle.tso_prog.specs.Program.{Gives, ◌>>=◌, next, fault, Numbered, read_from, content_of, rank, Stands, IsClean, IsFirstFault, ReadsLines}
+use Rattle.tso_prog.specs.Codes.{code_number}
+use Rattle.tso_prog.specs.Program.{Gives, ◌>>=◌, next, fault, Numbered, read_from, content_of, Stands, IsClean, IsFirstFault, ReadsLines}
 
 -- ---- the lowest code of a line
 
 Rising : List Code → Type 0
 Rising [] = Unit {0}
-Rising (x ∷ xs) = AllByRecursion (λ y. rank x ≤ rank y) xs × Rising xs
+Rising (x ∷ xs) = AllByRecursion (λ y. code_number x ≤ code_number y) xs × Rising xs
 
-all_later : (p : Code → Bool) (x : Code) (xs : List Code) → AllByRecursion (λ y. rank x ≤ rank y) xs → AllByRecursion (λ y. p y ≡ true → rank x ≤ rank y) xs
+all_later : (p : Code → Bool) (x : Code) (xs : List Code) → AllByRecursion (λ y. code_number x ≤ code_number y) xs → AllByRecursion (λ y. p y ≡ true → code_number x ≤ code_number y) xs
 all_later p x [] h = tt
 all_later p x (y ∷ ys) h = (λ _. h.0, all_later p x ys h.1)
 
-found_at : (b : Bool) (p : Code → Bool) (x y : Code) (ys : List Code) → p y ≡ b → AllByRecursion (λ z. rank y ≤ rank z) ys
-    → (find p ys ≡ Some x → (p x ≡ true) × AllByRecursion (λ z. p z ≡ true → rank x ≤ rank z) ys)
-    → cond b (Some y) (find p ys) ≡ Some x → (p x ≡ true) × AllByRecursion (λ z. p z ≡ true → rank x ≤ rank z) (y ∷ ys)
+found_at : (b : Bool) (p : Code → Bool) (x y : Code) (ys : List Code) → p y ≡ b → AllByRecursion (λ z. code_number y ≤ code_number z) ys
+    → (find p ys ≡ Some x → (p x ≡ true) × AllByRecursion (λ z. p z ≡ true → code_number x ≤ code_number z) ys)
+    → cond b (Some y) (find p ys) ≡ Some x → (p x ≡ true) × AllByRecursion (λ z. p z ≡ true → code_number x ≤ code_number z) (y ∷ ys)
 found_at true p x y ys e up again f =
     let same : y ≡ x = cc in
-    subst (λ (z : Code). (p z ≡ true) × AllByRecursion (λ w. p w ≡ true → rank z ≤ rank w) (y ∷ ys)) same (e, (λ _. omega arith, all_later p y ys up))
+    subst (λ (z : Code). (p z ≡ true) × AllByRecursion (λ w. p w ≡ true → code_number z ≤ code_number w) (y ∷ ys)) same (e, (λ _. omega arith, all_later p y ys up))
 found_at false p x y ys e up again f =
     let r = again f in
     (r.0, (λ h. absurd cc, r.1))
 
-found : (p : Code → Bool) (x : Code) (xs : List Code) → Rising xs → find p xs ≡ Some x → (p x ≡ true) × AllByRecursion (λ y. p y ≡ true → rank x ≤ rank y) xs
+found : (p : Code → Bool) (x : Code) (xs : List Code) → Rising xs → find p xs ≡ Some x → (p x ≡ true) × AllByRecursion (λ y. p y ≡ true → code_number x ≤ code_number y) xs
 unfolding Rising
 found p x [] up f = absurd cc
 found p x (y ∷ ys) up f = found_at (p y) p x y ys refl up.0 (found p x ys up.1) f
@@ -77,7 +78,7 @@ no_fault c l f = pick (none (has c l) codes f)
     pick h E13 = refl
     pick h E14 = refl
 
-least_of : (p : Code → Bool) (x : Code) → AllByRecursion (λ y. p y ≡ true → rank x ≤ rank y) codes → p E01 ≡ false → p E02 ≡ false → p E08 ≡ false → p E11 ≡ false → p E12 ≡ false → p E13 ≡ false → p E14 ≡ false → (code : Code) → p code ≡ true → rank x ≤ rank code
+least_of : (p : Code → Bool) (x : Code) → AllByRecursion (λ y. p y ≡ true → code_number x ≤ code_number y) codes → p E01 ≡ false → p E02 ≡ false → p E08 ≡ false → p E11 ≡ false → p E12 ≡ false → p E13 ≡ false → p E14 ≡ false → (code : Code) → p code ≡ true → code_number x ≤ code_number code
 least_of p x h e1 e2 e8 e11 e12 e13 e14 E01 t = absurd cc
 least_of p x h e1 e2 e8 e11 e12 e13 e14 E02 t = absurd cc
 least_of p x h e1 e2 e8 e11 e12 e13 e14 E03 t = h.0 t
@@ -94,7 +95,7 @@ least_of p x h e1 e2 e8 e11 e12 e13 e14 E13 t = absurd cc
 least_of p x h e1 e2 e8 e11 e12 e13 e14 E14 t = absurd cc
 
 -- the fault that is found is the line's lowest
-lowest_fault : (c : Content) (l : Line) (x : Code) → fault_at c l ≡ Some x → (has c l x ≡ true) × ((code : Code) → has c l code ≡ true → rank x ≤ rank code)
+lowest_fault : (c : Content) (l : Line) (x : Code) → fault_at c l ≡ Some x → (has c l x ≡ true) × ((code : Code) → has c l code ≡ true → code_number x ≤ code_number code)
 unfolding fault_at
 lowest_fault c l x f =
     let r = found (has c l) x codes codes_rise f in

@@ -21,12 +21,14 @@ use Rattle.tso_prog.specs.declared.draft.Part.TheVariants as parts
 use Rattle.tso_prog.specs.declared.fault.Code.{Code}
 use Rattle.tso_prog.specs.declared.fault.Code.TheVariants.{E03, E09}
 use Rattle.tso_prog.specs.Limits.{has_small_bound}
-use Rattle.tso_prog.specs.Contents.{LabelOf, StepOf, BodyOf, Content}
+use Rattle.tso_prog.specs.Contents.{TargetOf, StepOf, BodyOf, Content}
 use Rattle.tso_prog.specs.Faults.{may_stand, has, fault_at, passes_limit}
 use Rattle.tso_prog.specs.After.{after, with_label, with_step, with_opened, numbered, step, number_or_0}
 use Rattle.tso_prog.specs.Finish.{is_threads}
-use Rattle.tso_prog.specs.Limited.{IsProcedure, IsLimited}
+use Rattle.tso_prog.specs.Limited.{IsProcedure, AreArrays, AreProcedures, AreCalls, IsLimited}
 use Rattle.tso_prog.specs.Start.{start}
+use Rattle.tso_line.proofs.Each.{passes_more}
+use Rattle.tso_prog.proofs.Clean.{stands}
 use Rattle.tso_prog.proofs.First.{no_fault}
 
 -- ---- limits as numbers
@@ -54,135 +56,52 @@ late : (b c : Bool) → (b || c) ≡ true → b ≡ false → c ≡ true
 late true c e f = absurd cc
 late false c e f = e
 
--- what a line needs where it stands
-stands : (b : Bool) → (not b || false) ≡ false → b ≡ true
-stands true e = refl
-stands false e = absurd cc
-
 -- ---- procedures
 
 pub list_all_weaker : {X : Type 0} (p q : X → Bool) → ((x : X) → p x ≡ true → q x ≡ true) → (xs : List X) → list_all p xs ≡ true → list_all q xs ≡ true
 list_all_weaker p q h [] e = refl
 list_all_weaker p q h (x ∷ xs) e = let (a, b) = and_parts (p x) (list_all p xs) e in and_from (q x) (list_all q xs) (h x a) (list_all_weaker p q h xs b)
 
-pub list_all_more : {X : Type 0} (p : X → Bool) (xs : List X) (x : X) → list_all p xs ≡ true → p x ≡ true → list_all p (xs ++ x ∷ []) ≡ true
-list_all_more p xs x e f = list_all-append p xs (x ∷ []) ∙ and_from (list_all p xs) (p x && true) e (and_from (p x) true f refl)
-
 pub one_more : {X : Type 0} (xs : List X) (x : X) → length (xs ++ x ∷ []) ≡ length xs + 1
 one_more xs x = length-append xs (x ∷ [])
 
-weaker : (n : ℕ) (l : LabelOf) → nat_le l.at n ≡ true → nat_le l.at (n + 1) ≡ true
+weaker : (n : ℕ) (l : TargetOf) → nat_le l.at n ≡ true → nat_le l.at (n + 1) ≡ true
 weaker n l e = let a : l.at ≤ n = leb-true l.at n e in le-leb l.at (n + 1) (omega (arith, a))
 
 label_kept : (b : BodyOf) (name : Name) → IsProcedure b → IsProcedure (with_label b name)
 label_kept b name p = record {
   small_bounds = p.small_bounds;
-  labels_within = list_all_more (λ (l : LabelOf). nat_le l.at (length b.steps)) b.labels (record { name = name; at = length b.steps }) p.labels_within (le-leb (length b.steps) (length b.steps) (omega arith));
+  labels_within = passes_more (λ (l : TargetOf). nat_le l.at (length b.steps)) b.labels (record { name = name; at = length b.steps }) p.labels_within (le-leb (length b.steps) (length b.steps) (omega arith));
 }
 
 step_kept : (b : BodyOf) (s : StepOf) → has_small_bound s.instruction ≡ true → IsProcedure b → IsProcedure (with_step b s)
 step_kept b s small p = record {
-  small_bounds = list_all_more (λ (s : StepOf). has_small_bound s.instruction) b.steps s p.small_bounds small;
-  labels_within = subst (λ (n : ℕ). list_all (λ (l : LabelOf). nat_le l.at n) b.labels ≡ true) (sym (one_more b.steps s)) (list_all_weaker (λ (l : LabelOf). nat_le l.at (length b.steps)) (λ (l : LabelOf). nat_le l.at (length b.steps + 1)) (weaker (length b.steps)) b.labels p.labels_within);
+  small_bounds = passes_more (λ (s : StepOf). has_small_bound s.instruction) b.steps s p.small_bounds small;
+  labels_within = subst (λ (n : ℕ). list_all (λ (l : TargetOf). nat_le l.at n) b.labels ≡ true) (sym (one_more b.steps s)) (list_all_weaker (λ (l : TargetOf). nat_le l.at (length b.steps)) (λ (l : TargetOf). nat_le l.at (length b.steps + 1)) (weaker (length b.steps)) b.labels p.labels_within);
 }
 
-open_label : (p : Part) (c : Content) (name : Name) → IsLimited c → IsLimited (with_opened p c (λ b. with_label b name))
-open_label parts.Pop c name h = record {
-  few_arrays = h.few_arrays;
-  words_are = h.words_are;
-  few_words = h.few_words;
-  few_instructions = h.few_instructions;
-  push = h.push;
-  pop = label_kept c.pop name h.pop;
-  prologue_is_late = h.prologue_is_late;
-  few_threads = h.few_threads;
-  calls_are = h.calls_are;
-  few_calls = h.few_calls;
-}
-open_label parts.Capacity c name h = record {
-  few_arrays = h.few_arrays;
-  words_are = h.words_are;
-  few_words = h.few_words;
-  few_instructions = h.few_instructions;
-  push = label_kept c.push name h.push;
-  pop = h.pop;
-  prologue_is_late = h.prologue_is_late;
-  few_threads = h.few_threads;
-  calls_are = h.calls_are;
-  few_calls = h.few_calls;
-}
-open_label parts.Mode c name h = record {
-  few_arrays = h.few_arrays;
-  words_are = h.words_are;
-  few_words = h.few_words;
-  few_instructions = h.few_instructions;
-  push = label_kept c.push name h.push;
-  pop = h.pop;
-  prologue_is_late = h.prologue_is_late;
-  few_threads = h.few_threads;
-  calls_are = h.calls_are;
-  few_calls = h.few_calls;
-}
-open_label parts.Arrays c name h = record {
-  few_arrays = h.few_arrays;
-  words_are = h.words_are;
-  few_words = h.few_words;
-  few_instructions = h.few_instructions;
-  push = label_kept c.push name h.push;
-  pop = h.pop;
-  prologue_is_late = h.prologue_is_late;
-  few_threads = h.few_threads;
-  calls_are = h.calls_are;
-  few_calls = h.few_calls;
-}
-open_label parts.Push c name h = record {
-  few_arrays = h.few_arrays;
-  words_are = h.words_are;
-  few_words = h.few_words;
-  few_instructions = h.few_instructions;
-  push = label_kept c.push name h.push;
-  pop = h.pop;
-  prologue_is_late = h.prologue_is_late;
-  few_threads = h.few_threads;
-  calls_are = h.calls_are;
-  few_calls = h.few_calls;
-}
-open_label parts.Between c name h = record {
-  few_arrays = h.few_arrays;
-  words_are = h.words_are;
-  few_words = h.few_words;
-  few_instructions = h.few_instructions;
-  push = label_kept c.push name h.push;
-  pop = h.pop;
-  prologue_is_late = h.prologue_is_late;
-  few_threads = h.few_threads;
-  calls_are = h.calls_are;
-  few_calls = h.few_calls;
-}
-open_label parts.Prologue c name h = record {
-  few_arrays = h.few_arrays;
-  words_are = h.words_are;
-  few_words = h.few_words;
-  few_instructions = h.few_instructions;
-  push = label_kept c.push name h.push;
-  pop = h.pop;
-  prologue_is_late = h.prologue_is_late;
-  few_threads = h.few_threads;
-  calls_are = h.calls_are;
-  few_calls = h.few_calls;
-}
-open_label parts.Threads c name h = record {
-  few_arrays = h.few_arrays;
-  words_are = h.words_are;
-  few_words = h.few_words;
-  few_instructions = h.few_instructions;
-  push = label_kept c.push name h.push;
-  pop = h.pop;
-  prologue_is_late = h.prologue_is_late;
-  few_threads = h.few_threads;
-  calls_are = h.calls_are;
-  few_calls = h.few_calls;
-}
+-- what holds whichever of the two procedures is changed
+pub opened_either : (Q : Content → Type 0) (c : Content) (f : BodyOf → BodyOf) → Q (record c { push = f c.push }) → Q (record c { pop = f c.pop }) → (p : Part) → Q (with_opened p c f)
+opened_either Q c f in_push in_pop parts.Pop = in_pop
+opened_either Q c f in_push in_pop parts.Capacity = in_push
+opened_either Q c f in_push in_pop parts.Mode = in_push
+opened_either Q c f in_push in_pop parts.Arrays = in_push
+opened_either Q c f in_push in_pop parts.Push = in_push
+opened_either Q c f in_push in_pop parts.Between = in_push
+opened_either Q c f in_push in_pop parts.Prologue = in_push
+opened_either Q c f in_push in_pop parts.Threads = in_push
+
+-- a limited content stays so with other procedures
+with_procedures : (c : Content) (b d : BodyOf) → IsLimited c → AreProcedures b d → IsLimited (record c { push = b; pop = d })
+with_procedures c b d h procedures = record { arrays = h.arrays; procedures = procedures; calls = h.calls; prologue_is_late = h.prologue_is_late }
+
+open_label : (c : Content) (name : Name) → IsLimited c → (p : Part) → IsLimited (with_opened p c (λ b. with_label b name))
+open_label c name h =
+    let few = h.procedures.few_instructions in
+    let Q : Content → Type 0 = λ d. IsLimited d in
+    opened_either Q c (λ b. with_label b name)
+    (with_procedures c (with_label c.push name) c.pop h (record { few_instructions = few; push = label_kept c.push name h.procedures.push; pop = h.procedures.pop }))
+    (with_procedures c c.push (with_label c.pop name) h (record { few_instructions = few; push = h.procedures.push; pop = label_kept c.pop name h.procedures.pop }))
 
 -- ---- lines
 
@@ -220,171 +139,48 @@ array_kept c n name words h e =
     let b = or_parts (nat_le 16 (length c.arrays)) (nat_lt 256 (c.words + length words)) a.0 in
     let few = below 16 (length c.arrays) b.0 in
     let it : Array = record { name = name; words = words } in
-    record {
+    let arrays : AreArrays (c.arrays ++ it ∷ []) (c.words + length words) = record {
       few_arrays = rw (one_more c.arrays it) (omega (arith, few));
-      words_are = rw (sum_by-append (λ (a : Array). length a.words) c.arrays (it ∷ []), ← h.words_are) (omega arith);
+      words_are = rw (sum_by-append (λ (a : Array). length a.words) c.arrays (it ∷ []), ← h.arrays.words_are) (omega arith);
       few_words = at_most 256 (c.words + length words) b.1;
-      few_instructions = h.few_instructions;
-      push = h.push;
-      pop = h.pop;
-      prologue_is_late = h.prologue_is_late;
-      few_threads = h.few_threads;
-      calls_are = h.calls_are;
-      few_calls = h.few_calls;
-    }
+    } in
+    record { arrays = arrays; procedures = h.procedures; calls = h.calls; prologue_is_late = h.prologue_is_late }
 
 instruction_kept : (c : Content) (n : ℕ) (i : Instruction Name Name) (lacks : Bool) → IsLimited c → has_small_bound i ≡ true → has c (instruction i lacks) E09 ≡ false → IsLimited (after c n (instruction i lacks))
 unfolding passes_limit
-instruction_kept c n i lacks h small e = at c.part
-  where
-    s : StepOf
-    s = step n (numbered c i)
-
-    room : length c.push.steps + length c.pop.steps < 256
-    room = below 256 (length c.push.steps + length c.pop.steps) (or_parts (nat_le 256 (length c.push.steps + length c.pop.steps)) _ e).0
-
-    in_push : length (c.push.steps ++ s ∷ []) + length c.pop.steps ≤ 256
-    in_push = rw (one_more c.push.steps s) (omega (arith, room))
-
-    in_pop : length c.push.steps + length (c.pop.steps ++ s ∷ []) ≤ 256
-    in_pop = rw (one_more c.pop.steps s) (omega (arith, room))
-
-    it : has_small_bound (numbered c i) ≡ true
-    it = small_numbered (number_or_0 c) i small
-
-    at : (p : Part) → IsLimited (with_opened p c (λ b. with_step b s))
-    at parts.Pop = record {
-      few_arrays = h.few_arrays;
-      words_are = h.words_are;
-      few_words = h.few_words;
-      few_instructions = in_pop;
-      push = h.push;
-      pop = step_kept c.pop s it h.pop;
-      prologue_is_late = h.prologue_is_late;
-      few_threads = h.few_threads;
-      calls_are = h.calls_are;
-      few_calls = h.few_calls;
-    }
-    at parts.Capacity = record {
-      few_arrays = h.few_arrays;
-      words_are = h.words_are;
-      few_words = h.few_words;
-      few_instructions = in_push;
-      push = step_kept c.push s it h.push;
-      pop = h.pop;
-      prologue_is_late = h.prologue_is_late;
-      few_threads = h.few_threads;
-      calls_are = h.calls_are;
-      few_calls = h.few_calls;
-    }
-    at parts.Mode = record {
-      few_arrays = h.few_arrays;
-      words_are = h.words_are;
-      few_words = h.few_words;
-      few_instructions = in_push;
-      push = step_kept c.push s it h.push;
-      pop = h.pop;
-      prologue_is_late = h.prologue_is_late;
-      few_threads = h.few_threads;
-      calls_are = h.calls_are;
-      few_calls = h.few_calls;
-    }
-    at parts.Arrays = record {
-      few_arrays = h.few_arrays;
-      words_are = h.words_are;
-      few_words = h.few_words;
-      few_instructions = in_push;
-      push = step_kept c.push s it h.push;
-      pop = h.pop;
-      prologue_is_late = h.prologue_is_late;
-      few_threads = h.few_threads;
-      calls_are = h.calls_are;
-      few_calls = h.few_calls;
-    }
-    at parts.Push = record {
-      few_arrays = h.few_arrays;
-      words_are = h.words_are;
-      few_words = h.few_words;
-      few_instructions = in_push;
-      push = step_kept c.push s it h.push;
-      pop = h.pop;
-      prologue_is_late = h.prologue_is_late;
-      few_threads = h.few_threads;
-      calls_are = h.calls_are;
-      few_calls = h.few_calls;
-    }
-    at parts.Between = record {
-      few_arrays = h.few_arrays;
-      words_are = h.words_are;
-      few_words = h.few_words;
-      few_instructions = in_push;
-      push = step_kept c.push s it h.push;
-      pop = h.pop;
-      prologue_is_late = h.prologue_is_late;
-      few_threads = h.few_threads;
-      calls_are = h.calls_are;
-      few_calls = h.few_calls;
-    }
-    at parts.Prologue = record {
-      few_arrays = h.few_arrays;
-      words_are = h.words_are;
-      few_words = h.few_words;
-      few_instructions = in_push;
-      push = step_kept c.push s it h.push;
-      pop = h.pop;
-      prologue_is_late = h.prologue_is_late;
-      few_threads = h.few_threads;
-      calls_are = h.calls_are;
-      few_calls = h.few_calls;
-    }
-    at parts.Threads = record {
-      few_arrays = h.few_arrays;
-      words_are = h.words_are;
-      few_words = h.few_words;
-      few_instructions = in_push;
-      push = step_kept c.push s it h.push;
-      pop = h.pop;
-      prologue_is_late = h.prologue_is_late;
-      few_threads = h.few_threads;
-      calls_are = h.calls_are;
-      few_calls = h.few_calls;
-    }
+instruction_kept c n i lacks h small e =
+    let s : StepOf = step n (numbered c i) in
+    let room = below 256 (length c.push.steps + length c.pop.steps) (or_parts (nat_le 256 (length c.push.steps + length c.pop.steps)) _ e).0 in
+    let it : has_small_bound (numbered c i) ≡ true = small_numbered (number_or_0 c) i small in
+    let Q : Content → Type 0 = λ d. IsLimited d in
+    opened_either Q c (λ b. with_step b s)
+    (with_procedures c (with_step c.push s) c.pop h (record { few_instructions = rw (one_more c.push.steps s) (omega (arith, room)); push = step_kept c.push s it h.procedures.push; pop = h.procedures.pop }))
+    (with_procedures c c.push (with_step c.pop s) h (record { few_instructions = rw (one_more c.pop.steps s) (omega (arith, room)); push = h.procedures.push; pop = step_kept c.pop s it h.procedures.pop }))
+    c.part
 
 before_kept : (c : Content) (n : ℕ) (calls : List CallKind) → IsLimited c → has c (before calls) E03 ≡ false → has c (before calls) E09 ≡ false → IsLimited (after c n (before calls))
 unfolding passes_limit
 before_kept c n calls h place e =
     let none = late (is_threads c.part) (length c.prologue == 0) h.prologue_is_late (early c.part kinds.Before (stands (may_stand c.part kinds.Before) place) (λ x. absurd cc)) in
     let zero_long : length c.prologue ≡ 0 = eqb-true (length c.prologue) 0 none in
-    record {
-      few_arrays = h.few_arrays;
-      words_are = h.words_are;
-      few_words = h.few_words;
-      few_instructions = h.few_instructions;
-      push = h.push;
-      pop = h.pop;
-      prologue_is_late = refl;
-      few_threads = h.few_threads;
-      calls_are = omega (arith, h.calls_are, zero_long);
+    let all_calls : AreCalls calls c.threads (c.calls + length calls) = record {
+      few_threads = h.calls.few_threads;
+      calls_are = omega (arith, h.calls.calls_are, zero_long);
       few_calls = both_calls (length calls) c.calls e;
-    }
+    } in
+    record { arrays = h.arrays; procedures = h.procedures; calls = all_calls; prologue_is_late = refl }
 
 thread_kept : (c : Content) (n : ℕ) (calls : List CallKind) → IsLimited c → has c (thread calls) E09 ≡ false → IsLimited (after c n (thread calls))
 unfolding passes_limit
 thread_kept c n calls h e =
     let a = or_parts (nat_le 4 (length c.threads)) (nat_lt 4 (length calls) || nat_lt 12 (c.calls + length calls)) e in
     let few = below 4 (length c.threads) a.0 in
-    record {
-      few_arrays = h.few_arrays;
-      words_are = h.words_are;
-      few_words = h.few_words;
-      few_instructions = h.few_instructions;
-      push = h.push;
-      pop = h.pop;
-      prologue_is_late = refl;
+    let all_calls : AreCalls c.prologue (c.threads ++ calls ∷ []) (c.calls + length calls) = record {
       few_threads = rw (one_more c.threads calls) (omega (arith, few));
-      calls_are = rw (sum_by-append (λ (calls : List CallKind). length calls) c.threads (calls ∷ []), h.calls_are) (omega arith);
+      calls_are = rw (sum_by-append (λ (calls : List CallKind). length calls) c.threads (calls ∷ []), h.calls.calls_are) (omega arith);
       few_calls = both_calls (length calls) c.calls a.1;
-    }
+    } in
+    record { arrays = h.arrays; procedures = h.procedures; calls = all_calls; prologue_is_late = refl }
 
 -- an instruction in range has a small bound
 small_of : (i : Instruction Name Name) → is_in_range i ≡ true → has_small_bound i ≡ true
@@ -406,68 +202,13 @@ small_of instructions.Return e = refl
 kept_by : (c : Content) (n : ℕ) (l : Line) → IsLimited c → is_proper l ≡ true → ((code : Code) → has c l code ≡ false) → IsLimited (after c n l)
 kept_by c n misshapen h proper clean = h
 kept_by c n (wrong kind slip) h proper clean = h
-kept_by c n (capacity k) h proper clean = record {
-  few_arrays = h.few_arrays;
-  words_are = h.words_are;
-  few_words = h.few_words;
-  few_instructions = h.few_instructions;
-  push = h.push;
-  pop = h.pop;
-  prologue_is_late = moved c parts.Mode kinds.Capacity (stands _ (clean E03)) (λ x. absurd cc) h;
-  few_threads = h.few_threads;
-  calls_are = h.calls_are;
-  few_calls = h.few_calls;
-}
-kept_by c n (mode m) h proper clean = record {
-  few_arrays = h.few_arrays;
-  words_are = h.words_are;
-  few_words = h.few_words;
-  few_instructions = h.few_instructions;
-  push = h.push;
-  pop = h.pop;
-  prologue_is_late = moved c parts.Arrays kinds.Mode (stands _ (clean E03)) (λ x. absurd cc) h;
-  few_threads = h.few_threads;
-  calls_are = h.calls_are;
-  few_calls = h.few_calls;
-}
+kept_by c n (capacity k) h proper clean = record { arrays = h.arrays; procedures = h.procedures; calls = h.calls; prologue_is_late = moved c parts.Mode kinds.Capacity (stands _ (clean E03)) (λ x. absurd cc) h }
+kept_by c n (mode m) h proper clean = record { arrays = h.arrays; procedures = h.procedures; calls = h.calls; prologue_is_late = moved c parts.Arrays kinds.Mode (stands _ (clean E03)) (λ x. absurd cc) h }
 kept_by c n (array name words) h proper clean = array_kept c n name words h (clean E09)
-kept_by c n push h proper clean = record {
-  few_arrays = h.few_arrays;
-  words_are = h.words_are;
-  few_words = h.few_words;
-  few_instructions = h.few_instructions;
-  push = h.push;
-  pop = h.pop;
-  prologue_is_late = moved c parts.Push kinds.Push (stands _ (clean E03)) (λ x. absurd cc) h;
-  few_threads = h.few_threads;
-  calls_are = h.calls_are;
-  few_calls = h.few_calls;
-}
-kept_by c n pop h proper clean = record {
-  few_arrays = h.few_arrays;
-  words_are = h.words_are;
-  few_words = h.few_words;
-  few_instructions = h.few_instructions;
-  push = h.push;
-  pop = h.pop;
-  prologue_is_late = moved c parts.Pop kinds.Pop (stands _ (clean E03)) (λ x. absurd cc) h;
-  few_threads = h.few_threads;
-  calls_are = h.calls_are;
-  few_calls = h.few_calls;
-}
-kept_by c n end h proper clean = record {
-  few_arrays = h.few_arrays;
-  words_are = h.words_are;
-  few_words = h.few_words;
-  few_instructions = h.few_instructions;
-  push = h.push;
-  pop = h.pop;
-  prologue_is_late = moved c _ kinds.End (and_parts _ _ (stands _ (clean E03))).0 (λ x. absurd cc) h;
-  few_threads = h.few_threads;
-  calls_are = h.calls_are;
-  few_calls = h.few_calls;
-}
-kept_by c n (label name) h proper clean = open_label c.part c name h
+kept_by c n push h proper clean = record { arrays = h.arrays; procedures = h.procedures; calls = h.calls; prologue_is_late = moved c parts.Push kinds.Push (stands _ (clean E03)) (λ x. absurd cc) h }
+kept_by c n pop h proper clean = record { arrays = h.arrays; procedures = h.procedures; calls = h.calls; prologue_is_late = moved c parts.Pop kinds.Pop (stands _ (clean E03)) (λ x. absurd cc) h }
+kept_by c n end h proper clean = record { arrays = h.arrays; procedures = h.procedures; calls = h.calls; prologue_is_late = moved c _ kinds.End (and_parts _ _ (stands _ (clean E03))).0 (λ x. absurd cc) h }
+kept_by c n (label name) h proper clean = open_label c name h c.part
 kept_by c n (instruction i lacks) h proper clean = instruction_kept c n i lacks h (small_of i proper) (clean E09)
 kept_by c n (before calls) h proper clean = before_kept c n calls h (clean E03) (clean E09)
 kept_by c n (thread calls) h proper clean = thread_kept c n calls h (clean E09)
@@ -477,14 +218,12 @@ limited_after c n l h proper e = kept_by c n l h proper (no_fault c l e)
 
 pub limited_start : IsLimited start
 limited_start = record {
-  few_arrays = omega arith;
-  words_are = refl;
-  few_words = omega arith;
-  few_instructions = omega arith;
-  push = record { small_bounds = refl; labels_within = refl };
-  pop = record { small_bounds = refl; labels_within = refl };
+  arrays = record { few_arrays = omega arith; words_are = refl; few_words = omega arith };
+  procedures = record {
+    few_instructions = omega arith;
+    push = record { small_bounds = refl; labels_within = refl };
+    pop = record { small_bounds = refl; labels_within = refl };
+  };
+  calls = record { few_threads = omega arith; calls_are = refl; few_calls = omega arith };
   prologue_is_late = refl;
-  few_threads = omega arith;
-  calls_are = refl;
-  few_calls = omega arith;
 }

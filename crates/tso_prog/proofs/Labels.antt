@@ -4,8 +4,8 @@ use Rattle.std.proofs.lemmas.List.{append-nil, drop_all}
 use Rattle.std.specs.Prelude.{find}
 use Rattle.std.specs.Option.{option_map}
 use Rattle.std.specs.Str.{bytes_eq}
-use Rattle.tso_prog.specs.declared.draft.Label.{Label}
-use Rattle.tso_prog.specs.declared.draft.Unplaced.{Unplaced}
+use Rattle.tso_prog.specs.declared.draft.Target.{Target}
+use Rattle.tso_prog.specs.declared.draft.Unresolved.{Unresolved}
 use Rattle.tso_line.specs.declared.instruction.Instruction.{Instruction}
 use Rattle.tso_line.specs.declared.instruction.Instruction.TheVariants as instructions
 use Rattle.tso_line.specs.declared.instruction.Register.TheVariants as registers
@@ -13,16 +13,16 @@ use Rattle.tso_line.specs.declared.instruction.Source.TheVariants as sources
 use Rattle.tso_prog.specs.declared.fault.Fault.{Fault}
 use Rattle.tso_prog.specs.declared.fault.ReadError.{ReadError}
 use Rattle.tso_prog.specs.declared.fault.ReadError.TheVariants.{Refused, Memory}
-use Rattle.tso_prog.specs.Contents.{LabelOf, StepOf}
-use Rattle.tso_prog.specs.Content.{label_view, step_view}
+use Rattle.tso_prog.specs.Contents.{TargetOf, StepOf}
+use Rattle.tso_prog.specs.Content.{target_view, step_view}
 use Rattle.tso_prog.specs.Program.{Fails, ◌>>=◌}
-use Rattle.tso_prog.specs.Finish.{label_place, labelled_step, labelled}
+use Rattle.tso_prog.specs.Finish.{target_position, labelled_step, labelled}
 
-pub label_place_is : (labels : List Label) (name : List ℕ) → label_place (map label_view labels) name ≡ option_map (λ l. l.at) (find (λ l. bytes_eq l.name.now name) labels)
-label_place_is [] name = refl
-label_place_is (l ∷ ls) name = at (bytes_eq l.name.now name) l (label_place_is ls name)
+pub target_position_is : (labels : List Target) (name : List ℕ) → target_position (map target_view labels) name ≡ option_map (λ l. l.at) (find (λ l. bytes_eq l.name.now name) labels)
+target_position_is [] name = refl
+target_position_is (l ∷ ls) name = at (bytes_eq l.name.now name) l (target_position_is ls name)
   where
-    at : (b : Bool) (l : Label) → label_place (map label_view ls) name ≡ option_map (λ l. l.at) (find (λ l. bytes_eq l.name.now name) ls) → option_map (λ l. l.at) (cond b (Some (label_view l)) (find (λ l. bytes_eq l.name name) (map label_view ls))) ≡ option_map (λ l. l.at) (cond b (Some l) (find (λ l. bytes_eq l.name.now name) ls))
+    at : (b : Bool) (l : Target) → target_position (map target_view ls) name ≡ option_map (λ l. l.at) (find (λ l. bytes_eq l.name.now name) ls) → option_map (λ l. l.at) (cond b (Some (target_view l)) (find (λ l. bytes_eq l.name name) (map target_view ls))) ≡ option_map (λ l. l.at) (cond b (Some l) (find (λ l. bytes_eq l.name.now name) ls))
     at true l e = refl
     at false l e = e
 
@@ -36,16 +36,16 @@ regroup front s (Ok ss) = ap (λ (x : List (Instruction ℕ ℕ)). Ok x) (simp a
 regroup front s (Err f) = refl
 
 -- the step at a place
-abbrev pub step_at : List Unplaced → ℕ → Unplaced
+abbrev pub step_at : List Unresolved → ℕ → Unresolved
 step_at steps i = get_or steps i (record { instruction = instructions.Move registers.Rax (sources.Register registers.Rax); line = 0 })
 
 -- the steps from this place on
-from : (steps : List Unplaced) (i : ℕ) → i < length steps → map step_view (drop i steps) ≡ step_view (step_at steps i) ∷ map step_view (drop (i + 1) steps)
+from : (steps : List Unresolved) (i : ℕ) → i < length steps → map step_view (drop i steps) ≡ step_view (step_at steps i) ∷ map step_view (drop (i + 1) steps)
 from steps i lt =
     let n : suc i ≡ i + 1 = omega arith in
     ap (map step_view) (drop-cons steps i _ lt ∙ ap (λ (k : ℕ). step_at steps i ∷ drop k steps) n)
 
-pub step_more : (labels : List LabelOf) (front : List (Instruction ℕ ℕ)) (steps : List Unplaced) (i : ℕ) (t : Instruction ℕ ℕ) (all : Result (List (Instruction ℕ ℕ)) Fault) → i < length steps → labelled_step labels (step_view (step_at steps i)) ≡ Ok t
+pub step_more : (labels : List TargetOf) (front : List (Instruction ℕ ℕ)) (steps : List Unresolved) (i : ℕ) (t : Instruction ℕ ℕ) (all : Result (List (Instruction ℕ ℕ)) Fault) → i < length steps → labelled_step labels (step_view (step_at steps i)) ≡ Ok t
     → with_front front (labelled labels (map step_view (drop i steps))) ≡ all → with_front (front ++ t ∷ []) (labelled labels (map step_view (drop (i + 1) steps))) ≡ all
 unfolding labelled
 step_more labels front steps i t all lt is so_far =
@@ -53,7 +53,7 @@ step_more labels front steps i t all lt is so_far =
     ∙ sym (ap (λ (r : Result (Instruction ℕ ℕ) Fault). with_front front (r >>= λ t. labelled labels (map step_view (drop (i + 1) steps)) >>= λ ts. Ok (t ∷ ts))) is)
     ∙ sym (ap (λ (ss : List StepOf). with_front front (labelled labels ss)) (from steps i lt)) ∙ so_far
 
-pub step_stop : (e : ReadError) (labels : List LabelOf) (front : List (Instruction ℕ ℕ)) (steps : List Unplaced) (i : ℕ) (all : Result (List (Instruction ℕ ℕ)) Fault) → i < length steps → Fails e (labelled_step labels (step_view (step_at steps i)))
+pub step_stop : (e : ReadError) (labels : List TargetOf) (front : List (Instruction ℕ ℕ)) (steps : List Unresolved) (i : ℕ) (all : Result (List (Instruction ℕ ℕ)) Fault) → i < length steps → Fails e (labelled_step labels (step_view (step_at steps i)))
     → with_front front (labelled labels (map step_view (drop i steps))) ≡ all → Fails e all
 unfolding labelled
 step_stop Memory labels front steps i all lt is so_far = tt
@@ -61,7 +61,7 @@ step_stop (Refused f) labels front steps i all lt is so_far =
     sym so_far ∙ ap (λ (ss : List StepOf). with_front front (labelled labels ss)) (from steps i lt)
     ∙ ap (λ (r : Result (Instruction ℕ ℕ) Fault). with_front front (r >>= λ t. labelled labels (map step_view (drop (i + 1) steps)) >>= λ ts. Ok (t ∷ ts))) is
 
-pub steps_end : (labels : List LabelOf) (front : List (Instruction ℕ ℕ)) (steps : List Unplaced) (i : ℕ) (all : Result (List (Instruction ℕ ℕ)) Fault) → length steps ≤ i → with_front front (labelled labels (map step_view (drop i steps))) ≡ all → all ≡ Ok front
+pub steps_end : (labels : List TargetOf) (front : List (Instruction ℕ ℕ)) (steps : List Unresolved) (i : ℕ) (all : Result (List (Instruction ℕ ℕ)) Fault) → length steps ≤ i → with_front front (labelled labels (map step_view (drop i steps))) ≡ all → all ≡ Ok front
 unfolding labelled
 steps_end labels front steps i all le so_far =
-    sym so_far ∙ ap (λ (ss : List Unplaced). with_front front (labelled labels (map step_view ss))) (drop_all i steps le) ∙ ap (λ (x : List (Instruction ℕ ℕ)). Ok x) (append-nil front)
+    sym so_far ∙ ap (λ (ss : List Unresolved). with_front front (labelled labels (map step_view ss))) (drop_all i steps le) ∙ ap (λ (x : List (Instruction ℕ ℕ)). Ok x) (append-nil front)

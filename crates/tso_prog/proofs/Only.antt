@@ -7,7 +7,8 @@ use Rattle.tso_prog.specs.declared.fault.Fault.{Fault}
 use Rattle.tso_prog.specs.declared.fault.ReadError.{ReadError}
 use Rattle.tso_prog.specs.declared.fault.ReadError.TheVariants.{Refused, Memory}
 use Rattle.tso_prog.specs.Contents.{Content}
-use Rattle.tso_prog.specs.Program.{Numbered, rank, Stands, IsFirstFault, ReadsLines, IsRefused}
+use Rattle.tso_prog.specs.Codes.{code_number}
+use Rattle.tso_prog.specs.Program.{Numbered, Stands, IsFirstFault, ReadsLines, IsRefused}
 
 -- Two places in one list: the same, or one before the other.
 data Places (bs cs : List Numbered) (x y : Numbered) : Type 0 where
@@ -52,7 +53,7 @@ code_of n =
     (if n == 13 then E13 else
     E14)))))))))))))
 
-back : (a : Code) → code_of (rank a) ≡ a
+back : (a : Code) → code_of (code_number a) ≡ a
 back E01 = refl
 back E02 = refl
 back E03 = refl
@@ -68,15 +69,15 @@ back E12 = refl
 back E13 = refl
 back E14 = refl
 
-rank_one : (a b : Code) → rank a ≤ rank b → rank b ≤ rank a → a ≡ b
-rank_one a b p q = let e : rank a ≡ rank b = omega arith in sym (back a) ∙ ap code_of e ∙ back b
+number_one : (a b : Code) → code_number a ≤ code_number b → code_number b ≤ code_number a → a ≡ b
+number_one a b p q = let e : code_number a ≡ code_number b = omega arith in sym (back a) ∙ ap code_of e ∙ back b
 
 module _ (c : Content) (lines : List Numbered) (f g : Fault) (s : IsFirstFault c lines f) (t : IsFirstFault c lines g) where
   one_place : Places s.before t.before s.stands.at t.stands.at → f ≡ g
   one_place (same p q) =
-      let f_low : rank f.code ≤ rank g.code = s.lowest g.code g.line (subst (λ (b : List Numbered). Stands c lines b g.code g.line) (sym p) t.stands) in
-      let g_low : rank g.code ≤ rank f.code = t.lowest f.code f.line (subst (λ (b : List Numbered). Stands c lines b f.code f.line) p s.stands) in
-      let code : f.code ≡ g.code = rank_one f.code g.code f_low g_low in
+      let f_low : code_number f.code ≤ code_number g.code = s.lowest g.code g.line (subst (λ (b : List Numbered). Stands c lines b g.code g.line) (sym p) t.stands) in
+      let g_low : code_number g.code ≤ code_number f.code = t.lowest f.code f.line (subst (λ (b : List Numbered). Stands c lines b f.code f.line) p s.stands) in
+      let code : f.code ≡ g.code = number_one f.code g.code f_low g_low in
       let line : f.line ≡ g.line = sym s.stands.numbered_so ∙ ap (λ (l : Numbered). l.number) q ∙ t.stands.numbered_so in
       λ i. record { code = code i; line = line i }
   one_place (earlier rest p) = absurd (t.earliest s.before f.code f.line (record { at = s.stands.at; rest = rest; split = p; has_it = s.stands.has_it; numbered_so = s.stands.numbered_so }))

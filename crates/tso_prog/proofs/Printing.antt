@@ -1,9 +1,9 @@
 -- A line without a fault keeps a program such that it can be written as a text again.
 use Rattle.std.proofs.Common.{◌≡◌, ℕ, zero, suc, ◌+◌, ◌<◌, ◌≤◌, Bool, true, false, cond, not, List, [], ◌∷◌, ◌++◌, length, map, Option, Some, None, Ok, refl, sym, ap, subst, ◌∙◌, arith}
-use Rattle.std.specs.Prelude.{◌||◌, ◌==◌, nat_lt, nat_le, is_some, is_none, unwrap_or, position}
+use Rattle.std.specs.Prelude.{◌&&◌, ◌||◌, ◌==◌, nat_lt, nat_le, is_some, is_none, unwrap_or, position}
 use Rattle.std.specs.List.{list_all, list_any, prefix_len}
 use Rattle.std.specs.Str.{bytes_eq}
-use Rattle.std.proofs.lemmas.Bool.{and_parts, and_from, or_parts, leb-true, le-leb}
+use Rattle.std.proofs.lemmas.Bool.{and_parts, and_from, or_parts, leb-true, le-leb, not-true}
 use Rattle.std.proofs.lemmas.List.{map-append}
 use Rattle.std.proofs.lemmas.List.Folds.{list_any-append}
 use Rattle.std.proofs.lemmas.List.Quantifiers.{position-Some}
@@ -11,6 +11,8 @@ use Rattle.std.proofs.lemmas.Slice.Eq.{bytes_eq-Decides}
 use Rattle.tso_line.specs.declared.instruction.CallKind.{CallKind}
 use Rattle.tso_line.specs.declared.instruction.Instruction.{Instruction}
 use Rattle.tso_line.specs.declared.instruction.Instruction.TheVariants as instructions
+use Rattle.tso_line.specs.declared.instruction.Mode.{Mode as QueueMode}
+use Rattle.tso_line.specs.declared.line.Kind.{Kind}
 use Rattle.tso_line.specs.declared.line.Kind.TheVariants as kinds
 use Rattle.tso_line.specs.Instructions.{renamed, address_of}
 use Rattle.tso_line.specs.Lines.{Name, Line, misshapen, wrong, capacity, mode, array, push, pop, end, label, instruction, before, thread}
@@ -21,15 +23,16 @@ use Rattle.tso_prog.specs.declared.draft.Part.TheVariants as parts
 use Rattle.tso_prog.specs.declared.fault.Code.{Code}
 use Rattle.tso_prog.specs.declared.fault.Code.TheVariants.{E03, E06, E07, E09}
 use Rattle.tso_prog.specs.Limits.{are_distinct, has_array_below, are_arrays_below, are_in_range, is_short_name, are_words, is_thread}
-use Rattle.tso_prog.specs.Contents.{LabelOf, StepOf, Content, opened, open_in}
+use Rattle.tso_prog.specs.Contents.{TargetOf, StepOf, BodyOf, Content, opened, open_in}
 use Rattle.tso_prog.specs.Faults.{may_stand, has, fault_at, lacks_at, array_number, repeats, lacks_array, passes_limit}
 use Rattle.tso_prog.specs.After.{after, after_end, with_label, with_step, with_opened, numbered, step, number_or_0}
 use Rattle.tso_prog.specs.Finish.{labelled_step, labelled}
 use Rattle.tso_prog.specs.Limited.{Begun, is_first, is_array, is_step, IsPrintable}
 use Rattle.tso_prog.specs.Start.{start}
+use Rattle.tso_line.proofs.Each.{passes_more}
 use Rattle.tso_prog.proofs.First.{no_fault}
 use Rattle.tso_prog.proofs.Clean.{stands}
-use Rattle.tso_prog.proofs.Keeping.{list_all_weaker, list_all_more, one_more, at_most}
+use Rattle.tso_prog.proofs.Keeping.{list_all_weaker, one_more, at_most, opened_either}
 use Rattle.tso_prog.proofs.Maps.{list_any_map}
 use Rattle.tso_prog.proofs.Placing.{placed_step, labelled_all}
 
@@ -61,16 +64,12 @@ other_way x y e = by (bytes_eq y x) refl
     by true f = let same : y ≡ x = (bytes_eq-Decides y x).0 f in let t : bytes_eq x y ≡ true = (bytes_eq-Decides x y).1 (sym same) in absurd cc
     by false f = f
 
-not_false : (b : Bool) → not b ≡ true → b ≡ false
-not_false true e = absurd cc
-not_false false e = refl
-
 more_distinct : (xs : List (List ℕ)) (n : List ℕ) → are_distinct xs ≡ true → list_any (λ y. bytes_eq y n) xs ≡ false → are_distinct (xs ++ n ∷ []) ≡ true
 more_distinct [] n h e = refl
 more_distinct (x ∷ xs) n h e =
     let a = and_parts (not (list_any (λ y. bytes_eq y x) xs)) (are_distinct xs) h in
     let b = or_parts (bytes_eq x n) (list_any (λ y. bytes_eq y n) xs) e in
-    let none : list_any (λ y. bytes_eq y x) (xs ++ n ∷ []) ≡ false = list_any-append (λ y. bytes_eq y x) xs (n ∷ []) ∙ (λ i. not_false (list_any (λ y. bytes_eq y x) xs) a.0 i || (other_way x n b.0 i || false)) in
+    let none : list_any (λ y. bytes_eq y x) (xs ++ n ∷ []) ≡ false = list_any-append (λ y. bytes_eq y x) xs (n ∷ []) ∙ (λ i. not-true (list_any (λ y. bytes_eq y x) xs) a.0 i || (other_way x n b.0 i || false)) in
     and_from (not (list_any (λ y. bytes_eq y x) (xs ++ n ∷ []))) (are_distinct (xs ++ n ∷ [])) (ap not none) (more_distinct xs n a.1 b.1)
 
 -- ---- instructions
@@ -229,65 +228,16 @@ first_open p b e h = by (is_first p) e h
     by true e h = absurd cc
     by false e h = h
 
-not_first_mode : (p : Part) → may_stand p kinds.Mode ≡ true → is_first p ≡ false
-not_first_mode parts.Capacity e = absurd cc
-not_first_mode parts.Mode e = refl
-not_first_mode parts.Arrays e = refl
-not_first_mode parts.Push e = refl
-not_first_mode parts.Between e = refl
-not_first_mode parts.Pop e = refl
-not_first_mode parts.Prologue e = refl
-not_first_mode parts.Threads e = refl
-
-not_first_push : (p : Part) → may_stand p kinds.Push ≡ true → is_first p ≡ false
-not_first_push parts.Capacity e = absurd cc
-not_first_push parts.Mode e = refl
-not_first_push parts.Arrays e = refl
-not_first_push parts.Push e = refl
-not_first_push parts.Between e = refl
-not_first_push parts.Pop e = refl
-not_first_push parts.Prologue e = refl
-not_first_push parts.Threads e = refl
-
-not_first_pop : (p : Part) → may_stand p kinds.Pop ≡ true → is_first p ≡ false
-not_first_pop parts.Capacity e = absurd cc
-not_first_pop parts.Mode e = refl
-not_first_pop parts.Arrays e = refl
-not_first_pop parts.Push e = refl
-not_first_pop parts.Between e = refl
-not_first_pop parts.Pop e = refl
-not_first_pop parts.Prologue e = refl
-not_first_pop parts.Threads e = refl
-
-not_first_end : (p : Part) → may_stand p kinds.End ≡ true → is_first p ≡ false
-not_first_end parts.Capacity e = absurd cc
-not_first_end parts.Mode e = refl
-not_first_end parts.Arrays e = refl
-not_first_end parts.Push e = refl
-not_first_end parts.Between e = refl
-not_first_end parts.Pop e = refl
-not_first_end parts.Prologue e = refl
-not_first_end parts.Threads e = refl
-
-not_first_before : (p : Part) → may_stand p kinds.Before ≡ true → is_first p ≡ false
-not_first_before parts.Capacity e = absurd cc
-not_first_before parts.Mode e = refl
-not_first_before parts.Arrays e = refl
-not_first_before parts.Push e = refl
-not_first_before parts.Between e = refl
-not_first_before parts.Pop e = refl
-not_first_before parts.Prologue e = refl
-not_first_before parts.Threads e = refl
-
-not_first_thread : (p : Part) → may_stand p kinds.Thread ≡ true → is_first p ≡ false
-not_first_thread parts.Capacity e = absurd cc
-not_first_thread parts.Mode e = refl
-not_first_thread parts.Arrays e = refl
-not_first_thread parts.Push e = refl
-not_first_thread parts.Between e = refl
-not_first_thread parts.Pop e = refl
-not_first_thread parts.Prologue e = refl
-not_first_thread parts.Threads e = refl
+-- a line that is not that of the capacity stands behind it
+not_first : (p : Part) (k : Kind) → may_stand p k ≡ true → (may_stand parts.Capacity k ≡ true → ⊥) → is_first p ≡ false
+not_first parts.Capacity k e first_only = absurd (first_only e)
+not_first parts.Mode k e first_only = refl
+not_first parts.Arrays k e first_only = refl
+not_first parts.Push k e first_only = refl
+not_first parts.Between k e first_only = refl
+not_first parts.Pop k e first_only = refl
+not_first parts.Prologue k e first_only = refl
+not_first parts.Threads k e first_only = refl
 
 any_part : (p : Part) (b : Bool) → b ≡ true → (is_first p || b) ≡ true
 any_part p b e = by (is_first p)
@@ -301,169 +251,46 @@ capacity_stays p q b e h = any_part q b (first_open p b e h)
 
 -- ---- lines
 
-open_label : (p : Part) (c : Content) (name : Name) → IsPrintable c → IsPrintable (with_opened p c (λ b. with_label b name))
-open_label parts.Capacity c name h = record {
+-- a printable content stays so with other procedures, and where the lines go on to another part
+with_procedures : (c : Content) (b d : BodyOf) → IsPrintable c → list_all (is_step (length c.arrays)) b.steps ≡ true → list_all (is_step (length c.arrays)) d.steps ≡ true → Begun c.part (length b.steps) (length d.steps) → IsPrintable (record c { push = b; pop = d })
+with_procedures c b d h in_push in_pop begun = record {
   capacity = h.capacity;
   arrays = h.arrays;
   names = h.names;
-  push = h.push;
-  pop = h.pop;
-  begun = h.begun;
-  prologue = h.prologue;
-  threads = h.threads;
-}
-open_label parts.Mode c name h = record {
-  capacity = h.capacity;
-  arrays = h.arrays;
-  names = h.names;
-  push = h.push;
-  pop = h.pop;
-  begun = h.begun;
-  prologue = h.prologue;
-  threads = h.threads;
-}
-open_label parts.Arrays c name h = record {
-  capacity = h.capacity;
-  arrays = h.arrays;
-  names = h.names;
-  push = h.push;
-  pop = h.pop;
-  begun = h.begun;
-  prologue = h.prologue;
-  threads = h.threads;
-}
-open_label parts.Push c name h = record {
-  capacity = h.capacity;
-  arrays = h.arrays;
-  names = h.names;
-  push = h.push;
-  pop = h.pop;
-  begun = h.begun;
-  prologue = h.prologue;
-  threads = h.threads;
-}
-open_label parts.Between c name h = record {
-  capacity = h.capacity;
-  arrays = h.arrays;
-  names = h.names;
-  push = h.push;
-  pop = h.pop;
-  begun = h.begun;
-  prologue = h.prologue;
-  threads = h.threads;
-}
-open_label parts.Pop c name h = record {
-  capacity = h.capacity;
-  arrays = h.arrays;
-  names = h.names;
-  push = h.push;
-  pop = h.pop;
-  begun = h.begun;
-  prologue = h.prologue;
-  threads = h.threads;
-}
-open_label parts.Prologue c name h = record {
-  capacity = h.capacity;
-  arrays = h.arrays;
-  names = h.names;
-  push = h.push;
-  pop = h.pop;
-  begun = h.begun;
-  prologue = h.prologue;
-  threads = h.threads;
-}
-open_label parts.Threads c name h = record {
-  capacity = h.capacity;
-  arrays = h.arrays;
-  names = h.names;
-  push = h.push;
-  pop = h.pop;
-  begun = h.begun;
+  push = in_push;
+  pop = in_pop;
+  begun = begun;
   prologue = h.prologue;
   threads = h.threads;
 }
 
-open_step : (p : Part) (c : Content) (s : StepOf) → is_step (length c.arrays) s ≡ true → IsPrintable c → IsPrintable (with_opened p c (λ b. with_step b s))
-open_step parts.Capacity c s e h = record {
-  capacity = h.capacity;
-  arrays = h.arrays;
-  names = h.names;
-  push = list_all_more (is_step (length c.arrays)) c.push.steps s h.push e;
-  pop = h.pop;
-  begun = begun_more c.part (length c.push.steps) (length c.pop.steps) (length (c.push.steps ++ s ∷ [])) (length c.pop.steps) (omega (arith, one_more c.push.steps s)) (omega arith) h.begun;
-  prologue = h.prologue;
-  threads = h.threads;
-}
-open_step parts.Mode c s e h = record {
-  capacity = h.capacity;
-  arrays = h.arrays;
-  names = h.names;
-  push = list_all_more (is_step (length c.arrays)) c.push.steps s h.push e;
-  pop = h.pop;
-  begun = begun_more c.part (length c.push.steps) (length c.pop.steps) (length (c.push.steps ++ s ∷ [])) (length c.pop.steps) (omega (arith, one_more c.push.steps s)) (omega arith) h.begun;
-  prologue = h.prologue;
-  threads = h.threads;
-}
-open_step parts.Arrays c s e h = record {
-  capacity = h.capacity;
-  arrays = h.arrays;
-  names = h.names;
-  push = list_all_more (is_step (length c.arrays)) c.push.steps s h.push e;
-  pop = h.pop;
-  begun = begun_more c.part (length c.push.steps) (length c.pop.steps) (length (c.push.steps ++ s ∷ [])) (length c.pop.steps) (omega (arith, one_more c.push.steps s)) (omega arith) h.begun;
-  prologue = h.prologue;
-  threads = h.threads;
-}
-open_step parts.Push c s e h = record {
-  capacity = h.capacity;
-  arrays = h.arrays;
-  names = h.names;
-  push = list_all_more (is_step (length c.arrays)) c.push.steps s h.push e;
-  pop = h.pop;
-  begun = begun_more c.part (length c.push.steps) (length c.pop.steps) (length (c.push.steps ++ s ∷ [])) (length c.pop.steps) (omega (arith, one_more c.push.steps s)) (omega arith) h.begun;
-  prologue = h.prologue;
-  threads = h.threads;
-}
-open_step parts.Between c s e h = record {
-  capacity = h.capacity;
-  arrays = h.arrays;
-  names = h.names;
-  push = list_all_more (is_step (length c.arrays)) c.push.steps s h.push e;
-  pop = h.pop;
-  begun = begun_more c.part (length c.push.steps) (length c.pop.steps) (length (c.push.steps ++ s ∷ [])) (length c.pop.steps) (omega (arith, one_more c.push.steps s)) (omega arith) h.begun;
-  prologue = h.prologue;
-  threads = h.threads;
-}
-open_step parts.Pop c s e h = record {
-  capacity = h.capacity;
+goes_on : (c : Content) (p : Part) (k : ℕ) (m : QueueMode) → IsPrintable c → (is_first p || nat_le 1 k && nat_le k 16) ≡ true → Begun p (length c.push.steps) (length c.pop.steps) → IsPrintable (record c { part = p; capacity = k; mode = m })
+goes_on c p k m h in_range begun = record {
+  capacity = in_range;
   arrays = h.arrays;
   names = h.names;
   push = h.push;
-  pop = list_all_more (is_step (length c.arrays)) c.pop.steps s h.pop e;
-  begun = begun_more c.part (length c.push.steps) (length c.pop.steps) (length c.push.steps) (length (c.pop.steps ++ s ∷ [])) (omega arith) (omega (arith, one_more c.pop.steps s)) h.begun;
-  prologue = h.prologue;
-  threads = h.threads;
-}
-open_step parts.Prologue c s e h = record {
-  capacity = h.capacity;
-  arrays = h.arrays;
-  names = h.names;
-  push = list_all_more (is_step (length c.arrays)) c.push.steps s h.push e;
   pop = h.pop;
-  begun = begun_more c.part (length c.push.steps) (length c.pop.steps) (length (c.push.steps ++ s ∷ [])) (length c.pop.steps) (omega (arith, one_more c.push.steps s)) (omega arith) h.begun;
+  begun = begun;
   prologue = h.prologue;
   threads = h.threads;
 }
-open_step parts.Threads c s e h = record {
-  capacity = h.capacity;
-  arrays = h.arrays;
-  names = h.names;
-  push = list_all_more (is_step (length c.arrays)) c.push.steps s h.push e;
-  pop = h.pop;
-  begun = begun_more c.part (length c.push.steps) (length c.pop.steps) (length (c.push.steps ++ s ∷ [])) (length c.pop.steps) (omega (arith, one_more c.push.steps s)) (omega arith) h.begun;
-  prologue = h.prologue;
-  threads = h.threads;
-}
+
+open_label : (c : Content) (name : Name) → IsPrintable c → (p : Part) → IsPrintable (with_opened p c (λ b. with_label b name))
+open_label c name h =
+    let Q : Content → Type 0 = λ d. IsPrintable d in
+    opened_either Q c (λ b. with_label b name)
+    (with_procedures c (with_label c.push name) c.pop h h.push h.pop h.begun)
+    (with_procedures c c.push (with_label c.pop name) h h.push h.pop h.begun)
+
+open_step : (c : Content) (s : StepOf) → is_step (length c.arrays) s ≡ true → IsPrintable c → (p : Part) → IsPrintable (with_opened p c (λ b. with_step b s))
+open_step c s e h =
+    let Q : Content → Type 0 = λ d. IsPrintable d in
+    let more = λ (ss : List StepOf) (all : list_all (is_step (length c.arrays)) ss ≡ true). passes_more (is_step (length c.arrays)) ss s all e in
+    let begun = begun_more c.part (length c.push.steps) (length c.pop.steps) in
+    opened_either Q c (λ b. with_step b s)
+    (with_procedures c (with_step c.push s) c.pop h (more c.push.steps h.push) h.pop (begun (length (c.push.steps ++ s ∷ [])) (length c.pop.steps) (omega (arith, one_more c.push.steps s)) (omega arith) h.begun))
+    (with_procedures c c.push (with_step c.pop s) h h.push (more c.pop.steps h.pop) (begun (length c.push.steps) (length (c.pop.steps ++ s ∷ [])) (omega arith) (omega (arith, one_more c.pop.steps s)) h.begun))
 
 array_kept : (c : Content) (n : ℕ) (name words : List ℕ) → IsPrintable c → is_proper (array name words) ≡ true → has c (array name words) E06 ≡ false → has c (array name words) E09 ≡ false → IsPrintable (after c n (array name words))
 unfolding repeats passes_limit
@@ -477,7 +304,7 @@ array_kept c n name words h proper twice limit =
     let fresh : list_any (λ y. bytes_eq y name) (map (λ (a : Array). a.name) c.arrays) ≡ false = list_any_map (λ y. bytes_eq y name) (λ (a : Array). a.name) c.arrays ∙ nowhere (λ (a : Array). bytes_eq a.name name) c.arrays twice in
     record {
       capacity = h.capacity;
-      arrays = list_all_more is_array c.arrays it h.arrays (and_from (is_short_name name) (are_words words) (and_from (is_name name) (nat_le (length name) 32) b.0 short) b.1);
+      arrays = passes_more is_array c.arrays it h.arrays (and_from (is_short_name name) (are_words words) (and_from (is_name name) (nat_le (length name) 32) b.0 short) b.1);
       names = ap are_distinct (map-append (λ (a : Array). a.name) c.arrays (it ∷ [])) ∙ more_distinct (map (λ (a : Array). a.name) c.arrays) name h.names fresh;
       push = steps c.push.steps h.push;
       pop = steps c.pop.steps h.pop;
@@ -494,7 +321,7 @@ unfolding passes_limit
 before_kept c n calls h proper place limit =
     let may = stands (may_stand c.part kinds.Before) place in
     record {
-      capacity = first_open c.part _ (not_first_before c.part may) h.capacity;
+      capacity = first_open c.part _ (not_first c.part kinds.Before may (λ x. absurd cc)) h.capacity;
       arrays = h.arrays;
       names = h.names;
       push = h.push;
@@ -510,81 +337,36 @@ thread_kept c n calls h proper place limit =
     let may = stands (may_stand c.part kinds.Thread) place in
     let a = or_parts (nat_le 4 (length c.threads)) (nat_lt 4 (length calls) || nat_lt 12 (c.calls + length calls)) limit in
     record {
-      capacity = first_open c.part _ (not_first_thread c.part may) h.capacity;
+      capacity = first_open c.part _ (not_first c.part kinds.Thread may (λ x. absurd cc)) h.capacity;
       arrays = h.arrays;
       names = h.names;
       push = h.push;
       pop = h.pop;
       begun = begun_thread c.part _ _ may h.begun;
       prologue = h.prologue;
-      threads = list_all_more is_thread c.threads calls h.threads (and_from (are_calls calls) (nat_le (length calls) 4) proper (few_calls c (length calls) a.1));
+      threads = passes_more is_thread c.threads calls h.threads (and_from (are_calls calls) (nat_le (length calls) 4) proper (few_calls c (length calls) a.1));
     }
 
 end_kept : (c : Content) (n : ℕ) → IsPrintable c → has c end E03 ≡ false → IsPrintable (after c n end)
 end_kept c n h place =
     let a = and_parts (may_stand c.part kinds.End) (nat_lt 0 (length (opened c).steps)) (stands _ place) in
-    record {
-      capacity = capacity_stays c.part (after_end c.part) _ (not_first_end c.part a.0) h.capacity;
-      arrays = h.arrays;
-      names = h.names;
-      push = h.push;
-      pop = h.pop;
-      begun = begun_end c.part c a.0 (leb-true 1 (length (opened c).steps) a.1) h.begun;
-      prologue = h.prologue;
-      threads = h.threads;
-    }
+    goes_on c (after_end c.part) c.capacity c.mode h (capacity_stays c.part (after_end c.part) _ (not_first c.part kinds.End a.0 (λ x. absurd cc)) h.capacity) (begun_end c.part c a.0 (leb-true 1 (length (opened c).steps) a.1) h.begun)
 
 instruction_kept : (c : Content) (n : ℕ) (i : Instruction Name Name) (lacks : Bool) → IsPrintable c → is_in_range i ≡ true → has c (instruction i lacks) E07 ≡ false → IsPrintable (after c n (instruction i lacks))
 unfolding lacks_array
 instruction_kept c n i lacks h proper known =
-    open_step c.part c (step n (numbered c i)) (and_from (is_in_range (numbered c i)) (has_array_below (length c.arrays) (numbered c i)) (range_numbered (number_or_0 c) i ∙ proper) (array_known c i known)) h
+    open_step c (step n (numbered c i)) (and_from (is_in_range (numbered c i)) (has_array_below (length c.arrays) (numbered c i)) (range_numbered (number_or_0 c) i ∙ proper) (array_known c i known)) h c.part
 
 kept_by : (c : Content) (n : ℕ) (l : Line) → IsPrintable c → is_proper l ≡ true → ((code : Code) → has c l code ≡ false) → IsPrintable (after c n l)
 kept_by c n misshapen h proper clean = h
 kept_by c n (wrong kind slip) h proper clean = h
-kept_by c n (capacity k) h proper clean = record {
-  capacity = proper;
-  arrays = h.arrays;
-  names = h.names;
-  push = h.push;
-  pop = h.pop;
-  begun = tt;
-  prologue = h.prologue;
-  threads = h.threads;
-}
-kept_by c n (mode m) h proper clean = record {
-  capacity = first_open c.part _ (not_first_mode c.part (stands _ (clean E03))) h.capacity;
-  arrays = h.arrays;
-  names = h.names;
-  push = h.push;
-  pop = h.pop;
-  begun = tt;
-  prologue = h.prologue;
-  threads = h.threads;
-}
+kept_by c n (capacity k) h proper clean = goes_on c parts.Mode k c.mode h proper tt
+kept_by c n (mode m) h proper clean = goes_on c parts.Arrays c.capacity m h (first_open c.part _ (not_first c.part kinds.Mode (stands _ (clean E03)) (λ x. absurd cc)) h.capacity) tt
 kept_by c n (array name words) h proper clean = array_kept c n name words h proper (clean E06) (clean E09)
-kept_by c n push h proper clean = record {
-  capacity = first_open c.part _ (not_first_push c.part (stands _ (clean E03))) h.capacity;
-  arrays = h.arrays;
-  names = h.names;
-  push = h.push;
-  pop = h.pop;
-  begun = tt;
-  prologue = h.prologue;
-  threads = h.threads;
-}
-kept_by c n pop h proper clean = record {
-  capacity = first_open c.part _ (not_first_pop c.part (stands _ (clean E03))) h.capacity;
-  arrays = h.arrays;
-  names = h.names;
-  push = h.push;
-  pop = h.pop;
-  begun = begun_pop c.part _ _ (stands _ (clean E03)) h.begun;
-  prologue = h.prologue;
-  threads = h.threads;
-}
+kept_by c n push h proper clean = goes_on c parts.Push c.capacity c.mode h (first_open c.part _ (not_first c.part kinds.Push (stands _ (clean E03)) (λ x. absurd cc)) h.capacity) tt
+kept_by c n pop h proper clean = goes_on c parts.Pop c.capacity c.mode h (first_open c.part _ (not_first c.part kinds.Pop (stands _ (clean E03)) (λ x. absurd cc)) h.capacity) (begun_pop c.part _ _ (stands _ (clean E03)) h.begun)
 kept_by c n end h proper clean = end_kept c n h (clean E03)
-kept_by c n (label name) h proper clean = open_label c.part c name h
+kept_by c n (label name) h proper clean = open_label c name h c.part
 kept_by c n (instruction i lacks) h proper clean = instruction_kept c n i lacks h proper (clean E07)
 kept_by c n (before calls) h proper clean = before_kept c n calls h proper (clean E03) (clean E09)
 kept_by c n (thread calls) h proper clean = thread_kept c n calls h proper (clean E03) (clean E09)
@@ -597,20 +379,20 @@ printable_start = record { capacity = refl; arrays = refl; names = refl; push = 
 
 -- ---- at the end
 
-each_range : (n : ℕ) (labels : List LabelOf) (s : StepOf) (t : Instruction ℕ ℕ) → is_step n s ≡ true → labelled_step labels s ≡ Ok t → is_in_range t ≡ true
+each_range : (n : ℕ) (labels : List TargetOf) (s : StepOf) (t : Instruction ℕ ℕ) → is_step n s ≡ true → labelled_step labels s ≡ Ok t → is_in_range t ≡ true
 each_range n labels s t h e =
     let p = placed_step labels s t e in
     ap is_in_range p.is ∙ range_placed s.instruction p.place ∙ (and_parts (is_in_range s.instruction) (has_array_below n s.instruction) h).0
 
-each_array : (n : ℕ) (labels : List LabelOf) (s : StepOf) (t : Instruction ℕ ℕ) → is_step n s ≡ true → labelled_step labels s ≡ Ok t → has_array_below n t ≡ true
+each_array : (n : ℕ) (labels : List TargetOf) (s : StepOf) (t : Instruction ℕ ℕ) → is_step n s ≡ true → labelled_step labels s ≡ Ok t → has_array_below n t ≡ true
 each_array n labels s t h e =
     let p = placed_step labels s t e in
     ap (has_array_below n) p.is ∙ array_placed n s.instruction p.place ∙ (and_parts (is_in_range s.instruction) (has_array_below n s.instruction) h).1
 
-pub steps_in_range : (n : ℕ) (labels : List LabelOf) (ss : List StepOf) (ts : List (Instruction ℕ ℕ)) → list_all (is_step n) ss ≡ true → labelled labels ss ≡ Ok ts → are_in_range ts ≡ true
+pub steps_in_range : (n : ℕ) (labels : List TargetOf) (ss : List StepOf) (ts : List (Instruction ℕ ℕ)) → list_all (is_step n) ss ≡ true → labelled labels ss ≡ Ok ts → are_in_range ts ≡ true
 steps_in_range n labels ss ts h e = labelled_all (is_step n) is_in_range labels (each_range n labels) ss ts h e
 
-pub steps_below : (n : ℕ) (labels : List LabelOf) (ss : List StepOf) (ts : List (Instruction ℕ ℕ)) → list_all (is_step n) ss ≡ true → labelled labels ss ≡ Ok ts → are_arrays_below n ts ≡ true
+pub steps_below : (n : ℕ) (labels : List TargetOf) (ss : List StepOf) (ts : List (Instruction ℕ ℕ)) → list_all (is_step n) ss ≡ true → labelled labels ss ≡ Ok ts → are_arrays_below n ts ≡ true
 steps_below n labels ss ts h e = labelled_all (is_step n) (has_array_below n) labels (each_array n labels) ss ts h e
 
 pub nonzero : (n : ℕ) → (n == 0) ≡ false → 1 ≤ n

@@ -12,10 +12,10 @@ use Rattle.tso_prog.specs.declared.fault.Fault.{Fault}
 use Rattle.tso_prog.specs.declared.fault.ReadError.{ReadError}
 use Rattle.tso_prog.specs.declared.fault.ReadError.TheVariants.{Refused, Memory}
 use Rattle.tso_prog.specs.Clients.{ClientOf}
-use Rattle.tso_prog.specs.Contents.{LabelOf, StepOf, BodyOf, Content}
+use Rattle.tso_prog.specs.Contents.{TargetOf, StepOf, BodyOf, Content}
 use Rattle.tso_prog.specs.Start.{start}
 use Rattle.tso_prog.specs.Program.{Gives, ◌>>=◌, fault, Numbered, lines_of, read_from, content_of, IsClean, IsFirstFault, IsRefused}
-use Rattle.tso_prog.specs.Finish.{label_place, jump_to, placed, labelled_step, labelled, labelled_body, finished}
+use Rattle.tso_prog.specs.Finish.{target_position, jump_to, with_target, labelled_step, labelled, labelled_body, client_or_fault}
 use Rattle.tso_prog.specs.Text.{program_of, bytes_or_lines}
 use Rattle.tso_prog.specs.Refusals.{is_whole, Loses, IsLost, LosesFirst, LosesNone, FirstOf, too_long, bad_byte, in_line, ends_early, lost_in_push, lost_in_pop, AnswersFirst}
 use Rattle.tso_prog.proofs.First.{Meets, read_meets}
@@ -23,8 +23,8 @@ use Rattle.tso_prog.proofs.Only.{one_first}
 
 -- ---- labels
 
--- what the steps of a procedure with these labels become: all are placed, or the first lost one is the fault
-record Lost (labels : List LabelOf) (ss : List StepOf) (f : Fault) : Type 0 where
+-- what the steps of a procedure with these labels become: all are with_target, or the first lost one is the fault
+record Lost (labels : List TargetOf) (ss : List StepOf) (f : Fault) : Type 0 where
   before : List StepOf
   at : StepOf
   rest : List StepOf
@@ -33,31 +33,31 @@ record Lost (labels : List LabelOf) (ss : List StepOf) (f : Fault) : Type 0 wher
   lost : IsLost labels at
   is : f ≡ fault E07 at.line
 
-abbrev Ends : List LabelOf → List StepOf → Result (List (Instruction ℕ ℕ)) Fault → Type 0
+abbrev Ends : List TargetOf → List StepOf → Result (List (Instruction ℕ ℕ)) Fault → Type 0
 Ends labels ss (Ok ts) = AllByRecursion (λ s. IsLost labels s → ⊥) ss
 Ends labels ss (Err f) = Lost labels ss f
 
-abbrev EndsStep : List LabelOf → StepOf → Option Name → Result (Instruction ℕ ℕ) Fault → Type 0
+abbrev EndsStep : List TargetOf → StepOf → Option Name → Result (Instruction ℕ ℕ) Fault → Type 0
 EndsStep labels s o (Ok t) = Loses labels o → ⊥
 EndsStep labels s o (Err f) = Loses labels o × (f ≡ fault E07 s.line)
 
-ends_jump : (labels : List LabelOf) (s : StepOf) (name : Name) (o : Option ℕ) → label_place labels name ≡ o → EndsStep labels s (Some name) (jump_to s o)
+ends_jump : (labels : List TargetOf) (s : StepOf) (name : Name) (o : Option ℕ) → target_position labels name ≡ o → EndsStep labels s (Some name) (jump_to s o)
 ends_jump labels s name None e = (e, refl)
 ends_jump labels s name (Some place) e = λ lost. absurd (let g : None ≡ Some place = sym lost ∙ e in cc)
 
-ends_placed : (labels : List LabelOf) (s : StepOf) (o : Option Name) → EndsStep labels s o (placed labels s o)
+ends_placed : (labels : List TargetOf) (s : StepOf) (o : Option Name) → EndsStep labels s o (with_target labels s o)
 ends_placed labels s None = λ lost. lost
-ends_placed labels s (Some name) = ends_jump labels s name (label_place labels name) refl
+ends_placed labels s (Some name) = ends_jump labels s name (target_position labels name) refl
 
-later : (labels : List LabelOf) (s : StepOf) (ss : List StepOf) (f : Fault) → (IsLost labels s → ⊥) → Lost labels ss f → Lost labels (s ∷ ss) f
+later : (labels : List TargetOf) (s : StepOf) (ss : List StepOf) (f : Fault) → (IsLost labels s → ⊥) → Lost labels ss f → Lost labels (s ∷ ss) f
 later labels s ss f h l = record { before = s ∷ l.before; at = l.at; rest = l.rest; split = ap (λ (xs : List StepOf). s ∷ xs) l.split; found = (h, l.found); lost = l.lost; is = l.is }
 
-ends_both : (labels : List LabelOf) (s : StepOf) (ss : List StepOf) (r : Result (Instruction ℕ ℕ) Fault) (q : Result (List (Instruction ℕ ℕ)) Fault) → EndsStep labels s (label_of s.instruction) r → Ends labels ss q → Ends labels (s ∷ ss) (r >>= λ t. q >>= λ ts. Ok (t ∷ ts))
+ends_both : (labels : List TargetOf) (s : StepOf) (ss : List StepOf) (r : Result (Instruction ℕ ℕ) Fault) (q : Result (List (Instruction ℕ ℕ)) Fault) → EndsStep labels s (label_of s.instruction) r → Ends labels ss q → Ends labels (s ∷ ss) (r >>= λ t. q >>= λ ts. Ok (t ∷ ts))
 ends_both labels s ss (Ok t) (Ok ts) h again = (h, again)
 ends_both labels s ss (Ok t) (Err f) h again = later labels s ss f h again
 ends_both labels s ss (Err f) q h again = record { before = []; at = s; rest = ss; split = refl; found = tt; lost = h.0; is = h.1 }
 
-ends : (labels : List LabelOf) (ss : List StepOf) → Ends labels ss (labelled labels ss)
+ends : (labels : List TargetOf) (ss : List StepOf) → Ends labels ss (labelled labels ss)
 unfolding labelled
 ends labels [] = tt
 ends labels (s ∷ ss) = ends_both labels s ss (labelled_step labels s) (labelled labels ss) (ends_placed labels s (label_of s.instruction)) (ends labels ss)
@@ -83,8 +83,8 @@ module _ (text : List ℕ) (short : length text ≤ 65536) (good : first_bad_lin
   from_labels clean w (Ok xs) (Err f) make a b = lost_in_pop short good clean w a (loses_first whole.pop f b)
   from_labels clean w (Err f) q make a b = lost_in_push short good clean w (loses_first whole.push f a)
 
-  from_end : IsClean start the_lines → Answers text (finished whole)
-  unfolding finished
+  from_end : IsClean start the_lines → Answers text (client_or_fault whole)
+  unfolding client_or_fault
   from_end clean = by (is_whole whole) refl
     where
       by : (b : Bool) → is_whole whole ≡ b → Answers text (cond b (labelled_body whole.push >>= λ push. labelled_body whole.pop >>= λ pop. Ok (record {
@@ -99,9 +99,9 @@ module _ (text : List ℕ) (short : length text ≤ 65536) (good : first_bad_lin
       by true w = from_labels clean w (labelled_body whole.push) (labelled_body whole.pop) (λ xs ys. record { capacity = whole.capacity; mode = whole.mode; arrays = whole.arrays; push = xs; pop = ys; prologue = whole.prologue; threads = whole.threads }) (ends whole.push.labels whole.push.steps) (ends whole.pop.labels whole.pop.steps)
       by false w = ends_early short good clean w refl
 
-  from_lines : (r : Result Content Fault) → Meets start the_lines r → Answers text (r >>= λ c. finished c)
+  from_lines : (r : Result Content Fault) → Meets start the_lines r → Answers text (r >>= λ c. client_or_fault c)
   from_lines (Ok c) m =
-      let Q : Content → Type 0 = λ x. Answers text (finished x) in
+      let Q : Content → Type 0 = λ x. Answers text (client_or_fault x) in
       subst Q (sym m.1) (from_end m.0)
   from_lines (Err f) m = in_line short good m
 
@@ -132,15 +132,15 @@ answers_first view text (Err (Refused f)) g =
 
 -- ---- a text that has a first fault
 
-step_lost : (labels : List LabelOf) (s : StepOf) (o : Option Name) → Loses labels o → placed labels s o ≡ Err (fault E07 s.line)
+step_lost : (labels : List TargetOf) (s : StepOf) (o : Option Name) → Loses labels o → with_target labels s o ≡ Err (fault E07 s.line)
 step_lost labels s None lost = absurd lost
 step_lost labels s (Some name) lost = ap (jump_to s) lost
 
-through : (labels : List LabelOf) (s : StepOf) (f : Fault) (r : Result (Instruction ℕ ℕ) Fault) (q : Result (List (Instruction ℕ ℕ)) Fault) → EndsStep labels s (label_of s.instruction) r → (IsLost labels s → ⊥) → q ≡ Err f → (r >>= λ t. q >>= λ ts. Ok (t ∷ ts)) ≡ Err f
+through : (labels : List TargetOf) (s : StepOf) (f : Fault) (r : Result (Instruction ℕ ℕ) Fault) (q : Result (List (Instruction ℕ ℕ)) Fault) → EndsStep labels s (label_of s.instruction) r → (IsLost labels s → ⊥) → q ≡ Err f → (r >>= λ t. q >>= λ ts. Ok (t ∷ ts)) ≡ Err f
 through labels s f (Ok t) q h found e = ap (λ (x : Result (List (Instruction ℕ ℕ)) Fault). x >>= λ ts. Ok (t ∷ ts)) e
 through labels s f (Err g) q h found e = absurd (found h.0)
 
-lost_is : (labels : List LabelOf) (before : List StepOf) (at : StepOf) (rest : List StepOf) → AllByRecursion (λ s. IsLost labels s → ⊥) before → IsLost labels at → labelled labels (before ++ at ∷ rest) ≡ Err (fault E07 at.line)
+lost_is : (labels : List TargetOf) (before : List StepOf) (at : StepOf) (rest : List StepOf) → AllByRecursion (λ s. IsLost labels s → ⊥) before → IsLost labels at → labelled labels (before ++ at ∷ rest) ≡ Err (fault E07 at.line)
 unfolding labelled
 lost_is labels [] at rest found lost = ap (λ (r : Result (Instruction ℕ ℕ) Fault). r >>= λ t. labelled labels rest >>= λ ts. Ok (t ∷ ts)) (step_lost labels at (label_of at.instruction) lost)
 lost_is labels (b ∷ bs) at rest found lost =
@@ -153,7 +153,7 @@ not_lost : (P : StepOf → Type 0) (before : List StepOf) (at : StepOf) (rest : 
 not_lost P [] at rest h = h.0
 not_lost P (b ∷ bs) at rest h = not_lost P bs at rest h.1
 
-none_lost : (labels : List LabelOf) (ss : List StepOf) (f : Fault) → AllByRecursion (λ s. IsLost labels s → ⊥) ss → Lost labels ss f → ⊥
+none_lost : (labels : List TargetOf) (ss : List StepOf) (f : Fault) → AllByRecursion (λ s. IsLost labels s → ⊥) ss → Lost labels ss f → ⊥
 none_lost labels ss f h l =
     let Q : List StepOf → Type 0 = λ xs. AllByRecursion (λ s. IsLost labels s → ⊥) xs in
     not_lost (λ s. IsLost labels s → ⊥) l.before l.at l.rest (subst Q l.split h) l.lost
@@ -174,7 +174,7 @@ module _ (text : List ℕ) (f : Fault) where
   read_first s (Ok c) m = absurd (m.0 s.before f.code f.line s.stands)
   read_first s (Err g) m = ap (λ (x : Fault). Err x) (one_first start lines g f m s)
 
-  after_bytes : length text ≤ 65536 → first_bad_line 1 text ≡ None → program_of text ≡ (read_from start lines >>= λ c. finished c)
+  after_bytes : length text ≤ 65536 → first_bad_line 1 text ≡ None → program_of text ≡ (read_from start lines >>= λ c. client_or_fault c)
   unfolding program_of
   after_bytes short good =
       ap (λ (b : Bool). cond b (Err (fault E01 0)) (bytes_or_lines (first_bad_line 1 text) text)) (not_long (length text) short) ∙ ap (λ (o : Option ℕ). bytes_or_lines o text) good
@@ -182,15 +182,15 @@ module _ (text : List ℕ) (f : Fault) where
       not_long : (n : ℕ) → n ≤ 65536 → nat_lt 65536 n ≡ false
       not_long n le = grind (arith, leb_tells 65537 n)
 
-  after_lines : length text ≤ 65536 → first_bad_line 1 text ≡ None → IsClean start lines → program_of text ≡ finished end_of
+  after_lines : length text ≤ 65536 → first_bad_line 1 text ≡ None → IsClean start lines → program_of text ≡ client_or_fault end_of
   after_lines short good clean =
-      after_bytes short good ∙ ap (λ (r : Result Content Fault). r >>= λ c. finished c) (read_clean clean (read_from start lines) (read_meets lines start))
+      after_bytes short good ∙ ap (λ (r : Result Content Fault). r >>= λ c. client_or_fault c) (read_clean clean (read_from start lines) (read_meets lines start))
 
   abbrev made : List (Instruction ℕ ℕ) → List (Instruction ℕ ℕ) → ClientOf
   made xs ys = record { capacity = end_of.capacity; mode = end_of.mode; arrays = end_of.arrays; push = xs; pop = ys; prologue = end_of.prologue; threads = end_of.threads }
 
-  finished_by : (b : Bool) → is_whole end_of ≡ b → finished end_of ≡ cond b (labelled_body end_of.push >>= λ xs. labelled_body end_of.pop >>= λ ys. Ok (made xs ys)) (Err (fault E08 0))
-  unfolding finished
+  finished_by : (b : Bool) → is_whole end_of ≡ b → client_or_fault end_of ≡ cond b (labelled_body end_of.push >>= λ xs. labelled_body end_of.pop >>= λ ys. Ok (made xs ys)) (Err (fault E08 0))
+  unfolding client_or_fault
   finished_by b e = ap (λ (x : Bool). cond x (labelled_body end_of.push >>= λ xs. labelled_body end_of.pop >>= λ ys. Ok (made xs ys)) (Err (fault E08 0))) e
 
   pop_lost : (r : Result (List (Instruction ℕ ℕ)) Fault) → Ends end_of.push.labels end_of.push.steps r → LosesNone end_of.push → LosesFirst end_of.pop f → (r >>= λ xs. labelled_body end_of.pop >>= λ ys. Ok (made xs ys)) ≡ Err f
@@ -210,7 +210,7 @@ module _ (text : List ℕ) (f : Fault) where
       not_long : (n : ℕ) → n ≤ 65536 → nat_lt 65536 n ≡ false
       not_long n le = grind (arith, leb_tells 65537 n)
   is_the_fault (in_line short good s) =
-      after_bytes short good ∙ ap (λ (r : Result Content Fault). r >>= λ c. finished c) (read_first s (read_from start lines) (read_meets lines start))
+      after_bytes short good ∙ ap (λ (r : Result Content Fault). r >>= λ c. client_or_fault c) (read_first s (read_from start lines) (read_meets lines start))
   is_the_fault (ends_early short good clean w is) = after_lines short good clean ∙ finished_by false w ∙ ap (λ (g : Fault). Err g) (sym is)
   is_the_fault (lost_in_push short good clean w lost) =
       after_lines short good clean ∙ finished_by true w ∙ ap (λ (r : Result (List (Instruction ℕ ℕ)) Fault). r >>= λ xs. labelled_body end_of.pop >>= λ ys. Ok (made xs ys)) (body_lost end_of.push f lost)

@@ -4,7 +4,7 @@ use Rattle.std.specs.List.{AllByRecursion}
 use Rattle.tso_prog.specs.declared.draft.Part.{Part}
 use Rattle.tso_prog.specs.declared.draft.Part.TheVariants as parts
 use Rattle.tso_line.specs.declared.line.Kind.{Kind}
-use Rattle.tso_line.specs.declared.line.Kind.TheVariants.{Capacity, Mode, Array, Push, Pop, End, Label, Instruction, Before, Thread}
+use Rattle.tso_line.specs.declared.line.Kind.TheVariants.{Capacity, Mode, Array, Push, Pop, End, Target, Instruction, Before, Thread}
 use Rattle.tso_prog.specs.Faults.{may_stand}
 use Rattle.tso_prog.specs.After.{after_end}
 use Rattle.tso_prog.specs.Parts.{IsBodyKind, IsPrologue, SixParts}
@@ -19,7 +19,7 @@ part_next p Array = p
 part_next p Push = parts.Push
 part_next p Pop = parts.Pop
 part_next p End = after_end p
-part_next p Label = p
+part_next p Target = p
 part_next p Instruction = p
 part_next p Before = parts.Threads
 part_next p Thread = parts.Threads
@@ -38,7 +38,7 @@ threads_walk (Push ∷ ks) w = absurd (let e = w.0 in cc)
 threads_walk (Pop ∷ ks) w = absurd (let e = w.0 in cc)
 threads_walk (Before ∷ ks) w = absurd (let e = w.0 in cc)
 threads_walk (End ∷ ks) w = absurd (let e = w.0 in cc)
-threads_walk (Label ∷ ks) w = absurd (let e = w.0 in cc)
+threads_walk (Target ∷ ks) w = absurd (let e = w.0 in cc)
 threads_walk (Instruction ∷ ks) w = absurd (let e = w.0 in cc)
 
 -- perhaps a prologue, and threads
@@ -59,7 +59,7 @@ prologue_walk (Array ∷ ks) w = absurd (let e = w.0 in cc)
 prologue_walk (Push ∷ ks) w = absurd (let e = w.0 in cc)
 prologue_walk (Pop ∷ ks) w = absurd (let e = w.0 in cc)
 prologue_walk (End ∷ ks) w = absurd (let e = w.0 in cc)
-prologue_walk (Label ∷ ks) w = absurd (let e = w.0 in cc)
+prologue_walk (Target ∷ ks) w = absurd (let e = w.0 in cc)
 prologue_walk (Instruction ∷ ks) w = absurd (let e = w.0 in cc)
 
 -- a procedure, its end, and what follows
@@ -76,7 +76,7 @@ longer P k ks b p = record { body = k ∷ p.body; rest = p.rest; split = ap (λ 
 pop_walk : (ks : List Kind) → Walks parts.Pop ks parts.Threads → Procedure Tail ks
 pop_walk [] w = absurd cc
 pop_walk (End ∷ ks) w = record { body = []; rest = ks; split = refl; body_is = tt; rest_is = prologue_walk ks w.1 }
-pop_walk (Label ∷ ks) w = longer _ Label ks tt (pop_walk ks w.1)
+pop_walk (Target ∷ ks) w = longer _ Target ks tt (pop_walk ks w.1)
 pop_walk (Instruction ∷ ks) w = longer _ Instruction ks tt (pop_walk ks w.1)
 pop_walk (Thread ∷ ks) w = absurd (let e = w.0 in cc)
 pop_walk (Capacity ∷ ks) w = absurd (let e = w.0 in cc)
@@ -94,7 +94,7 @@ between_walk : (ks : List Kind) → Walks parts.Between ks parts.Threads → Sec
 between_walk [] w = absurd cc
 between_walk (Pop ∷ ks) w = (ks, refl, pop_walk ks w.1)
 between_walk (End ∷ ks) w = absurd (let e = w.0 in cc)
-between_walk (Label ∷ ks) w = absurd (let e = w.0 in cc)
+between_walk (Target ∷ ks) w = absurd (let e = w.0 in cc)
 between_walk (Instruction ∷ ks) w = absurd (let e = w.0 in cc)
 between_walk (Thread ∷ ks) w = absurd (let e = w.0 in cc)
 between_walk (Capacity ∷ ks) w = absurd (let e = w.0 in cc)
@@ -106,7 +106,7 @@ between_walk (Before ∷ ks) w = absurd (let e = w.0 in cc)
 push_walk : (ks : List Kind) → Walks parts.Push ks parts.Threads → Procedure Second ks
 push_walk [] w = absurd cc
 push_walk (End ∷ ks) w = record { body = []; rest = ks; split = refl; body_is = tt; rest_is = between_walk ks w.1 }
-push_walk (Label ∷ ks) w = longer _ Label ks tt (push_walk ks w.1)
+push_walk (Target ∷ ks) w = longer _ Target ks tt (push_walk ks w.1)
 push_walk (Instruction ∷ ks) w = longer _ Instruction ks tt (push_walk ks w.1)
 push_walk (Thread ∷ ks) w = absurd (let e = w.0 in cc)
 push_walk (Capacity ∷ ks) w = absurd (let e = w.0 in cc)
@@ -128,7 +128,7 @@ arrays_walk [] w = absurd cc
 arrays_walk (Array ∷ ks) w = let a = arrays_walk ks w.1 in record { arrays = Array ∷ a.arrays; rest = a.rest; split = ap (λ (x : List Kind). Array ∷ x) a.split; arrays_are = (refl, a.arrays_are); rest_is = a.rest_is }
 arrays_walk (Push ∷ ks) w = record { arrays = []; rest = ks; split = refl; arrays_are = tt; rest_is = push_walk ks w.1 }
 arrays_walk (End ∷ ks) w = absurd (let e = w.0 in cc)
-arrays_walk (Label ∷ ks) w = absurd (let e = w.0 in cc)
+arrays_walk (Target ∷ ks) w = absurd (let e = w.0 in cc)
 arrays_walk (Instruction ∷ ks) w = absurd (let e = w.0 in cc)
 arrays_walk (Thread ∷ ks) w = absurd (let e = w.0 in cc)
 arrays_walk (Capacity ∷ ks) w = absurd (let e = w.0 in cc)
@@ -143,7 +143,7 @@ second_only Array p e = absurd cc
 second_only Push p e = absurd cc
 second_only Pop p e = absurd cc
 second_only End p e = absurd cc
-second_only Label p e = absurd cc
+second_only Target p e = absurd cc
 second_only Instruction p e = absurd cc
 second_only Before p e = absurd cc
 second_only Thread p e = absurd cc
@@ -155,7 +155,7 @@ first_only Array e = absurd cc
 first_only Push e = absurd cc
 first_only Pop e = absurd cc
 first_only End e = absurd cc
-first_only Label e = absurd cc
+first_only Target e = absurd cc
 first_only Instruction e = absurd cc
 first_only Before e = absurd cc
 first_only Thread e = absurd cc

@@ -3,23 +3,23 @@ use Rattle.std.specs.Prelude.{map}
 use Rattle.tso_line.specs.Instructions.{renamed}
 use Rattle.tso_prog.specs.declared.client.Array.{Array}
 use Rattle.tso_prog.specs.declared.draft.Declared.{Declared}
-use Rattle.tso_prog.specs.declared.draft.Label.{Label}
-use Rattle.tso_prog.specs.declared.draft.Unplaced.{Unplaced}
+use Rattle.tso_prog.specs.declared.draft.Target.{Target}
+use Rattle.tso_prog.specs.declared.draft.Unresolved.{Unresolved}
 use Rattle.tso_prog.specs.declared.draft.Body.{Body}
 use Rattle.tso_prog.specs.declared.draft.Draft.{Draft}
-use Rattle.tso_prog.specs.Contents.{LabelOf, StepOf, BodyOf, Content}
+use Rattle.tso_prog.specs.Contents.{TargetOf, StepOf, BodyOf, Content}
 
 abbrev pub array_view : Declared → Array
 array_view d = record { name = d.name.now; words = d.words }
 
-abbrev pub label_view : Label → LabelOf
-label_view l = record { name = l.name.now; at = l.at }
+abbrev pub target_view : Target → TargetOf
+target_view l = record { name = l.name.now; at = l.at }
 
-abbrev pub step_view : Unplaced → StepOf
+abbrev pub step_view : Unresolved → StepOf
 step_view s = record { instruction = renamed (λ a. a) (λ l. l.now) s.instruction; line = s.line }
 
 abbrev pub body_view : Body → BodyOf
-body_view b = record { labels = map label_view b.labels.items; steps = map step_view b.steps.items }
+body_view b = record { labels = map target_view b.labels.items; steps = map step_view b.steps.items }
 
 -- what a draft has so far
 abbrev pub content : Draft → Content

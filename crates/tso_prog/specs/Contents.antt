@@ -9,7 +9,7 @@ use Rattle.tso_prog.specs.declared.draft.Part.{Part}
 use Rattle.tso_prog.specs.declared.draft.Part.TheVariants as parts
 
 -- a label stands before the instruction of this number
-pub record LabelOf : Type 0 where
+pub record TargetOf : Type 0 where
   pub name : Name
   pub at : ℕ
 
@@ -20,7 +20,7 @@ pub record StepOf : Type 0 where
 
 -- a procedure so far
 pub record BodyOf : Type 0 where
-  pub labels : List LabelOf
+  pub labels : List TargetOf
   pub steps : List StepOf
 
 -- words counts those of all arrays, calls those of the prologue and all threads

@@ -15,7 +15,7 @@ use Rattle.tso_line.specs.Instructions.{address_of, label_of}
 use Rattle.tso_line.specs.Lines.{Name, Line, array, label, instruction, before, thread, kind_of, slip_of, lacks_lock}
 use Rattle.tso_prog.specs.Contents.{Content, opened}
 
--- ---- E03: out of its place
+-- ---- E03: out of its part
 
 -- the parts in order, and the lines of each
 abbrev pub may_stand : Part → Kind → Bool
@@ -23,11 +23,11 @@ may_stand parts.Capacity kinds.Capacity = true
 may_stand parts.Mode kinds.Mode = true
 may_stand parts.Arrays kinds.Array = true
 may_stand parts.Arrays kinds.Push = true
-may_stand parts.Push kinds.Label = true
+may_stand parts.Push kinds.Target = true
 may_stand parts.Push kinds.Instruction = true
 may_stand parts.Push kinds.End = true
 may_stand parts.Between kinds.Pop = true
-may_stand parts.Pop kinds.Label = true
+may_stand parts.Pop kinds.Target = true
 may_stand parts.Pop kinds.Instruction = true
 may_stand parts.Pop kinds.End = true
 may_stand parts.Prologue kinds.Before = true
@@ -36,14 +36,14 @@ may_stand parts.Threads kinds.Thread = true
 may_stand _ _ = false
 
 -- a procedure ends only after an instruction
-abbrev pub place_for : Content → Option Kind → Bool
-place_for c None = false
-place_for c (Some kinds.End) = may_stand c.part kinds.End && nat_lt 0 (length (opened c).steps)
-place_for c (Some kind) = may_stand c.part kind
+abbrev pub admits : Content → Option Kind → Bool
+admits c None = false
+admits c (Some kinds.End) = may_stand c.part kinds.End && nat_lt 0 (length (opened c).steps)
+admits c (Some kind) = may_stand c.part kind
 
 -- whether the line may stand here
-abbrev pub has_place : Content → Line → Bool
-has_place c line = place_for c (kind_of line)
+abbrev pub is_in_part : Content → Line → Bool
+is_in_part c line = admits c (kind_of line)
 
 -- ---- E06: a name given twice
 
@@ -100,7 +100,7 @@ is_slip _ _ = false
 
 -- whether a line that stands here has this fault
 abbrev pub has : Content → Line → Code → Bool
-has c line E03 = not (has_place c line) || is_slip slips.Count (slip_of line)
+has c line E03 = not (is_in_part c line) || is_slip slips.Count (slip_of line)
 has c line E04 = is_slip slips.Word (slip_of line)
 has c line E05 = is_slip slips.Number (slip_of line)
 has c line E06 = repeats c line

@@ -9,30 +9,30 @@ use Rattle.tso_prog.specs.declared.draft.Part.{Part}
 use Rattle.tso_prog.specs.declared.draft.Part.TheVariants as parts
 use Rattle.tso_prog.specs.declared.fault.Code.TheVariants.{E07, E08}
 use Rattle.tso_prog.specs.declared.fault.Fault.{Fault}
-use Rattle.tso_prog.specs.Contents.{LabelOf, StepOf, BodyOf, Content}
+use Rattle.tso_prog.specs.Contents.{TargetOf, StepOf, BodyOf, Content}
 use Rattle.tso_prog.specs.Clients.{ClientOf}
 use Rattle.tso_prog.specs.Program.{◌>>=◌, fault}
 
--- the place of the label of this name
-abbrev pub label_place : List LabelOf → Name → Option ℕ
-label_place labels name = option_map (λ l. l.at) (find (λ l. bytes_eq l.name name) labels)
+-- the position before which the label of this name stands
+abbrev pub target_position : List TargetOf → Name → Option ℕ
+target_position labels name = option_map (λ l. l.at) (find (λ l. bytes_eq l.name name) labels)
 
--- an instruction that jumps to this place
+-- an instruction that jumps to this position
 abbrev pub jump_to : StepOf → Option ℕ → Result (Instruction ℕ ℕ) Fault
 jump_to s None = Err (fault E07 s.line)
-jump_to s (Some place) = Ok (renamed (λ a. a) (λ _. place) s.instruction)
+jump_to s (Some position) = Ok (renamed (λ a. a) (λ _. position) s.instruction)
 
--- an instruction that names no label is the same at any place
-abbrev pub placed : List LabelOf → StepOf → Option Name → Result (Instruction ℕ ℕ) Fault
-placed labels s None = Ok (renamed (λ a. a) (λ _. 0) s.instruction)
-placed labels s (Some name) = jump_to s (label_place labels name)
+-- an instruction that names no label is the same at any position
+abbrev pub with_target : List TargetOf → StepOf → Option Name → Result (Instruction ℕ ℕ) Fault
+with_target labels s None = Ok (renamed (λ a. a) (λ _. 0) s.instruction)
+with_target labels s (Some name) = jump_to s (target_position labels name)
 
 -- the instruction with its label as a position
-abbrev pub labelled_step : List LabelOf → StepOf → Result (Instruction ℕ ℕ) Fault
-labelled_step labels s = placed labels s (label_of s.instruction)
+abbrev pub labelled_step : List TargetOf → StepOf → Result (Instruction ℕ ℕ) Fault
+labelled_step labels s = with_target labels s (label_of s.instruction)
 
 -- the instructions, or the first label that is not there
-unfoldable pub labelled : List LabelOf → List StepOf → Result (List (Instruction ℕ ℕ)) Fault
+unfoldable pub labelled : List TargetOf → List StepOf → Result (List (Instruction ℕ ℕ)) Fault
 labelled labels [] = Ok []
 labelled labels (s ∷ ss) = do
   t ← labelled_step labels s
@@ -53,8 +53,8 @@ is_threads parts.Threads = true
 is_threads _ = false
 
 -- the text is not over before its six parts are there; then each label is there, the earliest line first
-unfoldable pub finished : Content → Result ClientOf Fault
-finished c =
+unfoldable pub client_or_fault : Content → Result ClientOf Fault
+client_or_fault c =
     if is_threads c.part && nat_lt 0 (length c.threads) then
     (labelled_body c.push >>= λ push. labelled_body c.pop >>= λ pop. Ok (record {
       capacity = c.capacity;

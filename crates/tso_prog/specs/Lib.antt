@@ -1,3 +1,4 @@
+pub mod Codes
 pub mod After
 pub mod Client
 pub mod Clients

@@ -1,6 +1,7 @@
 -- What keeps a program within its limits while its lines are read.
-use Rattle.std.specs.Prelude.{◌≡◌, ℕ, ◌+◌, ◌≤◌, Bool, true, false, ◌&&◌, ◌||◌, ◌==◌, nat_le, length, map, sum_by, IsTrue}
+use Rattle.std.specs.Prelude.{◌≡◌, ℕ, ◌+◌, ◌≤◌, Bool, true, false, ◌&&◌, ◌||◌, ◌==◌, nat_le, List, length, map, sum_by, IsTrue}
 use Rattle.std.specs.List.{list_all}
+use Rattle.tso_line.specs.declared.instruction.CallKind.{CallKind}
 use Rattle.tso_line.specs.Proper.{is_in_range}
 use Rattle.tso_prog.specs.declared.draft.Part.{Part}
 use Rattle.tso_prog.specs.declared.draft.Part.TheVariants as parts
@@ -14,18 +15,30 @@ pub record IsProcedure (b : BodyOf) : Type 0 where
   pub small_bounds : IsTrue (list_all (λ s. has_small_bound s.instruction) b.steps)
   pub labels_within : IsTrue (list_all (λ l. nat_le l.at (length b.steps)) b.labels)
 
+-- at most 16 arrays, with 256 words in all, which are counted
+pub record AreArrays (arrays : List Array) (words : ℕ) : Type 0 where
+  pub few_arrays : length arrays ≤ 16
+  pub words_are : words ≡ sum_by (λ a. length a.words) arrays
+  pub few_words : words ≤ 256
+
+-- at most 256 instructions in both
+pub record AreProcedures (one other : BodyOf) : Type 0 where
+  pub few_instructions : length one.steps + length other.steps ≤ 256
+  pub push : IsProcedure one
+  pub pop : IsProcedure other
+
+-- at most 4 threads, and 12 calls with those of the prologue, which are counted
+pub record AreCalls (prologue : List CallKind) (threads : List (List CallKind)) (calls : ℕ) : Type 0 where
+  pub few_threads : length threads ≤ 4
+  pub calls_are : calls ≡ length prologue + sum_by (λ calls. length calls) threads
+  pub few_calls : calls ≤ 12
+
 -- the counts are what they count, and no limit is passed
 pub record IsLimited (c : Content) : Type 0 where
-  pub few_arrays : length c.arrays ≤ 16
-  pub words_are : c.words ≡ sum_by (λ a. length a.words) c.arrays
-  pub few_words : c.words ≤ 256
-  pub few_instructions : length c.push.steps + length c.pop.steps ≤ 256
-  pub push : IsProcedure c.push
-  pub pop : IsProcedure c.pop
+  pub arrays : AreArrays c.arrays c.words
+  pub procedures : AreProcedures c.push c.pop
+  pub calls : AreCalls c.prologue c.threads c.calls
   pub prologue_is_late : IsTrue (is_threads c.part || length c.prologue == 0)
-  pub few_threads : length c.threads ≤ 4
-  pub calls_are : c.calls ≡ length c.prologue + sum_by (λ calls. length calls) c.threads
-  pub few_calls : c.calls ≤ 12
 
 abbrev pub is_first : Part → Bool
 is_first parts.Capacity = true

@@ -8,20 +8,20 @@ use Rattle.tso_line.specs.declared.instruction.CallKind.{CallKind}
 use Rattle.tso_line.specs.declared.instruction.Instruction.{Instruction}
 use Rattle.tso_line.specs.declared.instruction.Mode.{Mode as QueueMode}
 use Rattle.tso_line.specs.declared.line.Kind.{Kind}
-use Rattle.tso_line.specs.declared.line.Kind.TheVariants.{Capacity, Mode, Array, Push, Pop, End, Label, Instruction as Step, Before, Thread}
+use Rattle.tso_line.specs.declared.line.Kind.TheVariants.{Capacity, Mode, Array, Push, Pop, End, Target, Instruction as Step, Before, Thread}
 use Rattle.tso_line.specs.Instructions.{address_of, label_of, renamed}
 use Rattle.tso_line.specs.Lines.{Name, Line, capacity, mode, array, end, label, instruction, before, thread, kind_of}
 use Rattle.tso_prog.specs.declared.client.Array.{Array as Words}
-use Rattle.tso_prog.specs.Contents.{LabelOf}
+use Rattle.tso_prog.specs.Contents.{TargetOf}
 use Rattle.tso_prog.specs.Clients.{ClientOf}
-use Rattle.tso_prog.specs.Finish.{label_place}
+use Rattle.tso_prog.specs.Finish.{target_position}
 use Rattle.tso_prog.specs.Program.{Numbered}
 
 -- ---- the order of the lines
 
 -- a line of a procedure
 abbrev pub IsBodyKind : Kind → Type 0
-IsBodyKind Label = Unit {0}
+IsBodyKind Target = Unit {0}
 IsBodyKind Step = Unit {0}
 IsBodyKind _ = ⊥
 
@@ -92,13 +92,13 @@ behind_end [] = []
 behind_end (l ∷ ls) = if is_end l.line then ls else behind_end ls
 
 -- a label line and the labels of the lines behind it, where so many instructions stand before it
-abbrev pub with_label_in : Line → ℕ → (ℕ → List LabelOf) → List LabelOf
+abbrev pub with_label_in : Line → ℕ → (ℕ → List TargetOf) → List TargetOf
 with_label_in (label name) n rest = (record { name = name; at = n }) ∷ rest n
 with_label_in (instruction i lacks) n rest = rest (n + 1)
 with_label_in _ n rest = rest n
 
 -- the labels of these lines, each with the count of instructions before it
-unfoldable pub labels_from : List Numbered → ℕ → List LabelOf
+unfoldable pub labels_from : List Numbered → ℕ → List TargetOf
 labels_from [] n = []
 labels_from (l ∷ ls) n = with_label_in l.line n (λ k. labels_from ls k)
 
@@ -107,18 +107,18 @@ abbrev pub number_of : (Name → Option ℕ) → Option Name → Option ℕ
 number_of find None = Some 0
 number_of find (Some name) = find name
 
-abbrev pub array_place : List Words → Name → Option ℕ
-array_place arrays name = position (λ a. bytes_eq a.name name) arrays
+abbrev pub array_position : List Words → Name → Option ℕ
+array_position arrays name = position (λ a. bytes_eq a.name name) arrays
 
 abbrev pub array_named : Option (Address Name) → Option Name
 array_named None = None
 array_named (Some cell) = Some cell.array
 
--- the instruction with the number of its array and the place of its label, if both are there
-abbrev pub denoted : List Words → List LabelOf → Instruction Name Name → Option (Instruction ℕ ℕ)
+-- the instruction with the number of its array and the position of its label, if both are there
+abbrev pub denoted : List Words → List TargetOf → Instruction Name Name → Option (Instruction ℕ ℕ)
 denoted arrays labels i =
-    option_and_then (λ array. option_map (λ place. renamed (λ _. array) (λ _. place) i) (number_of (label_place labels) (label_of i)))
-    (number_of (array_place arrays) (array_named (address_of i)))
+    option_and_then (λ array. option_map (λ at. renamed (λ _. array) (λ _. at) i) (number_of (target_position labels) (label_of i)))
+    (number_of (array_position arrays) (array_named (address_of i)))
 
 -- the instructions are those of these lines, with the arrays and with the labels of these lines
 abbrev pub AreOf : List Words → List Numbered → List (Instruction ℕ ℕ) → Type 0

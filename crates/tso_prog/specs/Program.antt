@@ -4,7 +4,6 @@ use Rattle.std.specs.List.{flat_map}
 use Rattle.tso_text.specs.declared.token.Token.{Token}
 use Rattle.tso_text.specs.Lexing.{is_newline}
 use Rattle.tso_prog.specs.declared.fault.Code.{Code}
-use Rattle.tso_prog.specs.declared.fault.Code.TheVariants as codes
 use Rattle.tso_prog.specs.declared.fault.Fault.{Fault}
 use Rattle.tso_prog.specs.declared.fault.ReadError.{ReadError}
 use Rattle.tso_prog.specs.declared.fault.ReadError.TheVariants.{Refused, Memory}
@@ -12,6 +11,7 @@ use Rattle.tso_line.specs.Lexemes.{split_by}
 use Rattle.tso_line.specs.Words.{lexeme_of}
 use Rattle.tso_line.specs.Lines.{Line}
 use Rattle.tso_line.specs.Reading.{line_of}
+use Rattle.tso_prog.specs.Codes.{code_number}
 use Rattle.tso_prog.specs.Contents.{Content}
 use Rattle.tso_prog.specs.Faults.{has, fault_at}
 use Rattle.tso_prog.specs.After.{after}
@@ -69,23 +69,6 @@ unfoldable pub content_of : List Numbered → Content → Content
 content_of [] c = c
 content_of (l ∷ ls) c = content_of ls (after c l.number l.line)
 
--- the order of the codes
-abbrev pub rank : Code → ℕ
-rank codes.E01 = 1
-rank codes.E02 = 2
-rank codes.E03 = 3
-rank codes.E04 = 4
-rank codes.E05 = 5
-rank codes.E06 = 6
-rank codes.E07 = 7
-rank codes.E08 = 8
-rank codes.E09 = 9
-rank codes.E10 = 10
-rank codes.E11 = 11
-rank codes.E12 = 12
-rank codes.E13 = 13
-rank codes.E14 = 14
-
 -- These lines, which stand after the content c, are those before, a line that has the fault there, and others.
 pub record Stands (c : Content) (lines before : List Numbered) (code : Code) (number : ℕ) : Type 0 where
   pub at : Numbered
@@ -103,7 +86,7 @@ pub record IsFirstFault (c : Content) (lines : List Numbered) (f : Fault) : Type
   pub before : List Numbered
   pub stands : Stands c lines before f.code f.line
   pub earliest : IsClean c before
-  pub lowest : (code : Code) (number : ℕ) → Stands c lines before code number → rank f.code ≤ rank code
+  pub lowest : (code : Code) (number : ℕ) → Stands c lines before code number → code_number f.code ≤ code_number code
 
 -- what a call that reads lines returned: their content where none has a fault, else the first fault
 abbrev pub ReadsLines : {X : Type 0} → (X → Content) → Result X ReadError → Content → List Numbered → Type 0

@@ -8,21 +8,21 @@ use Rattle.tso_prog.specs.declared.fault.Code.TheVariants.{E01, E02, E07, E08}
 use Rattle.tso_prog.specs.declared.fault.Fault.{Fault}
 use Rattle.tso_prog.specs.declared.fault.ReadError.{ReadError}
 use Rattle.tso_prog.specs.declared.fault.ReadError.TheVariants.{Refused, Memory}
-use Rattle.tso_prog.specs.Contents.{LabelOf, StepOf, BodyOf, Content}
+use Rattle.tso_prog.specs.Contents.{TargetOf, StepOf, BodyOf, Content}
 use Rattle.tso_prog.specs.Start.{start}
 use Rattle.tso_prog.specs.Program.{fault, lines_of, content_of, IsClean, IsFirstFault}
-use Rattle.tso_prog.specs.Finish.{label_place, is_threads}
+use Rattle.tso_prog.specs.Finish.{target_position, is_threads}
 
 -- whether all six parts are there
 abbrev pub is_whole : Content → Bool
 is_whole c = is_threads c.part && nat_lt 0 (length c.threads)
 
 -- the instruction jumps to no label of its procedure
-abbrev pub Loses : List LabelOf → Option Name → Type 0
+abbrev pub Loses : List TargetOf → Option Name → Type 0
 Loses labels None = ⊥
-Loses labels (Some name) = label_place labels name ≡ None
+Loses labels (Some name) = target_position labels name ≡ None
 
-abbrev pub IsLost : List LabelOf → StepOf → Type 0
+abbrev pub IsLost : List TargetOf → StepOf → Type 0
 IsLost labels s = Loses labels (label_of s.instruction)
 
 -- the first instruction of a procedure that jumps to a label that is not there

@@ -7,7 +7,7 @@ ghost use Rattle.std.specs.List.{list_any};
 ghost use Rattle.std.specs.Str.{bytes_eq};
 ghost use Rattle.tso_line.specs.Lines.{view};
 ghost use Rattle.tso_prog.specs.Contents.{opened};
-ghost use Rattle.tso_prog.specs.Faults.{may_stand, fault_at, has_place, repeats, lacks_array, passes_calls, passes_limit, array_number};
+ghost use Rattle.tso_prog.specs.Faults.{may_stand, fault_at, is_in_part, repeats, lacks_array, passes_calls, passes_limit, array_number};
 
 use crate::fault::Code;
 use std::alloc::{AllocError, Global};
@@ -37,14 +37,14 @@ pub struct Declared<'a> {
 
 /// A label, before the instruction of this number.
 #[derive(Clone, Copy, Debug)]
-pub struct Label<'a> {
+pub struct Target<'a> {
     pub name: &'a [u8],
     pub at: usize,
 }
 
 /// An instruction whose label is a name, and its line.
 #[derive(Clone, Copy, Debug)]
-pub struct Unplaced<'a> {
+pub struct Unresolved<'a> {
     pub instruction: Instruction<usize, &'a [u8]>,
     pub line: u32,
 }
@@ -52,8 +52,8 @@ pub struct Unplaced<'a> {
 /// A procedure so far.
 #[derive(Debug, Drop)]
 pub struct Body<'a> {
-    pub labels: Vec<Label<'a>>,
-    pub steps: Vec<Unplaced<'a>>,
+    pub labels: Vec<Target<'a>>,
+    pub steps: Vec<Unresolved<'a>>,
 }
 
 #[derive(Debug, Drop)]
@@ -94,7 +94,7 @@ fn may_stand(part: Part, kind: Kind) -> bool
         Part::Capacity => matches!(kind, Kind::Capacity),
         Part::Mode => matches!(kind, Kind::Mode),
         Part::Arrays => matches!(kind, Kind::Array | Kind::Push),
-        Part::Push | Part::Pop => matches!(kind, Kind::Label | Kind::Instruction | Kind::End),
+        Part::Push | Part::Pop => matches!(kind, Kind::Target | Kind::Instruction | Kind::End),
         Part::Between => matches!(kind, Kind::Pop),
         Part::Prologue => matches!(kind, Kind::Before | Kind::Thread),
         Part::Threads => matches!(kind, Kind::Thread),
@@ -109,11 +109,11 @@ impl<'a> Body<'a> {
         ensures { OnOk result (body_view self.new ≡ with_label (body_view self.old) name.now) }
     {
         let at = self.steps.len();
-        self.labels.push(Label { name, at })?;
+        self.labels.push(Target { name, at })?;
         Ok(())
     }
 
-    fn add_step(&mut self, step: Unplaced<'a>) -> Result<(), AllocError>
+    fn add_step(&mut self, step: Unresolved<'a>) -> Result<(), AllocError>
         ensures { OnOk result (body_view self.new ≡ with_step (body_view self.old) (step_view step.entry)) }
     {
         self.steps.push(step)?;
@@ -128,7 +128,7 @@ fn find_array(arrays: &[Declared], name: &[u8]) -> Option<usize>
     arrays.iter().position(|array| array.name == name)
 }
 
-fn has_label(labels: &[Label], name: &[u8]) -> bool
+fn has_label(labels: &[Target], name: &[u8]) -> bool
     ensures { result ≡ list_any (λ l. bytes_eq l.name.now name.now) labels.now }
 {
     labels.iter().any(|label| label.name == name)
@@ -172,8 +172,8 @@ impl<'a> Draft<'a> {
     }
 
     // Whether the line may stand here.
-    fn has_place(&self, line: &Line) -> bool
-        ensures { result ≡ has_place (content self.now) (view line.now) }
+    fn is_in_part(&self, line: &Line) -> bool
+        ensures { result ≡ is_in_part (content self.now) (view line.now) }
     {
         match line.kind() {
             None => false,
@@ -197,7 +197,7 @@ impl<'a> Draft<'a> {
     {
         match line {
             Line::Array { name, .. } => self.array_number(name).is_some(),
-            Line::Label(name) => has_label(&self.open().labels, name),
+            Line::Target(name) => has_label(&self.open().labels, name),
             _ => false,
         }
     }
@@ -234,7 +234,7 @@ impl<'a> Draft<'a> {
                     || words.len() > MAX_WORDS - self.word_count
                     || name.len() > MAX_NAME
             }
-            Line::Label(name) => name.len() > MAX_NAME,
+            Line::Target(name) => name.len() > MAX_NAME,
             Line::Instruction { instruction, .. } => {
                 self.push.steps.len() + self.pop.steps.len() >= MAX_INSTRUCTIONS
                     || instruction
@@ -254,7 +254,7 @@ impl<'a> Draft<'a> {
     pub fn fault(&self, line: &Line) -> Option<Code>
         ensures { result ≡ fault_at (content self.now) (view line.now) }
     {
-        if !self.has_place(line) {
+        if !self.is_in_part(line) {
             return Some(Code::E03);
         }
         match line.slip() {
@@ -317,14 +317,14 @@ impl<'a> Draft<'a> {
                     _ => Part::Between,
                 };
             }
-            Line::Label(name) => {
+            Line::Target(name) => {
                 match self.part {
                     Part::Pop => self.pop.add_label(name)?,
                     _ => self.push.add_label(name)?,
                 }
             }
             Line::Instruction { instruction, .. } => {
-                let step = Unplaced {
+                let step = Unresolved {
                     instruction: self.resolved(instruction),
                     line: number,
                 };

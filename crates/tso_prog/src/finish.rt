@@ -4,21 +4,21 @@ ghost use Rattle.std.specs.Prelude.{◌≡◌, ℕ, ◌≤◌, ◌++◌, ◌∷�
 ghost use Rattle.std.specs.List.{list_all};
 ghost use Rattle.std.specs.Option.{option_map};
 ghost use Rattle.std.specs.Str.{bytes_eq};
-ghost use Rattle.tso_prog.specs.Content.{content, array_view, label_view, body_view, step_view};
+ghost use Rattle.tso_prog.specs.Content.{content, array_view, target_view, body_view, step_view};
 ghost use Rattle.tso_prog.specs.Client.{client};
 ghost use Rattle.tso_prog.specs.Program.{Gives};
-ghost use Rattle.tso_prog.specs.Finish.{labelled_step, labelled, labelled_body, line_numbers, finished, label_place};
+ghost use Rattle.tso_prog.specs.Finish.{labelled_step, labelled, labelled_body, line_numbers, client_or_fault, target_position};
 ghost use Rattle.tso_prog.specs.Limited.{IsProcedure, IsLimited, IsPrintable, is_step};
 ghost use Rattle.tso_prog.specs.Limits.{are_arrays_below};
 
 use crate::client::{Array, Client, Procedure, Step};
-use crate::draft::{Body, Declared, Draft, Label, Part, Unplaced};
+use crate::draft::{Body, Declared, Draft, Part, Target, Unresolved};
 use crate::fault::{Code, Fault, ReadError};
 use std::alloc::{AllocError, Global};
 use tso_list::Seq;
 
 // The instruction before which the label of this name stands.
-fn place_of(labels: &[Label], name: &[u8]) -> Option<usize>
+fn position_of(labels: &[Target], name: &[u8]) -> Option<usize>
     ensures { result ≡ option_map (λ l. l.at) (find (λ l. bytes_eq l.name.now name.now) labels.now) }
 {
     labels
@@ -27,20 +27,20 @@ fn place_of(labels: &[Label], name: &[u8]) -> Option<usize>
         .map(|label| label.at)
 }
 
-#[tactic(auto, using(crate::proofs::Labels::label_place_is))]
-fn label_place(labels: &[Label], name: &[u8]) -> Option<usize>
-    ensures { result ≡ label_place (map label_view labels.now) name.now }
+#[tactic(auto, using(crate::proofs::Labels::target_position_is))]
+fn target_position(labels: &[Target], name: &[u8]) -> Option<usize>
+    ensures { result ≡ target_position (map target_view labels.now) name.now }
 {
-    place_of(labels, name)
+    position_of(labels, name)
 }
 
 // The instruction with its label as a position.
-fn with_place(labels: &[Label], step: &Unplaced) -> Result<Step, ReadError>
-    ensures { Gives (λ s. s) result (labelled_step (map label_view labels.now) (step_view step.now)) }
+fn with_position(labels: &[Target], step: &Unresolved) -> Result<Step, ReadError>
+    ensures { Gives (λ s. s) result (labelled_step (map target_view labels.now) (step_view step.now)) }
 {
     let target = match step.instruction.label() {
-        Some(name) => match label_place(labels, name) {
-            Some(place) => place,
+        Some(name) => match target_position(labels, name) {
+            Some(position) => position,
             None => {
                 return Err(ReadError::Refused(Fault {
                     code: Code::E07,
@@ -58,18 +58,18 @@ fn with_place(labels: &[Label], step: &Unplaced) -> Result<Step, ReadError>
 }
 
 // The instructions of a procedure with their labels as positions.
-fn with_places(alloc: Global, body: &Body) -> Result<Vec<Step>, ReadError>
-    ensures { Gives (λ v. v.items) result (labelled (map label_view body.now.labels.items) (map step_view body.now.steps.items)) }
+fn with_positions(alloc: Global, body: &Body) -> Result<Vec<Step>, ReadError>
+    ensures { Gives (λ v. v.items) result (labelled (map target_view body.now.labels.items) (map step_view body.now.steps.items)) }
 {
     let mut steps = Vec::new(alloc);
     for step in &body.steps {
-        steps.push(with_place(&body.labels, step)?)?;
+        steps.push(with_position(&body.labels, step)?)?;
     }
     Ok(steps)
 }
 
 // The lines of a procedure's instructions.
-fn numbers_of(alloc: Global, steps: &[Unplaced]) -> Result<Vec<u32>, AllocError>
+fn numbers_of(alloc: Global, steps: &[Unresolved]) -> Result<Vec<u32>, AllocError>
     ensures { IfOk result (λ v. v.items ≡ map (λ s. s.line) steps.now) }
 {
     steps.iter().map(|step| step.line).collect(alloc)
@@ -80,11 +80,11 @@ fn procedure_of(alloc: Global, body: &Body) -> Result<Procedure, ReadError>
     requires limited { IsProcedure (body_view body.now) }
     requires nonempty { 1 ≤ length (body_view body.now).steps }
     requires steps { (count : ℕ) × IsTrue (list_all (is_step count) (body_view body.now).steps) }
-    ensures arrays { (count : ℕ) → IsTrue (list_all (is_step count) (body_view body.now).steps) → IfOk result (λ p. IsTrue (are_arrays_below count p.instructions)) }
+    ensures arrays { (n : ℕ) → IsTrue (list_all (is_step n) (body_view body.now).steps) → IfOk result (λ p. IsTrue (are_arrays_below n p.instructions)) }
     ensures instructions { Gives (λ p. p.instructions) result (labelled_body (body_view body.now)) }
     ensures lines { IfOk result (λ p. p.lines ≡ line_numbers (body_view body.now)) }
 {
-    let steps = with_places(alloc, body)?;
+    let steps = with_positions(alloc, body)?;
     let numbers = numbers_of(alloc, &body.steps)?;
     Ok(Procedure {
         instructions: Seq::from_vec(steps),
@@ -108,11 +108,11 @@ fn arrays_of(alloc: Global, declared: &[Declared]) -> Result<Vec<Array>, AllocEr
 
 impl Draft<'_> {
     /// The client of a whole text.
-    #[tactic(auto, unfolding(crate::specs::Finish::finished))]
+    #[tactic(auto, unfolding(crate::specs::Finish::client_or_fault))]
     pub fn finish(self, alloc: Global) -> Result<Client, ReadError>
         requires limited { IsLimited (content self) }
         requires printable { IsPrintable (content self) }
-        ensures exact { Gives client result (finished (content self.entry)) }
+        ensures exact { Gives client result (client_or_fault (content self.entry)) }
         ensures lines { IfOk result (λ c. (c.push.lines ≡ line_numbers (content self.entry).push) × (c.pop.lines ≡ line_numbers (content self.entry).pop)) }
     {
         if !matches!(self.part, Part::Threads) || self.threads.as_slice().is_empty() {

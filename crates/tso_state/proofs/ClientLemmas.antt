@@ -1,21 +1,15 @@
 -- The calls of a client's threads, the prologue's last.
-use Rattle.std.proofs.Common.{◌≡◌, ℕ, zero, suc, List, [], ◌∷◌, ◌++◌, ◌∙◌, length, map, slice_index_or, refl, ap}
+use Rattle.std.proofs.Common.{◌≡◌, ℕ, zero, suc, List, [], ◌∷◌, ◌++◌, length, map, slice_index_or, refl}
 use Rattle.std.proofs.lemmas.List.{length-map}
 use Rattle.tso_flow.specs.Calls.{as_thread}
 use Rattle.tso_line.specs.declared.instruction.CallKind.{CallKind}
-use Rattle.tso_machine.specs.Programs.{calls_in, calls_of, prologue_thread}
+use Rattle.tso_machine.specs.Programs.{calls_in, calls_of}
 use Rattle.tso_prog.specs.Views.{call_view}
 use Rattle.tso_prog.specs.declared.client.Client.{Client}
 use Rattle.tso_state.specs.WellFormed.{client_calls, thread_total}
 
-pub one_thread : (prologue : List CallKind) → prologue_thread prologue ≡ as_thread prologue
-one_thread [] = refl
-one_thread (k ∷ ks) = refl
-
 pub calls_of-width : (c : Client) → length (calls_of c) ≡ thread_total c
-calls_of-width c =
-    length-map (c.threads ++ prologue_thread c.prologue) (map call_view)
-    ∙ ap (λ (p : List (List CallKind)). length (c.threads ++ p)) (one_thread c.prologue)
+calls_of-width c = length-map (c.threads ++ as_thread c.prologue) (map call_view)
 
 of_prologue : (prologue : List CallKind) (i : ℕ) → calls_in [] prologue i ≡ slice_index_or (as_thread prologue) i []
 of_prologue [] zero = refl

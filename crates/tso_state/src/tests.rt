@@ -10,46 +10,8 @@ use tso_hist::{Call, History};
 use tso_list::Seq;
 use tso_machine::{Entry, Frame};
 use tso_prog::{Answer, CallKind};
+use tso_samples::{BOUNDED_BESIDE_POPS, PROLOGUE};
 use tso_word::Flags;
-
-const LOOP: &str = ".capacity 1
-.mode weak
-.array x 1
-.array y 1 = 5
-.push
-again:
-  mov qword ptr [x], 1
-  cmp rdi, 7
-  je again bound 1
-  mov rax, 0
-  ret
-.end
-.pop
-  mov rax, 1
-  mov rdx, 3
-  ret
-.end
-.thread push 7
-.thread pop, pop
-";
-
-const PROLOGUE: &str = ".capacity 1
-.mode weak
-.array n 1
-.push
-  mov qword ptr [n], rdi
-  mov rax, 1
-  ret
-.end
-.pop
-  mov rdx, qword ptr [n]
-  mov rax, 1
-  ret
-.end
-.before push 8
-.thread pop
-.thread push 7
-";
 
 #[derive(Clone, Copy, Debug)]
 enum Doing {
@@ -244,7 +206,7 @@ fn starts(
 
 #[test]
 fn first_states_are_well_formed(rt: HostRuntime) -> Result<(), Fail> {
-    starts(&rt, rt.alloc(), LOOP, &[0, 5], 2)?;
+    starts(&rt, rt.alloc(), BOUNDED_BESIDE_POPS, &[0, 5], 2)?;
     starts(&rt, rt.alloc(), PROLOGUE, &[0], 3)
 }
 
@@ -255,7 +217,7 @@ fn answers(
     pairs: &[[Sketch; 2]],
     wanted: bool,
 ) -> Result<(), Fail> {
-    let checked = checked_of(alloc, LOOP)?;
+    let checked = checked_of(alloc, BOUNDED_BESIDE_POPS)?;
     for pair in pairs {
         assert_eq!(rt; is_fine(alloc, &checked, 2, pair)?, wanted, "{pair:?}");
     }
@@ -280,7 +242,7 @@ fn states_in_calls_are_well_formed(rt: HostRuntime) -> Result<(), Fail> {
 #[test]
 fn sizes_count(rt: HostRuntime) -> Result<(), Fail> {
     let alloc = rt.alloc();
-    let checked = checked_of(alloc, LOOP)?;
+    let checked = checked_of(alloc, BOUNDED_BESIDE_POPS)?;
     for (words, count) in [(0, 2), (1, 2), (3, 2), (2, 0), (2, 1), (2, 3), (2, 16)] {
         let threads = [new(); 16];
         assert!(rt; !is_fine(alloc, &checked, words, &threads[..count])?);
@@ -466,7 +428,7 @@ fn hostile_state(alloc: Global, count: usize) -> Result<State, AllocError> {
 #[test]
 fn hostile_states_are_answered(rt: HostRuntime) -> Result<(), Fail> {
     let alloc = rt.alloc();
-    let checked = checked_of(alloc, LOOP)?;
+    let checked = checked_of(alloc, BOUNDED_BESIDE_POPS)?;
     for count in 0..17 {
         let state = hostile_state(alloc, count)?;
         assert!(rt; !is_well_formed(&checked, &state));
@@ -589,7 +551,7 @@ impl Viewed for Kept<'_> {
 #[test]
 fn states_that_are_kept_elsewhere_are_tested_too(rt: HostRuntime) -> Result<(), Fail> {
     let alloc = rt.alloc();
-    let checked = checked_of(alloc, LOOP)?;
+    let checked = checked_of(alloc, BOUNDED_BESIDE_POPS)?;
     let state = state_of(alloc, 2, &[pushing(2, 7), popped(THREE)])?;
     assert!(rt; is_well_formed(&checked, &Kept { state: &state }));
     Ok(())

@@ -7,8 +7,8 @@ use Rattle.tso_text.specs.declared.token.TokenKind.{TokenKind}
 use Rattle.tso_text.specs.declared.token.TokenKind.TheVariants as kinds
 use Rattle.tso_text.specs.declared.scan.Class.{Class}
 use Rattle.tso_text.specs.declared.scan.Class.TheVariants.{Newline, Blank, Comment, Letter, Digit, Dot, Single}
-use Rattle.tso_text.specs.Lexing.{class_of, continues, is_letter, first_class, token, extended, from_newline, grown, with_first, line_after, tokens_from, ends_no_line, Rise, Gaps}
-use Rattle.tso_text.proofs.Pieces.{ends_line, ends_line-class, gone, kept, single_kind, grown_run, letter_continues}
+use Rattle.tso_text.specs.Lexing.{class_of, continues, is_letter, first_class, token, with_start, from_newline, with_byte, with_first, line_after, tokens_from, ends_no_line, Rise, Gaps}
+use Rattle.tso_text.proofs.Pieces.{ends_line, ends_line-class, gone, kept, single_kind, with_byte_run, letter_continues}
 use Rattle.tso_text.proofs.Spans.{tokens_rise, cut_rise}
 
 -- as Gaps, but the bytes before the first token are within a comment
@@ -22,22 +22,22 @@ one kind line b bs at ts g =
     let next : at + 1 - at ≡ suc 0 = omega arith in
     rw (none, next) (refl, g)
 
-more : (kind : TokenKind) (b : ℕ) (bs : List ℕ) (at to : ℕ) (t : Token) (ts : List Token) → Rise (at + 1) (t ∷ ts) to → Gaps bs (at + 1) (t ∷ ts) → Gaps (b ∷ bs) at (extended kind at (t ∷ ts))
+more : (kind : TokenKind) (b : ℕ) (bs : List ℕ) (at to : ℕ) (t : Token) (ts : List Token) → Rise (at + 1) (t ∷ ts) to → Gaps bs (at + 1) (t ∷ ts) → Gaps (b ∷ bs) at (with_start kind at (t ∷ ts))
 more kind b bs at to t ts r g =
     let none : at - at ≡ 0 = omega arith in
     let next : t.end - at ≡ suc (t.end - (at + 1)) = omega arith in
     rw (none, next) (refl, g.1)
 
 -- a token that goes on is there
-longer : (kind : TokenKind) (line b : ℕ) (bs : List ℕ) (at to : ℕ) (ts : List Token) (t : Token) (us : List Token) → extended kind at ts ≡ t ∷ us → Rise (at + 1) ts to → Gaps bs (at + 1) ts → Gaps (b ∷ bs) at (extended kind at ts)
+longer : (kind : TokenKind) (line b : ℕ) (bs : List ℕ) (at to : ℕ) (ts : List Token) (t : Token) (us : List Token) → with_start kind at ts ≡ t ∷ us → Rise (at + 1) ts to → Gaps bs (at + 1) ts → Gaps (b ∷ bs) at (with_start kind at ts)
 longer kind line b bs at to [] t us e r g = absurd cc
 longer kind line b bs at to (v ∷ vs) t us e r g = more kind b bs at to v vs r g
 
-grown_gaps : (c : Bool) (kind : TokenKind) (line b : ℕ) (bs : List ℕ) (at to : ℕ) (ts : List Token) (t : Token) (us : List Token) → grown c kind line at ts ≡ t ∷ us → Rise (at + 1) ts to → Gaps bs (at + 1) ts → Gaps (b ∷ bs) at (grown c kind line at ts)
-grown_gaps true kind line b bs at to ts t us e r g = longer kind line b bs at to ts t us e r g
-grown_gaps false kind line b bs at to ts t us e r g = one kind line b bs at ts g
+with_byte_gaps : (c : Bool) (kind : TokenKind) (line b : ℕ) (bs : List ℕ) (at to : ℕ) (ts : List Token) (t : Token) (us : List Token) → with_byte c kind line at ts ≡ t ∷ us → Rise (at + 1) ts to → Gaps bs (at + 1) ts → Gaps (b ∷ bs) at (with_byte c kind line at ts)
+with_byte_gaps true kind line b bs at to ts t us e r g = longer kind line b bs at to ts t us e r g
+with_byte_gaps false kind line b bs at to ts t us e r g = one kind line b bs at ts g
 
-dot_gaps : (c : Bool) (line b : ℕ) (bs : List ℕ) (at to : ℕ) (ts : List Token) (t : Token) (us : List Token) → (c ≡ true → extended kinds.Word at ts ≡ t ∷ us) → Rise (at + 1) ts to → Gaps bs (at + 1) ts → Gaps (b ∷ bs) at (cond c (extended kinds.Word at ts) (token kinds.Other line at (at + 1) ∷ ts))
+dot_gaps : (c : Bool) (line b : ℕ) (bs : List ℕ) (at to : ℕ) (ts : List Token) (t : Token) (us : List Token) → (c ≡ true → with_start kinds.Word at ts ≡ t ∷ us) → Rise (at + 1) ts to → Gaps bs (at + 1) ts → Gaps (b ∷ bs) at (cond c (with_start kinds.Word at ts) (token kinds.Other line at (at + 1) ∷ ts))
 dot_gaps true line b bs at to ts t us e r g = longer kinds.Word line b bs at to ts t us (e refl) r g
 dot_gaps false line b bs at to ts t us e r g = one kinds.Other line b bs at ts g
 
@@ -69,11 +69,11 @@ first_gaps : (k : Class) (b : ℕ) (bs : List ℕ) (line at to : ℕ) → class_
 first_gaps Newline b bs line at to e r q g h = one kinds.Newline line b bs at (tokens_from (line + 1) (at + 1) bs) g
 first_gaps Blank b bs line at to e r q g h = blank_gaps b bs at to (tokens_from line (at + 1) bs) e r g
 first_gaps Comment b bs line at to e r q g h = comment_gaps b bs at to (from_newline (tokens_from line (at + 1) bs)) e q h
-first_gaps Letter b bs line at to e r q g h = grown_gaps (continues (first_class bs)) kinds.Word line b bs at to (tokens_from line (at + 1) bs) _ _ (grown_run kinds.Word line at bs) r g
-first_gaps Digit b bs line at to e r q g h = grown_gaps (continues (first_class bs)) kinds.Number line b bs at to (tokens_from line (at + 1) bs) _ _ (grown_run kinds.Number line at bs) r g
+first_gaps Letter b bs line at to e r q g h = with_byte_gaps (continues (first_class bs)) kinds.Word line b bs at to (tokens_from line (at + 1) bs) _ _ (with_byte_run kinds.Word line at bs) r g
+first_gaps Digit b bs line at to e r q g h = with_byte_gaps (continues (first_class bs)) kinds.Number line b bs at to (tokens_from line (at + 1) bs) _ _ (with_byte_run kinds.Number line at bs) r g
 first_gaps Dot b bs line at to e r q g h =
     dot_gaps (is_letter (first_class bs)) line b bs at to (tokens_from line (at + 1) bs) _ _
-    (λ l. ap (λ (c : Bool). grown c kinds.Word line at (tokens_from line (at + 1) bs)) (sym (letter_continues (first_class bs) l)) ∙ grown_run kinds.Word line at bs) r g
+    (λ l. ap (λ (c : Bool). with_byte c kinds.Word line at (tokens_from line (at + 1) bs)) (sym (letter_continues (first_class bs) l)) ∙ with_byte_run kinds.Word line at bs) r g
 first_gaps (Single kind) b bs line at to e r q g h = one kind line b bs at (tokens_from line (at + 1) bs) g
 
 -- the same within a comment

@@ -9,8 +9,8 @@ use Rattle.tso_text.specs.declared.token.TokenKind.{TokenKind}
 use Rattle.tso_text.specs.declared.token.TokenKind.TheVariants as kinds
 use Rattle.tso_text.specs.declared.scan.Class.{Class}
 use Rattle.tso_text.specs.declared.scan.Class.TheVariants.{Newline, Blank, Comment, Letter, Digit, Dot, Single}
-use Rattle.tso_text.specs.Lexing.{class_of, continues, is_letter, first_class, token, extended, is_newline, from_newline, grown, with_first, line_after, tokens_from, goes_on, is_name, has_shape, Shaped}
-use Rattle.tso_text.proofs.Pieces.{grown_run, run, letter_continues}
+use Rattle.tso_text.specs.Lexing.{class_of, continues, is_letter, first_class, token, with_start, is_newline, from_newline, with_byte, with_first, line_after, tokens_from, goes_on, is_name, has_shape, Shaped}
+use Rattle.tso_text.proofs.Pieces.{with_byte_run, run, letter_continues}
 
 -- ---- runs
 
@@ -88,7 +88,7 @@ first_end : List Token → ℕ
 first_end [] = 0
 first_end (t ∷ ts) = t.end
 
-longer : (text : List ℕ) (kind : TokenKind) (line b : ℕ) (bs : List ℕ) (at n : ℕ) (ts us : List Token) → drop at text ≡ b ∷ bs → extended kind at ts ≡ token kind line at (at + (1 + n)) ∷ us → has_shape kind (b ∷ take n bs) ≡ true → Shaped text ts → Shaped text (extended kind at ts)
+longer : (text : List ℕ) (kind : TokenKind) (line b : ℕ) (bs : List ℕ) (at n : ℕ) (ts us : List Token) → drop at text ≡ b ∷ bs → with_start kind at ts ≡ token kind line at (at + (1 + n)) ∷ us → has_shape kind (b ∷ take n bs) ≡ true → Shaped text ts → Shaped text (with_start kind at ts)
 unfolding first_end
 longer text kind line b bs at n [] us here e shape g = absurd cc
 longer text kind line b bs at n (t ∷ ts) us here e shape g =
@@ -96,11 +96,11 @@ longer text kind line b bs at n (t ∷ ts) us here e shape g =
     let m : t.end - at ≡ suc n = omega arith in
     rw (m, here) (shape, g.1)
 
-grown_shaped : (c : Bool) (text : List ℕ) (kind : TokenKind) (line b : ℕ) (bs : List ℕ) (at n : ℕ) (ts us : List Token) → drop at text ≡ b ∷ bs → grown c kind line at ts ≡ token kind line at (at + (1 + n)) ∷ us → has_shape kind (b ∷ []) ≡ true → has_shape kind (b ∷ take n bs) ≡ true → Shaped text ts → Shaped text (grown c kind line at ts)
-grown_shaped true text kind line b bs at n ts us here e short long g = longer text kind line b bs at n ts us here e long g
-grown_shaped false text kind line b bs at n ts us here e short long g = one text kind line b bs at ts here short g
+with_byte_shaped : (c : Bool) (text : List ℕ) (kind : TokenKind) (line b : ℕ) (bs : List ℕ) (at n : ℕ) (ts us : List Token) → drop at text ≡ b ∷ bs → with_byte c kind line at ts ≡ token kind line at (at + (1 + n)) ∷ us → has_shape kind (b ∷ []) ≡ true → has_shape kind (b ∷ take n bs) ≡ true → Shaped text ts → Shaped text (with_byte c kind line at ts)
+with_byte_shaped true text kind line b bs at n ts us here e short long g = longer text kind line b bs at n ts us here e long g
+with_byte_shaped false text kind line b bs at n ts us here e short long g = one text kind line b bs at ts here short g
 
-dot_shaped : (c : Bool) (text : List ℕ) (line b : ℕ) (bs : List ℕ) (at n : ℕ) (ts us : List Token) → drop at text ≡ b ∷ bs → (c ≡ true → extended kinds.Word at ts ≡ token kinds.Word line at (at + (1 + n)) ∷ us) → (c ≡ true → has_shape kinds.Word (b ∷ take n bs) ≡ true) → Shaped text ts → Shaped text (cond c (extended kinds.Word at ts) (token kinds.Other line at (at + 1) ∷ ts))
+dot_shaped : (c : Bool) (text : List ℕ) (line b : ℕ) (bs : List ℕ) (at n : ℕ) (ts us : List Token) → drop at text ≡ b ∷ bs → (c ≡ true → with_start kinds.Word at ts ≡ token kinds.Word line at (at + (1 + n)) ∷ us) → (c ≡ true → has_shape kinds.Word (b ∷ take n bs) ≡ true) → Shaped text ts → Shaped text (cond c (with_start kinds.Word at ts) (token kinds.Other line at (at + 1) ∷ ts))
 dot_shaped true text line b bs at n ts us here e long g = longer text kinds.Word line b bs at n ts us here (e refl) (long refl) g
 dot_shaped false text line b bs at n ts us here e long g = one text kinds.Other line b bs at ts here refl g
 
@@ -120,12 +120,12 @@ first_shaped Newline text b bs line at e here g = one text kinds.Newline line b 
 first_shaped Blank text b bs line at e here g = g
 first_shaped Comment text b bs line at e here g = rest_shaped text (tokens_from line (at + 1) bs) g
 first_shaped Letter text b bs line at e here g =
-    grown_shaped (continues (first_class bs)) text kinds.Word line b bs at (run bs) (tokens_from line (at + 1) bs) _ here (grown_run kinds.Word line at bs) (rw e refl) (rw (e, all_run bs) refl) g
+    with_byte_shaped (continues (first_class bs)) text kinds.Word line b bs at (run bs) (tokens_from line (at + 1) bs) _ here (with_byte_run kinds.Word line at bs) (rw e refl) (rw (e, all_run bs) refl) g
 first_shaped Digit text b bs line at e here g =
-    grown_shaped (continues (first_class bs)) text kinds.Number line b bs at (run bs) (tokens_from line (at + 1) bs) _ here (grown_run kinds.Number line at bs) (rw e refl) (rw (e, all_run bs) refl) g
+    with_byte_shaped (continues (first_class bs)) text kinds.Number line b bs at (run bs) (tokens_from line (at + 1) bs) _ here (with_byte_run kinds.Number line at bs) (rw e refl) (rw (e, all_run bs) refl) g
 first_shaped Dot text b bs line at e here g =
     dot_shaped (is_letter (first_class bs)) text line b bs at (run bs) (tokens_from line (at + 1) bs) _ here
-    (λ l. ap (λ (c : Bool). grown c kinds.Word line at (tokens_from line (at + 1) bs)) (sym (letter_continues (first_class bs) l)) ∙ grown_run kinds.Word line at bs)
+    (λ l. ap (λ (c : Bool). with_byte c kinds.Word line at (tokens_from line (at + 1) bs)) (sym (letter_continues (first_class bs) l)) ∙ with_byte_run kinds.Word line at bs)
     (λ l. rw (e, name_run bs l) refl) g
 first_shaped (Single kind) text b bs line at e here g =
     one text kind line b bs at (tokens_from line (at + 1) bs) here (mark_shape kind b (sym (ap is_mark e) ∙ mark_class b)) g

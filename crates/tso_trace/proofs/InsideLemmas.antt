@@ -16,7 +16,7 @@ use Rattle.tso_machine.proofs.PlaceBounds.{place_below}
 use Rattle.tso_machine.proofs.RunLaws.{buffers_stay_within}
 use Rattle.tso_machine.specs.Activations.{Activation, activation}
 use Rattle.tso_machine.specs.Frames.{register_of}
-use Rattle.tso_machine.specs.Instructions.{action_at, advanced, at_place, back_jumps, counted_jump, done_answer, instruction_action, instructions_of, is_taken, jump, next_action, returned}
+use Rattle.tso_machine.specs.Instructions.{action_at, at_next, at_place, back_jumps, counted_jump, done_answer, instruction_action, instructions_of, is_taken, jump, next_action, returned}
 use Rattle.tso_machine.specs.Machines.{kind_view, label_of}
 use Rattle.tso_machine.specs.Places.{first_memory, index_of, operand_place}
 use Rattle.tso_machine.specs.Programs.{program_of}
@@ -69,10 +69,10 @@ instruction_below c name f (the.Store to from) = at_place_below c f to (operand_
 instruction_below c name f (the.Locked operation cell r) = at_place_below c f cell (operand_place c.arrays f cell) _ refl (λ p below. below)
 instruction_below c name f (the.Jump when target bound) =
     let number = back_jumps 0 (take f.pc (instructions_of c name)) in
-    let next : Action Activation = Silent (activation name (advanced f)) in
+    let next : Action Activation = Silent (activation name (at_next f)) in
     cond_both (is_taken when f.flags) (jump name f number target bound) next (IsBelow (length (first_memory c.arrays))) (λ e. jump_below (length (first_memory c.arrays)) name f number target bound) (λ e. tt)
 instruction_below c name f (the.Assert condition) =
-    cond_both (is_taken (Some condition) f.flags) (Silent (activation name (advanced f))) (Fail FalseAssertion) (IsBelow (length (first_memory c.arrays))) (λ e. tt) (λ e. tt)
+    cond_both (is_taken (Some condition) f.flags) (Silent (activation name (at_next f))) (Fail FalseAssertion) (IsBelow (length (first_memory c.arrays))) (λ e. tt) (λ e. tt)
 instruction_below c name f the.Return = returned_below (length (first_memory c.arrays)) name f
 instruction_below c name f _ = tt
 

@@ -1,6 +1,7 @@
 -- The text of traces: which bytes spell a label, and which spell a list of labels. A line is of the grammar where it spells a label.
 use Rattle.std.specs.Prelude.{◌≡◌, ◌≢◌, ◌⊎◌, ℕ, ◌+◌, ◌-◌, Bool, true, ◌&&◌, nat_lt, if◌then◌else◌, List, [], ◌∷◌, ◌++◌, length, sum_by, Option, Some, None, unwrap_or, codes, decimal, IsTrue}
 use Rattle.std.specs.List.{flat_map, list_all}
+use Rattle.tso_text.specs.Bytes.{newline}
 use Rattle.tso_line.specs.Proper.{is_word, is_call}
 use Rattle.tso_line.specs.declared.instruction.CallKind.{CallKind}
 use Rattle.tso_line.specs.declared.instruction.CallKind.TheVariants as calls
@@ -107,7 +108,7 @@ header = codes "tso-trace 1"
 
 -- a line with its newline
 abbrev pub ended : List ℕ → List ℕ
-ended line = line ++ 10 ∷ []
+ended line = line ++ newline ∷ []
 
 -- the lines of labels, each with its newline
 abbrev pub lines_text : List Array → List Label → List ℕ
@@ -135,6 +136,10 @@ pub record HasLine (arrays : List Array) (text : List ℕ) : Type 0 where
   pub rest : List ℕ
   pub proper : IsTrue (is_proper arrays label)
   pub begins : text ≡ ended (line_text arrays label) ++ rest
+
+-- the text begins with the line of this label, and goes on so
+abbrev pub BeginsWithLine : List Array → List ℕ → Label → List ℕ → Type 0
+BeginsWithLine arrays text label rest = IsTrue (is_proper arrays label) × (text ≡ ended (line_text arrays label) ++ rest)
 
 -- behind the first line and the lines of these labels the text goes on, and not with the line of a label
 pub record GoesWrong (arrays : List Array) (text : List ℕ) (labels : List Label) : Type 0 where

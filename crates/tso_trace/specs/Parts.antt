@@ -1,5 +1,5 @@
 -- Parts of a line.
-use Rattle.std.specs.Prelude.{ℕ, Bool, true, false, not, ◌&&◌, ◌==◌, nat_lt, List, ◌++◌, length, sum_by, codes, decimal}
+use Rattle.std.specs.Prelude.{◌≡◌, ◌≢◌, ℕ, ◌<◌, ◌^◌, Bool, true, false, not, ◌&&◌, ◌==◌, nat_lt, List, ◌∷◌, ◌++◌, length, sum_by, Option, codes, decimal, IsTrue, MatchOption}
 use Rattle.std.specs.List.{list_all}
 use Rattle.tso_line.specs.Proper.{is_call, is_word}
 use Rattle.tso_line.specs.declared.instruction.CallKind.TheVariants as calls
@@ -8,7 +8,8 @@ use Rattle.tso_prog.specs.declared.client.Array.{Array}
 use Rattle.tso_machine.specs.declared.label.Label.{Label}
 use Rattle.tso_machine.specs.declared.label.LabelKind.{LabelKind}
 use Rattle.tso_machine.specs.declared.label.LabelKind.TheVariants as kinds
-use Rattle.tso_trace.specs.Grammar.{is_answer, named_cell}
+use Rattle.tso_text.specs.Bytes.{bracket}
+use Rattle.tso_trace.specs.Grammar.{access_text, is_access, is_answer, is_proper_kind, kind_text, named_cell}
 
 -- the byte is not among these
 abbrev pub lacks : ℕ → List ℕ → Bool
@@ -26,6 +27,41 @@ is_bare _ = true
 -- a cell and a word, by the array's name
 abbrev pub split_text : List ℕ → ℕ → ℕ → List ℕ
 split_text name index word = named_cell name index ++ (codes " = " ++ decimal word)
+
+-- ---- what is read of a text
+
+-- the value has this property and is spelled so, if one is there
+abbrev pub Tells : {A : Type 0} → (A → Type 0) → (A → List ℕ) → List ℕ → Option A → Type 0
+Tells IsProper spelling text found = MatchOption found ((x : _) → IsProper x → text ≢ spelling x) (λ x. IsProper x × (text ≡ spelling x))
+
+abbrev pub Is64 : ℕ → Type 0
+Is64 n = n < 2 ^ 64
+
+-- the text is this number, the byte and the rest
+abbrev pub IsNumberBefore : List ℕ → ℕ → ℕ → List ℕ → Type 0
+IsNumberBefore text byte n rest = Is64 n × (text ≡ decimal n ++ byte ∷ rest)
+
+abbrev pub HasNoNumberBefore : List ℕ → ℕ → Type 0
+HasNoNumberBefore text byte = (n : ℕ) (rest : List ℕ) → Is64 n → text ≢ decimal n ++ byte ∷ rest
+
+-- the text is `NAME[INDEX] = WORD`
+abbrev pub IsSplit : List ℕ → List ℕ → ℕ → ℕ → Type 0
+IsSplit text name index word = IsTrue (lacks bracket name) × Is64 index × Is64 word × (text ≡ split_text name index word)
+
+abbrev pub IsUnsplit : List ℕ → Type 0
+IsUnsplit text = (name : List ℕ) (index word : ℕ) → IsTrue (lacks bracket name) → Is64 index → Is64 word → text ≢ split_text name index word
+
+-- an access to memory behind a word, if the text is one
+abbrev pub TellsAccess : List Array → List ℕ → List ℕ → Option (ℕ × ℕ) → Type 0
+TellsAccess arrays verb text found =
+    MatchOption found ((place word : ℕ) → IsTrue (is_access arrays place word) → text ≢ verb ++ access_text arrays place word)
+    (λ r. IsTrue (is_access arrays r.0 r.1) × (text ≡ verb ++ access_text arrays r.0 r.1))
+
+-- a kind that has a number, if the text is one
+abbrev pub TellsNumbered : List Array → List ℕ → Option LabelKind → Type 0
+TellsNumbered arrays text found =
+    MatchOption found ((k : LabelKind) → is_bare k ≡ false → IsTrue (is_proper_kind arrays k) → text ≢ kind_text arrays k)
+    (λ k. IsTrue (is_proper_kind arrays k) × (text ≡ kind_text arrays k))
 
 -- ---- what a label's value keeps, and what its run keeps
 

@@ -2,7 +2,7 @@
 
 ghost use Rattle.std.specs.Prelude.{◌≡◌, ◌≢◌, ◌++◌, List, IfOk, IfErr, IsTrue, MatchOption};
 ghost use Rattle.tso_machine.specs.declared.label.Label.{Label as TraceLabel};
-ghost use Rattle.tso_trace.specs.Grammar.{ended, header, is_proper, line_text, HasHeader, HasLine, IsFirstBadLine, IsTextFault, IsTextOf};
+ghost use Rattle.tso_trace.specs.Grammar.{ended, header, BeginsWithLine, HasHeader, HasLine, IsFirstBadLine, IsTextFault, IsTextOf};
 
 use crate::fault::TraceFault;
 use crate::parts::{behind, cut};
@@ -23,8 +23,7 @@ fn behind_header(text: &[u8]) -> Option<&[u8]>
 
 // The label of the first line, and what stands behind that line.
 fn first_label<'a>(client: &Client, text: &'a [u8]) -> Option<(Label, &'a [u8])>
-    ensures { MatchOption result (HasLine client.now.arrays text.now → ⊥)
-        (λ r. IsTrue (is_proper client.now.arrays r.0) × (text.now ≡ ended (line_text client.now.arrays r.0) ++ r.1.now)) }
+    ensures { MatchOption result (HasLine client.now.arrays text.now → ⊥) (λ r. BeginsWithLine client.now.arrays text.now r.0 r.1.now) }
 {
     let (line, rest) = cut(text, b'\n')?;
     Some((label_of(client, line)?, rest))

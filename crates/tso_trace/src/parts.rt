@@ -2,7 +2,8 @@
 
 ghost use Rattle.std.specs.Prelude.{false, ◌≡◌, ◌≢◌, ◌↔◌, ◌<◌, ◌≤◌, ◌^◌, ◌++◌, ◌∷◌, ℕ, List, length, slice_index, decimal, IfSome, IfNone, IsTrue, MatchOption};
 ghost use Rattle.std.specs.Char.{is_ascii_digit};
-ghost use Rattle.tso_trace.specs.Parts.{lacks};
+ghost use Rattle.tso_text.specs.Bytes.{digit_0, plus};
+ghost use Rattle.tso_trace.specs.Parts.{lacks, HasNoNumberBefore, Is64, IsNumberBefore, Tells};
 
 /// What stands behind a word with which the text begins.
 pub fn behind<'a>(text: &'a [u8], word: &[u8]) -> Option<&'a [u8]>
@@ -27,14 +28,14 @@ pub fn cut(text: &[u8], byte: u8) -> Option<(&[u8], &[u8])>
 
 // Whether no sign and no needless zero stands first.
 fn is_plain(text: &[u8]) -> bool
-    ensures { IsTrue result ↔ ((slice_index text.now 0 ≢ 43) × (slice_index text.now 0 ≡ 48 → length text.now ≤ 1)) }
+    ensures { IsTrue result ↔ ((slice_index text.now 0 ≢ plus) × (slice_index text.now 0 ≡ digit_0 → length text.now ≤ 1)) }
 {
     !matches!(text, [b'0', _, ..] | [b'+', ..])
 }
 
 /// The number that is written so, in decimal digits without leading zeros.
 pub fn number(text: &[u8]) -> Option<u64>
-    ensures { MatchOption result ((n : ℕ) → n < 2 ^ 64 → text.now ≢ decimal n) (λ n. (n < 2 ^ 64) × (text.now ≡ decimal n)) }
+    ensures { Tells Is64 decimal text.now result }
 {
     if !is_plain(text) {
         return None;
@@ -51,7 +52,7 @@ pub fn number(text: &[u8]) -> Option<u64>
 /// The number before the first byte of this value, which is no digit, and what stands behind that byte.
 pub fn number_before(text: &[u8], byte: u8) -> Option<(u64, &[u8])>
     requires { is_ascii_digit byte ≡ false }
-    ensures { MatchOption result ((n : ℕ) (rest : List ℕ) → n < 2 ^ 64 → text.now ≢ decimal n ++ byte ∷ rest) (λ r. (r.0 < 2 ^ 64) × (text.now ≡ decimal r.0 ++ byte ∷ r.1.now)) }
+    ensures { MatchOption result (HasNoNumberBefore text.now byte) (λ r. IsNumberBefore text.now byte r.0 r.1.now) }
 {
     let (digits, rest) = cut(text, byte)?;
     let number = number(digits)?;
@@ -60,7 +61,7 @@ pub fn number_before(text: &[u8], byte: u8) -> Option<(u64, &[u8])>
 
 /// The number behind a word with which the text begins.
 pub fn number_behind(text: &[u8], word: &[u8]) -> Option<u64>
-    ensures { MatchOption result ((n : ℕ) → n < 2 ^ 64 → text.now ≢ word.now ++ decimal n) (λ n. (n < 2 ^ 64) × (text.now ≡ word.now ++ decimal n)) }
+    ensures { Tells Is64 (λ n. word.now ++ decimal n) text.now result }
 {
     number(behind(text, word)?)
 }

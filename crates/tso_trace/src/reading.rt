@@ -4,8 +4,9 @@ ghost use Rattle.std.specs.Str.{bytes_eq};
 ghost use Rattle.tso_machine.specs.declared.label.Label.{Label};
 ghost use Rattle.tso_machine.specs.declared.label.LabelKind.{LabelKind};
 ghost use Rattle.std.specs.Prelude.{position, ◌↔◌, false, [], ◌≡◌, ◌≢◌, ◌+◌, ◌<◌, ◌^◌, ◌++◌, ℕ, List, Some, IsTrue, MatchOption};
-ghost use Rattle.tso_trace.specs.Grammar.{access_text, cell_in, is_access, is_proper_kind, kind_text, named_cell, IsLineOf};
-ghost use Rattle.tso_trace.specs.Parts.{is_bare, lacks, split_text};
+ghost use Rattle.tso_trace.specs.Grammar.{cell_in, is_proper_kind, kind_text, named_cell, IsLineOf};
+ghost use Rattle.tso_text.specs.Bytes.{bracket};
+ghost use Rattle.tso_trace.specs.Parts.{is_bare, lacks, IsSplit, IsUnsplit, Tells, TellsAccess, TellsNumbered};
 
 use crate::parts::{behind, cut, number_before, number_behind};
 use tso_machine::{FaultKind, Label, LabelKind, place_at};
@@ -13,8 +14,7 @@ use tso_prog::{Answer, CallKind, Client};
 
 // The array's name, the index and the word of `NAME[INDEX] = WORD`.
 fn split_access(text: &[u8]) -> Option<(&[u8], u64, u64)>
-    ensures { MatchOption result ((name : List ℕ) (index word : ℕ) → IsTrue (lacks 91 name) → index < 2 ^ 64 → word < 2 ^ 64 → text.now ≢ split_text name index word)
-        (λ r. IsTrue (lacks 91 r.0.now) × (r.1 < 2 ^ 64) × (r.2 < 2 ^ 64) × (text.now ≡ split_text r.0.now r.1 r.2)) }
+    ensures { MatchOption result (IsUnsplit text.now) (λ r. IsSplit text.now r.0.now r.1 r.2) }
 {
     let (name, rest) = cut(text, b'[')?;
     let (index, rest) = number_before(rest, b']')?;
@@ -35,7 +35,7 @@ fn array_named(client: &Client, name: &[u8]) -> Option<usize>
 
 // The place of `NAME[INDEX]`, if memory has it. A name has no `[`.
 fn place_named(client: &Client, name: &[u8], index: u64) -> Option<usize>
-    requires { IsTrue (lacks 91 name.now) }
+    requires { IsTrue (lacks bracket name.now) }
     ensures { (place : ℕ) → (result ≡ Some place) ↔ (cell_in client.now.arrays place ≡ Some (named_cell name.now index)) }
 {
     let array = array_named(client, name)?;
@@ -44,8 +44,7 @@ fn place_named(client: &Client, name: &[u8], index: u64) -> Option<usize>
 
 // The place and the word of an access.
 fn access(client: &Client, text: &[u8]) -> Option<(usize, u64)>
-    ensures { MatchOption result ((place word : ℕ) → IsTrue (is_access client.now.arrays place word) → text.now ≢ access_text client.now.arrays place word)
-        (λ r. IsTrue (is_access client.now.arrays r.0 r.1) × (text.now ≡ access_text client.now.arrays r.0 r.1)) }
+    ensures { TellsAccess client.now.arrays [] text.now result }
 {
     let (name, index, word) = split_access(text)?;
     let place = place_named(client, name, index)?;
@@ -54,7 +53,7 @@ fn access(client: &Client, text: &[u8]) -> Option<(usize, u64)>
 
 // What a thread does, where it has no number and no place.
 fn bare_kind(text: &[u8]) -> Option<LabelKind>
-    ensures { MatchOption result ((k : LabelKind) → IsTrue (is_bare k) → text.now ≢ kind_text [] k) (λ k. IsTrue (is_bare k) × (text.now ≡ kind_text [] k)) }
+    ensures { Tells (λ k. IsTrue (is_bare k)) (kind_text []) text.now result }
 {
     if text == b"call pop".as_slice() {
         Some(LabelKind::Call(CallKind::Pop))
@@ -83,16 +82,14 @@ fn bare_kind(text: &[u8]) -> Option<LabelKind>
 
 // The place and the word of an access behind a word with which the text begins.
 fn access_behind(client: &Client, text: &[u8], verb: &[u8]) -> Option<(usize, u64)>
-    ensures { MatchOption result ((place word : ℕ) → IsTrue (is_access client.now.arrays place word) → text.now ≢ verb.now ++ access_text client.now.arrays place word)
-        (λ r. IsTrue (is_access client.now.arrays r.0 r.1) × (text.now ≡ verb.now ++ access_text client.now.arrays r.0 r.1)) }
+    ensures { TellsAccess client.now.arrays verb.now text.now result }
 {
     access(client, behind(text, verb)?)
 }
 
 // What a thread does, where it has a number.
 fn numbered_kind(client: &Client, text: &[u8]) -> Option<LabelKind>
-    ensures { MatchOption result ((k : LabelKind) → is_bare k ≡ false → IsTrue (is_proper_kind client.now.arrays k) → text.now ≢ kind_text client.now.arrays k)
-        (λ k. IsTrue (is_proper_kind client.now.arrays k) × (text.now ≡ kind_text client.now.arrays k)) }
+    ensures { TellsNumbered client.now.arrays text.now result }
 {
     if let Some(argument) = number_behind(text, b"call push ") {
         Some(LabelKind::Call(CallKind::Push(argument)))
@@ -111,8 +108,7 @@ fn numbered_kind(client: &Client, text: &[u8]) -> Option<LabelKind>
 
 // What a thread does.
 fn kind_of(client: &Client, text: &[u8]) -> Option<LabelKind>
-    ensures { MatchOption result ((k : LabelKind) → IsTrue (is_proper_kind client.now.arrays k) → text.now ≢ kind_text client.now.arrays k)
-        (λ k. IsTrue (is_proper_kind client.now.arrays k) × (text.now ≡ kind_text client.now.arrays k)) }
+    ensures { Tells (λ k. IsTrue (is_proper_kind client.now.arrays k)) (kind_text client.now.arrays) text.now result }
 {
     match bare_kind(text) {
         Some(kind) => Some(kind),

@@ -6,75 +6,12 @@ use std::process::Abort;
 use std::test::Fail;
 use tso_flow::Checked;
 use tso_machine::{Label, LabelKind};
-
-const EXCHANGE: &str = ".capacity 1
-.mode weak
-.array n 1
-.push
-  mov rbx, 5
-  xchg qword ptr [n], rbx
-  cmp rbx, 5
-  assert e
-  mov rax, 0
-  ret
-.end
-.pop
-  mov rbx, qword ptr [n]
-  mov rdx, 0
-  mov rax, 0
-  ret
-.end
-.thread push 7
-.thread pop
-";
-
-const EXCHANGE_TRACE: &str = "tso-trace 1
-0 call push 7
-0 reg
-0 lock
-0 read n[0] = 0
-0 write n[0] = 5
-0 drain n[0] = 5
-0 unlock
-0 reg
-0 fault assert
-";
+use tso_samples::{EXCHANGE, EXCHANGE_TRACE, OWN_STORE, OWN_STORE_TRACE};
 
 const FUSED_TRACE: &str = "tso-trace 1
 0 call push 7
 0 reg
 0 write n[0] = 5
-0 reg
-0 fault assert
-";
-
-const OWN_STORE: &str = ".capacity 1
-.mode weak
-.array n 1
-.push
-  mov qword ptr [n], 5
-  mov rax, qword ptr [n]
-  cmp rax, 5
-  assert ne
-  mov rax, 0
-  ret
-.end
-.pop
-  mov rbx, qword ptr [n]
-  mov rdx, 0
-  mov rax, 0
-  ret
-.end
-.thread push 7
-.thread pop
-";
-
-const OWN_STORE_TRACE: &str = "tso-trace 1
-0 call push 7
-0 write n[0] = 5
-1 call pop
-1 read n[0] = 0
-0 read n[0] = 5
 0 reg
 0 fault assert
 ";

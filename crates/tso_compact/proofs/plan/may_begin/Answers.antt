@@ -1,4 +1,4 @@
-use Rattle.std.proofs.Common.{◌≡◌, false, length, ◌==◌, sym, ◌∙◌}
+use Rattle.std.proofs.Common.{length, sym, ◌∙◌}
 use Rattle.tso_compact.proofs.PlanLemmas.{over_nowhere, over_there, waits}
 use Rattle.tso_compact.proofs.plan.may_begin.Goals as goal
 

@@ -1,5 +1,5 @@
 use Rattle.std.proofs.Common.{◌≡◌, ◌∙◌, ap}
-use Rattle.tso_compact.proofs.PlanLemmas.{IsCoreMotion, IsDrainMotion, IsPlan, drain_plan, exec_plan, no_plan}
+use Rattle.tso_compact.proofs.PlanLemmas.{IsCoreMotion, IsDrainMotion, drain_plan, exec_plan, no_plan}
 use Rattle.tso_compact.specs.Plans.{procedure_in}
 use Rattle.tso_state.specs.Views.{running_procedure}
 use Rattle.tso_compact.proofs.plan.planned.Goals as goal

@@ -1,11 +1,19 @@
-use Rattle.std.proofs.Common.{◌∙◌, Some, ap}
-use Rattle.std.specs.Option.{option_map}
-use Rattle.tso_compact.specs.Plans.{kind_of_move, procedure_in, thread_in}
-use Rattle.tso_state.specs.Actors.{thread_of}
+use Rattle.std.proofs.Common.{◌∙◌}
+use Rattle.tso_compact.proofs.SortLemmas.{drain_kind, exec_kind, no_kind}
+use Rattle.tso_compact.specs.Plans.{procedure_in}
 use Rattle.tso_compact.proofs.sort.kind.Goals as goal
 
-pub returns-in-Some : goal.returns-in-Some
-returns-in-Some g c =
+pub returns-in_err-thread : goal.returns-in_err-thread
+returns-in_err-thread g c =
+    no_kind c.args.checked.now.client (g.S.Viewed.state c.args.state.now) c.args.actor c.thread-number.result c.from_residual.result c.thread-number.ensures c.in_err-thread.ensures c.from_residual.ensures
+
+pub returns-in-Exec : goal.returns-in-Exec
+returns-in-Exec g c =
+    c.core_kind.ensures
+    ∙ exec_kind c.args.checked.now.client (g.S.Viewed.state c.args.state.now) c.args.actor c.in-Exec.field-0 c.thread-number.result c.in_ok-thread.thread.now c.in-Exec.is c.thread-number.ensures c.in_ok-thread.ensures
+
+pub returns-in-Drain : goal.returns-in-Drain
+returns-in-Drain g c =
     let s = g.S.Viewed.state c.args.state.now in
-    let i = thread_of c.args.actor in
-    ap Some (c.kind_of.ensures (procedure_in s i) (thread_in s i)) ∙ ap (option_map kind_of_move) c.in-Some.ensures.is
+    c.drain_kind.ensures (procedure_in s c.thread-number.result)
+    ∙ drain_kind c.args.checked.now.client s c.args.actor c.in-Drain.field-0 c.thread-number.result c.in_ok-thread.thread.now c.in-Drain.is c.thread-number.ensures c.in_ok-thread.ensures

@@ -4,7 +4,8 @@ use Rattle.std.proofs.lemmas.Option.{slice_get-get_or}
 use Rattle.tso_prog.specs.declared.fault.Code.{Code}
 use Rattle.tso_prog.specs.declared.fault.Code.TheVariants.{E14}
 use Rattle.tso_prog.specs.declared.fault.Fault.{Fault}
-use Rattle.tso_flow.specs.Faults.{IsFirst, code_number}
+use Rattle.tso_prog.specs.Codes.{code_number}
+use Rattle.tso_flow.specs.Faults.{IsFirst}
 use Rattle.tso_flow.specs.First.{ReadAt, ReadIn}
 use Rattle.tso_flow.proofs.Firsts.{first_of_none, first_with, first_without}
 use Rattle.tso_flow.proofs.fault.first_read.Goals as goal

@@ -25,11 +25,11 @@ invariant_of-result c =
     let late : is_first c.args.self.part ≡ false = elim c.match-matches.branch [ in-Threads w ↦ ap is_first w.in-Threads.is | in_default w ↦ absurd cc ] in
     let capacity = and_parts (nat_le 1 d.capacity) (nat_le d.capacity 16) (first_open c.args.self.part _ late pri.capacity) in
     record {
-      few_arrays = subst (λ (xs : List Array). length xs ≤ 16) (sym same) lim.few_arrays;
-      few_words = subst (λ (xs : List Array). sum_by (λ a. length a.words) xs ≤ 256) (sym same) (omega (arith, lim.words_are, lim.few_words));
-      few_instructions = omega (arith, push_length, pop_length, lim.few_instructions);
-      few_threads = lim.few_threads;
-      few_calls = omega (arith, lim.calls_are, lim.few_calls);
+      few_arrays = subst (λ (xs : List Array). length xs ≤ 16) (sym same) lim.arrays.few_arrays;
+      few_words = subst (λ (xs : List Array). sum_by (λ a. length a.words) xs ≤ 256) (sym same) (omega (arith, lim.arrays.words_are, lim.arrays.few_words));
+      few_instructions = omega (arith, push_length, pop_length, lim.procedures.few_instructions);
+      few_threads = lim.calls.few_threads;
+      few_calls = omega (arith, lim.calls.calls_are, lim.calls.few_calls);
       some_capacity = leb-true 1 d.capacity capacity.0;
       small_capacity = leb-true d.capacity 16 capacity.1;
       short_names = subst (λ (xs : List Array). list_all (λ a. is_short_name a.name) xs ≡ true) (sym same) (list_all_weaker is_array (λ (a : Array). is_short_name a.name) (λ a e. (and_parts (is_short_name a.name) (are_words a.words) e).0) d.arrays pri.arrays);

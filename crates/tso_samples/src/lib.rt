@@ -1,0 +1,17 @@
+//! Texts of programs and traces, one place for the tests and benchmarks of all crates.
+#![tactic(auto)]
+
+mod programs;
+mod small;
+mod traces;
+
+pub use programs::{
+    BOTH_STORE, DEKKER, EXCHANGE, LAMPORT, LAMPORT_FENCED, LATE_DATA, OWN_STORE, PROLOGUE, SPIN,
+    VYUKOV, VYUKOV22,
+};
+pub use small::{
+    BAD_ANSWER, BOTH_EXCHANGE, BOUNDED, BOUNDED_AFTER_PUSH, BOUNDED_BESIDE_POPS, COMPARE_EXCHANGE,
+    EXCHANGE_ADD, EXCHANGE_AND_STORE, ONE_REFUSAL, ONE_REFUSAL_STRICT, OUTSIDE, OWN_STORE_AND_RING,
+    STORE_BUFFERING, STORE_BUFFERING_FENCED, TWO_CELLS,
+};
+pub use traces::{EXCHANGE_TRACE, LAMPORT_TRACE, OWN_STORE_TRACE};
