@@ -1,5 +1,5 @@
 -- The masks of a thread's future have what the model says.
-use Rattle.std.proofs.Common.{◌≡◌, ◌∙◌, ℕ, suc, zero, ◌<◌, Bool, true, false, ◌||◌, ◌==◌, List, [], ◌∷◌, length, map, drop, Option, None, Some, slice_get, slice_index_or, refl, sym, ap, subst, arith}
+use Rattle.std.proofs.Common.{◌≡◌, ◌∙◌, ℕ, suc, zero, ◌<◌, Bool, true, ◌==◌, List, [], ◌∷◌, length, map, drop, Option, None, Some, slice_get, slice_index_or, refl, sym, ap, arith}
 use Rattle.std.specs.Prelude.{bit_or}
 use Rattle.std.specs.List.{fold, sum_by}
 use Rattle.std.specs.Option.{option_map}
@@ -8,11 +8,12 @@ use Rattle.std.proofs.lemmas.List.{drop-map}
 use Rattle.std.proofs.lemmas.List.Concat.{length-flat_map}
 use Rattle.tso_flow.specs.Calls.{kind_of}
 use Rattle.tso_flow.specs.declared.location.ProcedureKind.{ProcedureKind}
-use Rattle.tso_foot.proofs.MaskLemmas.{left_place, no_place, or_either, own_array, right_place, some_array}
+use Rattle.tso_foot.proofs.BitLemmas.{or_either}
+use Rattle.tso_foot.proofs.MaskLemmas.{left_place, own_array, right_place, some_array}
 use Rattle.tso_foot.proofs.TableLemmas.{closed_is_the_models}
-use Rattle.tso_foot.specs.Closed.{IsClosed, items_of}
-use Rattle.tso_foot.specs.Futures.{buffer_mask, calls_masks, calls_to_come, core_masks, future_if, future_masks, future_of}
-use Rattle.tso_foot.specs.Laws.{AreForeseen, FuturesHold, HoldsFuture, RunsAreForeseen, table_view}
+use Rattle.tso_foot.specs.Closed.{items_of}
+use Rattle.tso_foot.specs.Futures.{buffer_mask, calls_masks, calls_to_come, core_masks, future_if}
+use Rattle.tso_foot.specs.Laws.{FuturesHold, RunsAreForeseen, table_view}
 use Rattle.tso_foot.specs.Masks.{array_mask, array_of, has_place, masks_at, no_masks, union}
 use Rattle.tso_foot.specs.declared.masks.Masks.{Masks}
 use Rattle.tso_foot.specs.declared.table.Table.{Table}
@@ -22,15 +23,12 @@ use Rattle.tso_machine.proofs.CallLists.{calls_of_thread}
 use Rattle.tso_machine.proofs.Ranked.{ranked}
 use Rattle.tso_machine.specs.Activations.{Activation}
 use Rattle.tso_machine.specs.Machines.{entry_view}
-use Rattle.tso_machine.specs.Places.{first_memory}
 use Rattle.tso_machine.specs.Programs.{calls_in, calls_of, program_of, start_of}
 use Rattle.tso_machine.specs.Soundness.{is_sound_or_past_end, rank}
 use Rattle.tso_machine.specs.declared.buffer.Entry.{Entry}
 use Rattle.tso_model.proofs.Futures as model
-use Rattle.tso_model.specs.Futures.{HasDrainOf, HasReadOf}
 use Rattle.tso_model.specs.Programs as programs
-use Rattle.tso_model.specs.States.{begun_by}
-use Rattle.tso_model.specs.Table.{buffer_has, calls_left, core_has, future_reads, future_writes, some_call, thread_reads, thread_writes}
+use Rattle.tso_model.specs.Table.{buffer_has, calls_left, core_has, some_call, thread_reads, thread_writes}
 use Rattle.tso_prog.specs.Views.{call_view}
 use Rattle.tso_prog.specs.declared.client.Array.{Array}
 use Rattle.tso_prog.specs.declared.client.Client.{Client}

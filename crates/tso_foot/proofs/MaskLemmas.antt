@@ -1,13 +1,13 @@
 -- Masks of arrays, and the arrays of places.
-use Rattle.std.proofs.Common.{◌≡◌, ◌∙◌, ℕ, zero, suc, ◌+◌, ◌-◌, ◌*◌, ◌<◌, ◌≤◌, ◌==◌, ◌||◌, ◌&&◌, Bool, true, false, nat_lt, List, [], ◌∷◌, length, take, Option, None, Some, slice_get, ℤ, pos, negsuc, refl, sym, ap, subst, arith, if◌then◌else◌}
-use Rattle.std.specs.Int.{bit_at}
-use Rattle.std.specs.Prelude.{bit_or, max, ◌^◌}
+use Rattle.std.proofs.Common.{◌≡◌, ◌∙◌, ℕ, zero, suc, ◌+◌, ◌-◌, ◌<◌, ◌≤◌, ◌==◌, Bool, true, false, nat_lt, List, [], ◌∷◌, length, take, Option, None, Some, slice_get, ℤ, pos, negsuc, refl, sym, ap, arith, if◌then◌else◌}
+use Rattle.std.specs.Prelude.{bit_or, ◌^◌}
 use Rattle.std.specs.List.{sum_by}
 use Rattle.std.specs.Option.{option_map}
 use Rattle.std.proofs.lemmas.Bool.{and_parts, eqb-true, le-ltb, lt-ltb, ltb-false, ltb-true}
-use Rattle.std.proofs.lemmas.Nat.Bits.{bit_at-lt, bit_at-pow_same, bit_at-zero, bit_at_or}
+use Rattle.std.proofs.lemmas.Nat.Bits.{bit_at-pow_same, bit_at-zero}
 use Rattle.std.proofs.lemmas.Option.{none-some, same_Some}
 use Rattle.std.proofs.lemmas.List.Sums.{sum_by-cons}
+use Rattle.tso_foot.proofs.BitLemmas.{has_array-or, or_left, or_right}
 use Rattle.tso_foot.specs.Masks.{array_of, covers, has_array, has_place, has_some, holds}
 use Rattle.tso_foot.specs.declared.masks.Masks.{Masks}
 use Rattle.tso_machine.specs.Places.{first_place, place_in, place_of}
@@ -16,32 +16,6 @@ use Rattle.tso_prog.specs.declared.client.Array.{Array}
 -- the number of an array that stands so many further on
 abbrev pub moved_on : ℕ → Option ℕ → Option ℕ
 moved_on n o = option_map (λ k. k + n) o
-
--- ---- bits
-
-bit_of_or : (x y : ℕ) → x < 2 → y < 2 → (max x y == 1) ≡ ((x == 1) || (y == 1))
-bit_of_or zero zero p q = refl
-bit_of_or zero (suc zero) p q = refl
-bit_of_or (suc zero) zero p q = refl
-bit_of_or (suc zero) (suc zero) p q = refl
-bit_of_or (suc (suc x)) y p q = absurd (omega arith)
-bit_of_or x (suc (suc y)) p q = absurd (omega arith)
-
--- the arrays of a union
-pub has_array-or : (a b k : ℕ) → has_array (bit_or a b) k ≡ (has_array a k || has_array b k)
-has_array-or a b k = ap (λ n. n == 1) (bit_at_or a b k) ∙ bit_of_or (bit_at a k) (bit_at b k) (bit_at-lt a k) (bit_at-lt b k)
-
-or_right : (x y : Bool) → y ≡ true → (x || y) ≡ true
-or_right true y e = refl
-or_right false y e = e
-
-or_left : (x y : Bool) → x ≡ true → (x || y) ≡ true
-or_left true y e = refl
-or_left false y e = absurd cc
-
-pub or_either : (x y z : Bool) → (x ≡ true → z ≡ true) → (y ≡ true → z ≡ true) → (x || y) ≡ true → z ≡ true
-or_either true y z f g e = f refl
-or_either false y z f g e = g e
 
 pub covers_has : (m o k : ℕ) → covers m o ≡ true → has_array o k ≡ true → has_array m k ≡ true
 covers_has m o k c h = ap (λ n. has_array n k) (sym (eqb-true (bit_or m o) m c)) ∙ has_array-or m o k ∙ or_right (has_array m k) (has_array o k) h

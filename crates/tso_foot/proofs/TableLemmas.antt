@@ -1,16 +1,16 @@
 -- A closed table is closed in the model's sense.
-use Rattle.std.proofs.Common.{◌≡◌, ◌∙◌, ℕ, ◌<◌, ◌≤◌, Bool, true, false, ◌&&◌, List, length, Option, None, Some, ◌⊎◌, inl, inr, slice_get, refl, sym, ap, subst, arith}
+use Rattle.std.proofs.Common.{◌≡◌, ◌∙◌, ℕ, ◌<◌, ◌≤◌, true, List, length, Option, None, Some, ◌⊎◌, inl, inr, refl, sym, ap, subst, arith}
 use Rattle.std.proofs.lemmas.Bool.{cases_lt}
-use Rattle.std.proofs.lemmas.Option.{slice_get_cases, slice_get_past, slice_get_within, get_or_from_slice_get, slice_get-get_or}
+use Rattle.std.proofs.lemmas.Option.{slice_get_past, slice_get_within, slice_get-get_or}
 use Rattle.tso_compact.proofs.PlanLemmas.{none_there}
-use Rattle.tso_flow.specs.Paths.{goes_on, goes_on_from, is_edge, leaves}
+use Rattle.tso_flow.specs.Paths.{goes_on, goes_on_from}
 use Rattle.tso_flow.specs.declared.location.ProcedureKind.{ProcedureKind}
 use Rattle.tso_flow.specs.declared.location.ProcedureKind.TheVariants as procedures
 use Rattle.tso_foot.proofs.AccessLemmas.{HasAccess, next_has_own, none_next}
 use Rattle.tso_foot.proofs.MaskLemmas.{covers_place, holds_reads, holds_writes, no_place}
 use Rattle.tso_foot.specs.Closed.{IsClosed, IsItem, IsListClosed, items_of}
 use Rattle.tso_foot.specs.Laws.{ClosedIsTheModels, table_view}
-use Rattle.tso_foot.specs.Masks.{has_place, holds, masks_at, no_masks, own_masks}
+use Rattle.tso_foot.specs.Masks.{has_place, masks_at, no_masks, own_masks}
 use Rattle.tso_foot.specs.declared.masks.Masks.{Masks}
 use Rattle.tso_foot.specs.declared.table.Table.{Table}
 use Rattle.tso_line.specs.declared.instruction.Instruction.{Instruction}

@@ -3,11 +3,10 @@ use Rattle.std.specs.Prelude.{◌≡◌, ℕ, ◌<◌, ◌^◌, List, length, So
 use Rattle.tso_flow.specs.Paths.{goes_on}
 use Rattle.tso_flow.specs.declared.location.ProcedureKind.{ProcedureKind}
 use Rattle.tso_flow.specs.declared.location.ProcedureKind.TheVariants as procedures
-use Rattle.tso_foot.specs.Masks.{holds, masks_at, own_masks}
+use Rattle.tso_foot.specs.Masks.{has_array, holds, masks_at, own_masks}
 use Rattle.tso_foot.specs.declared.masks.Masks.{Masks}
 use Rattle.tso_foot.specs.declared.table.Table.{Table}
 use Rattle.tso_line.specs.declared.instruction.Instruction.{Instruction}
-use Rattle.tso_machine.specs.Instructions.{instructions_of}
 use Rattle.tso_prog.specs.declared.client.Client.{Client}
 
 -- The item of the instruction at i: no array but the client's, all that the instruction itself reads and writes, and the items of its
@@ -32,3 +31,21 @@ items_of t procedures.Pop = t.pop
 pub record IsClosed (c : Client) (t : Table) : Type 0 where
   pub push : IsListClosed (length c.arrays) c.push.instructions t.push
   pub pop : IsListClosed (length c.arrays) c.pop.instructions t.pop
+
+-- each array of the others' items is in these
+pub record IsAbove (items others : List Masks) : Type 0 where
+  pub reads : (i k : ℕ) → IsTrue (has_array (masks_at others i).reads k) → IsTrue (has_array (masks_at items i).reads k)
+  pub writes : (i k : ℕ) → IsTrue (has_array (masks_at others i).writes k) → IsTrue (has_array (masks_at items i).writes k)
+
+-- so it is in both procedures
+pub record IsTableAbove (table other : Table) : Type 0 where
+  pub push : IsAbove table.push other.push
+  pub pop : IsAbove table.pop other.pop
+
+-- no closed list of items has less than these
+abbrev pub IsBelowClosed : ℕ → List (Instruction ℕ ℕ) → List Masks → Type 0
+IsBelowClosed arrays steps items = (others : List Masks) → IsListClosed arrays steps others → IsAbove others items
+
+-- no closed table of the client has less than this one
+abbrev pub IsLeastClosed : Client → Table → Type 0
+IsLeastClosed c t = (other : Table) → IsClosed c other → IsTableAbove other t

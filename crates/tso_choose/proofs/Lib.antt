@@ -1,0 +1,4 @@
+pub mod ChoiceLemmas
+pub mod ChoosingLemmas
+pub mod ClosureLemmas
+pub mod NeedLemmas

@@ -1,0 +1,11 @@
+pub mod Rows
+pub mod Recalls
+pub mod Performed
+pub mod Sheeted
+pub mod Closing
+pub mod Views
+pub mod Absences
+pub mod Ordered
+pub mod Risen
+pub mod Histories
+pub mod Ranked

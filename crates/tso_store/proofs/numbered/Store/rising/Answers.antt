@@ -1,0 +1,8 @@
+use Rattle.tso_store.proofs.numbered.Store.rising.Goals as goal
+
+pub new-requires-clause-ranks : goal.new-requires-clause-ranks
+new-requires-clause-ranks c = record {
+  memories = rw c.as_slice.ensures.value c.in_ok-memories.ensures;
+  threads = rw c.as_slice-2.ensures.value c.in_ok-threads.ensures;
+  histories = rw c.as_slice-3.ensures.value c.in_ok-histories.ensures;
+}

@@ -1,0 +1,80 @@
+-- How kept values and states are ordered.
+use Rattle.std.specs.Prelude.{◌≡◌, ℕ, zero, suc, true, false, List, [], ◌∷◌, ◌++◌, Option, Some, None, length, slice_get}
+use Rattle.std.specs.List.Sorted.{IsPartitionPoint, IsPermutation, IsSortedBy}
+use Rattle.std.specs.Option.{option_cmp}
+use Rattle.std.specs.Ordering.{is_lt, nat_cmp}
+use Rattle.std.specs.Cmp.Lexicographic.{slice_cmp}
+use Rattle.std.specs.declared.cmp.Ordering.{Ordering}
+use Rattle.tso_state.specs.Order.{state_cmp}
+use Rattle.tso_state.specs.declared.state.State.{State}
+use Rattle.tso_hist.specs.contracts.call.CallOrd.TheImpl as call_impl
+use Rattle.tso_state.specs.contracts.state.ThreadOrd.TheImpl as thread_impl
+use Rattle.tso_store.specs.Numbers.{AreNumbersOf}
+use Rattle.tso_prog.specs.declared.client.Client.{Client}
+use Rattle.tso_store.specs.Keys.{AreKept}
+use Rattle.tso_store.specs.declared.key.Key.{Key}
+use Rattle.tso_store.specs.declared.parts.Parts.{Parts}
+use Rattle.tso_store.specs.declared.ranks.Ranks.{Ranks}
+
+-- this is the order of the values with these numbers
+abbrev pub IsOrderOfParts : {X : Type 0} → (X → X → Ordering) → List X → ℕ → ℕ → Ordering → Type 0
+IsOrderOfParts {X} R pool n m o = (x y : X) → slice_get pool n ≡ Some x → slice_get pool m ≡ Some y → o ≡ R x y
+
+-- this is the order of the numbers at two places
+pub record IsOrderOfRanks (ranks : List ℕ) (n m : ℕ) (o : Ordering) : Type 0 where
+  pub first : ℕ
+  pub second : ℕ
+  pub first_at : slice_get ranks n ≡ Some first
+  pub second_at : slice_get ranks m ≡ Some second
+  pub order : o ≡ nat_cmp first second
+
+-- this is the order of two lists of as many values with these numbers
+abbrev pub IsOrderOfRows : {X : Type 0} → (X → X → Ordering) → List X → List ℕ → List ℕ → Ordering → Type 0
+IsOrderOfRows {X} R pool ns ms o = (xs ys : List X) → AreNumbersOf pool ns xs → AreNumbersOf pool ms ys → length xs ≡ length ys → o ≡ slice_cmp R xs ys
+
+-- this is the order of the states with these numbers
+pub record IsOrderOf (states : List State) (n m : ℕ) (o : Ordering) : Type 0 where
+  pub first : State
+  pub second : State
+  pub first_at : slice_get states n ≡ Some first
+  pub second_at : slice_get states m ≡ Some second
+  pub order : o ≡ state_cmp first second
+
+-- that order, or that one of the states is not there
+abbrev pub IsCompared : List State → ℕ → ℕ → Option Ordering → Type 0
+IsCompared states n m None = (s t : State) → slice_get states n ≡ Some s → slice_get states m ≡ Some t → ⊥
+IsCompared states n m (Some o) = IsOrderOf states n m o
+
+-- 0, 1, and so on, so many
+abbrev pub numbers_below : ℕ → List ℕ
+numbers_below zero = []
+numbers_below (suc n) = numbers_below n ++ n ∷ []
+
+-- all numbers of the states, none before one whose state is less
+pub record IsRising (states : List State) (ns : List ℕ) : Type 0 where
+  pub all : IsPermutation (numbers_below (length states)) ns
+  pub rising : IsSortedBy (λ n m. is_lt (option_cmp state_cmp (slice_get states n) (slice_get states m))) ns
+
+-- these numbers are those of a pool, none before one whose value is less
+pub record IsInOrder {X : Type 0} (R : X → X → Ordering) (pool : List X) (ns : List ℕ) : Type 0 where
+  pub all : IsPermutation (numbers_below (length pool)) ns
+  pub rising : IsSortedBy (λ n m. is_lt (option_cmp R (slice_get pool n) (slice_get pool m))) ns
+
+-- so many of the numbers are those of values below that of number n, and these come first
+abbrev pub IsRankIn : {X : Type 0} → (X → X → Ordering) → List X → List ℕ → ℕ → ℕ → Type 0
+IsRankIn R pool ns n r = IsPartitionPoint (λ m. is_lt (option_cmp R (slice_get pool m) (slice_get pool n)) ≡ true) (λ m. is_lt (option_cmp R (slice_get pool m) (slice_get pool n)) ≡ false) ns r
+
+-- values of a pool are ordered as their numbers here, where they have one
+pub record AreRanks {X : Type 0} (R : X → X → Ordering) (pool : List X) (ranks : List ℕ) : Type 0 where
+  pub alike : (n m r s : ℕ) → slice_get ranks n ≡ Some r → slice_get ranks m ≡ Some s → nat_cmp r s ≡ option_cmp R (slice_get pool n) (slice_get pool m)
+
+-- these are ranks of the parts of states
+pub record AreRanksOfParts (p : Parts) (r : Ranks) : Type 0 where
+  pub memories : AreRanks (slice_cmp nat_cmp) p.memories r.memories.now
+  pub threads : AreRanks thread_impl.cmp-value.it p.threads r.threads.now
+  pub histories : AreRanks (slice_cmp (slice_cmp call_impl.cmp-value.it)) p.histories r.histories.now
+
+-- keys of a client's states, and ranks of their parts
+pub record IsRanking (c : Client) (p : Parts) (ks : List Key) (r : Ranks) : Type 0 where
+  pub kept : AreKept c p ks
+  pub ranks : AreRanksOfParts p r

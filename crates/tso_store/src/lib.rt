@@ -1,0 +1,24 @@
+//! Numbered states whose parts are kept once. Contracts see a client and the list of its states, plain values, all different.
+#![tactic(auto)]
+
+mod fault;
+mod history_after;
+mod kept;
+mod key;
+mod known;
+mod lookup;
+mod numbered;
+mod orders;
+mod parts;
+mod ranking;
+mod ranks;
+mod sought;
+mod stepped;
+mod thread_after;
+mod view;
+
+pub use fault::AddError;
+pub use numbered::Store;
+pub use sought::Found;
+pub use tso_parts::Refused;
+pub use view::View;

@@ -1,0 +1,238 @@
+//! A client and its states, each once, by number.
+ghost use Rattle.std.specs.Prelude.{◌≡◌, ◌↔◌, ◌+◌, ◌<◌, ◌≤◌, ◌^◌, List, [], length, Some, None, Err, IfOk, OnErr, IfSome, MatchOption, slice_get};
+ghost use Rattle.tso_parts.specs.Numbers.{IsNumbered, IsNowhere};
+ghost use Rattle.tso_parts.specs.declared.refused.Refused.TheVariants as reasons;
+ghost use Rattle.tso_store.specs.Keys.{FitsClient};
+ghost use Rattle.tso_store.specs.Orders.{IsCompared, IsRising};
+ghost use Rattle.tso_store.specs.Sheets.{CanStep, IsAdded, IsFound, IsSuccessorOrNone};
+ghost use Rattle.tso_store.specs.declared.fault.AddError.TheVariants as errors;
+
+use crate::fault::AddError;
+use crate::kept::{find_key, fits_client, key_of};
+use crate::key::Key;
+use crate::known::Known;
+use crate::parts::Parts;
+use crate::ranking::{Ranking, key_at};
+use crate::ranks::{Ranks, ranks_of};
+use crate::sought::{Found, Sought, find_step};
+use crate::stepped::step_key;
+use crate::view::{View, copy_of};
+use std::alloc::{AllocError, Global};
+use std::cmp::Ordering;
+use std::marker::Model;
+use tso_flow::Checked;
+use tso_list::Seq;
+use tso_parts::{Catalog, Pool, Refused};
+use tso_state::{Actor, State};
+
+/// A client and its states, numbered from 0 in the order in which they came. A state's number stays as more come.
+#[derive(Drop)]
+pub struct Store<'a> {
+    checked: &'a Checked,
+    parts: Parts,
+    keys: Pool<Key>,
+    known: Seq<Known>,
+}
+
+impl<'a> Model for Store<'a> {
+    ghost use Rattle.tso_store.specs.Sheets.{Sheet, IsSheet};
+    ghost use Rattle.std.specs.Prelude.{◌+◌, length};
+    ghost use Rattle.tso_store.specs.Keys.{part_count, states_at};
+
+    ghost Value = { Sheet };
+
+    ghost view = { λ s. record { client = s.checked.now.client; states = states_at s.parts s.keys; kept = part_count s.parts + length s.keys } };
+
+    ghost invariant = { λ s. IsSheet s.checked.now.client s.parts s.keys s.known };
+}
+
+impl<'a> Store<'a> {
+    /// A store with no state. Its parts and states are hashed by this seed: whoever makes the states and does not know the
+    /// seed cannot tell which of them collide.
+    pub fn new(alloc: Global, checked: &'a Checked, seed: u64) -> Self
+        ensures client { result.client ≡ checked.now.client }
+        ensures states { result.states ≡ [] }
+        ensures kept { result.kept ≡ 0 }
+    {
+        Store {
+            checked,
+            parts: Parts {
+                memories: Catalog::new(alloc, seed),
+                histories: Catalog::new(alloc, seed),
+                threads: Catalog::new(alloc, seed),
+            },
+            keys: Pool::new(alloc, seed),
+            known: Seq::new(alloc),
+        }
+    }
+
+    /// How many states there are.
+    pub fn len(&self) -> usize
+        ensures { result ≡ length self.now.states }
+    {
+        self.keys.len()
+    }
+
+    /// State `number`, if there are so many. It is read where it is kept, without a copy and without memory.
+    pub fn view(&self, number: u32) -> Option<View<'_>>
+        ensures state { result ≡ slice_get self.now.states number }
+        ensures fits { IfSome result (FitsClient self.now.client) }
+    {
+        match self.keys.get(number) {
+            Some(key) => View::of_key(&self.parts, key),
+            None => None,
+        }
+    }
+
+    /// A copy of state `number`, if there are so many.
+    ///
+    /// Errors: where there is such a state and a growth was refused.
+    pub fn state(&self, alloc: Global, number: u32) -> Result<Option<State>, AllocError>
+        ensures state { IfOk result (λ s. s ≡ slice_get self.now.states number) }
+        ensures err { OnErr result (number < length self.now.states) }
+    {
+        match self.view(number) {
+            Some(view) => Ok(Some(copy_of(alloc, &view)?)),
+            None => Ok(None),
+        }
+    }
+
+    /// The number of a state, and whether it is new; it is kept then.
+    ///
+    /// Errors: `Misfit` exactly where the state has not as many threads, or lists of calls, as the client has threads; `Memory`
+    /// where a growth was refused; `Full` where there are as many states, or parts of a kind, as numbers. The states stay. A
+    /// state that is kept is never refused.
+    pub fn add(&mut self, state: &State) -> Result<(u32, bool), AddError>
+        ensures added { IfOk result (IsAdded self.old.states self.new.states state.now) }
+        ensures err { OnErr result (self.new.states ≡ self.old.states) }
+        ensures absent { OnErr result (IsNowhere self.old.states state.now) }
+        ensures full { result ≡ Err errors.Full → 4294967295 ≤ self.new.kept }
+        ensures more { self.new.kept ≤ self.old.kept + 8 }
+        ensures misfit { (result ≡ Err errors.Misfit) ↔ (FitsClient self.old.client state.now → ⊥) }
+        ensures client { self.new.client ≡ self.old.client }
+    {
+        if !fits_client(&self.checked.client, state) {
+            return Err(AddError::Misfit);
+        }
+        let key = key_of(&mut self.parts, state)?;
+        self.parts.threads.is_numbered();
+        self.parts.memories.is_numbered();
+        self.parts.histories.is_numbered();
+        let result = self.keys.add(key)?;
+        Ok(result)
+    }
+
+    /// The number of a state, if it is kept. It takes no memory.
+    pub fn find(&self, state: &State) -> Option<u32>
+        ensures { MatchOption result (IsNowhere self.now.states state.now) (λ n. slice_get self.now.states n ≡ Some state.now) }
+    {
+        if !fits_client(&self.checked.client, state) {
+            return None;
+        }
+        self.parts.threads.is_numbered();
+        self.parts.memories.is_numbered();
+        self.parts.histories.is_numbered();
+        match find_key(&self.parts, state) {
+            Some(key) => self.keys.find(&key),
+            None => None,
+        }
+    }
+
+    /// The number of the state after the actor's step from state `number`, and whether it is new; it is kept then. `None`
+    /// exactly where there is no such step, also where there is no such state.
+    ///
+    /// Errors: where there is such a step, and a growth was refused (`Memory`), or there are as many states, or parts of a
+    /// kind, as numbers (`Full`). The states stay.
+    pub fn successor(
+        &mut self,
+        alloc: Global,
+        number: u32,
+        actor: Actor,
+    ) -> Result<Option<(u32, bool)>, Refused>
+        ensures step { IfOk result (IsSuccessorOrNone self.old.client self.old.states self.new.states number actor) }
+        ensures err { OnErr result (self.new.states ≡ self.old.states) }
+        ensures full { result ≡ Err reasons.Full → 4294967295 ≤ self.new.kept }
+        ensures more { self.new.kept ≤ self.old.kept + 4 }
+        ensures some { OnErr result (CanStep self.old.client self.old.states number actor) }
+        ensures client { self.new.client ≡ self.old.client }
+    {
+        let Some(key) = key_at(&self.keys, number) else {
+            return Ok(None);
+        };
+        let Some(next) = step_key(
+            alloc,
+            &self.checked.client,
+            &mut self.parts,
+            &mut self.known,
+            &key,
+            actor,
+        )?
+        else {
+            return Ok(None);
+        };
+        let result = self.keys.add(next)?;
+        Ok(Some(result))
+    }
+
+    /// The number of the state after the actor's step from state `number`, if there is such a step and the state is kept. It
+    /// changes nothing and takes no memory, so that many threads may ask at once.
+    pub fn find_successor(&self, number: u32, actor: Actor) -> Found
+        ensures { IsFound self.now.client self.now.states number actor result }
+    {
+        let Some(key) = key_at(&self.keys, number) else {
+            return Found::Disabled;
+        };
+        self.parts.threads.is_numbered();
+        self.parts.memories.is_numbered();
+        self.parts.histories.is_numbered();
+        match find_step(&self.checked.client, &self.parts, &self.known, &key, actor) {
+            Sought::Disabled => Found::Disabled,
+            Sought::Absent => Found::Absent,
+            Sought::At(next) => match self.keys.find(&next) {
+                Some(number) => Found::At(number),
+                None => Found::Absent,
+            },
+        }
+    }
+
+    /// How two states are ordered, if there are so many: memory, threads, history, each as lists are. Parts with one number are
+    /// equal, and only the first part that differs is read. It takes no memory.
+    pub fn compare(&self, a: u32, b: u32) -> Option<Ordering>
+        ensures { IsCompared self.now.states a b result }
+    {
+        let ranks = Ranks {
+            memories: &[],
+            threads: &[],
+            histories: &[],
+        };
+        Ranking::new(&self.checked.client, &self.parts, &self.keys, ranks).compare(a, b)
+    }
+
+    /// The numbers of all states, in the order of the states. Each memory, thread and history is ranked among its kind first,
+    /// and states are then ordered by ranks.
+    ///
+    /// Errors: where a growth was refused.
+    pub fn rising(&self, alloc: Global) -> Result<Vec<u32>, AllocError>
+        ensures { IfOk result (λ ns. IsRising self.now.states ns.items) }
+    {
+        let memories = ranks_of(alloc, &self.parts.memories)?;
+        let threads = ranks_of(alloc, &self.parts.threads)?;
+        let histories = ranks_of(alloc, &self.parts.histories)?;
+        let ranks = Ranks {
+            memories: memories.as_slice(),
+            threads: threads.as_slice(),
+            histories: histories.as_slice(),
+        };
+        Ranking::new(&self.checked.client, &self.parts, &self.keys, ranks).rising(alloc)
+    }
+
+    /// Two states with different numbers differ. This function does nothing when it runs.
+    pub fn states_differ(&self)
+        ensures { IsNumbered self.now.states }
+    {
+        self.parts.threads.is_numbered();
+        self.parts.memories.is_numbered();
+        self.parts.histories.is_numbered();
+        self.keys.is_numbered();
+    }
+}

@@ -1,0 +1,116 @@
+//! A kept state, read where it is kept.
+ghost use Rattle.std.specs.Prelude.{◌≡◌, IfOk};
+ghost use Rattle.tso_store.specs.Numbers.{values_at};
+
+use crate::key::Key;
+use crate::parts::Parts;
+use std::alloc::{AllocError, Global};
+use std::marker::Model;
+use tso_hist::{Call, History};
+use tso_list::Seq;
+use tso_parts::Catalog;
+use tso_state::{State, Thread, Viewed};
+
+/// A kept state. Contracts see the state.
+#[derive(Drop)]
+pub struct View<'a> {
+    memory: &'a Seq<u64>,
+    history: &'a History,
+    threads: &'a Catalog<Thread>,
+    numbers: [u32; 5],
+}
+
+impl<'a> Model for View<'a> {
+    ghost use Rattle.std.specs.Prelude.{◌≡◌, ◌<◌, ◌^◌, length};
+    ghost use Rattle.tso_state.specs.declared.state.State.{State as StateValue};
+    ghost use Rattle.tso_store.specs.Numbers.{values_at};
+    ghost use Rattle.tso_store.specs.Keys.{IsViewed};
+
+    ghost Value = { StateValue };
+
+    ghost view = { λ v. record { memory = v.memory.now; threads = values_at v.threads.now v.numbers; history = v.history.now } };
+
+    ghost invariant = { λ v. IsViewed v.threads.now v.numbers v.history.now };
+}
+
+impl<'a> Viewed for View<'a> {
+    ghost state = { λ s. s };
+
+    fn memory(&self) -> &[u64] {
+        self.memory.as_slice()
+    }
+
+    fn thread_count(&self) -> usize {
+        self.history.threads().len()
+    }
+
+    fn thread(&self, number: usize) -> Option<&Thread> {
+        match self.numbers.as_slice().get(number) {
+            Some(number) => self.threads.get(*number),
+            None => None,
+        }
+    }
+
+    fn history_count(&self) -> usize {
+        self.history.threads().len()
+    }
+
+    fn calls(&self, number: usize) -> Option<&[Call]> {
+        let calls = self.history.threads().get(number)?;
+        Some(calls.as_slice())
+    }
+}
+
+impl<'a> View<'a> {
+    ghost use Rattle.std.specs.Prelude.{◌^◌, ◌<◌, Some, length};
+    ghost use Rattle.tso_store.specs.Keys.{IsKept, state_at};
+    ghost use Rattle.tso_prog.specs.declared.client.Client.{Client};
+
+    /// The state of a key, where it is kept.
+    pub(crate) fn of_key(parts: &'a Parts, key: &Key) -> Option<View<'a>>
+        requires kept { (c : Client) × IsKept c parts.now key.now }
+        requires small { length parts.now.threads < 2 ^ 32 }
+        ensures { result ≡ Some (state_at parts.now key.now) }
+    {
+        let memory = parts.memories.get(key.memory)?;
+        let history = parts.histories.get(key.history)?;
+        Some(View {
+            memory,
+            history,
+            threads: &parts.threads,
+            numbers: key.threads,
+        })
+    }
+}
+
+// The threads with these numbers.
+fn copied_threads(
+    alloc: Global,
+    threads: &Catalog<Thread>,
+    numbers: &[u32],
+) -> Result<Seq<Thread>, AllocError>
+    ensures { IfOk result (λ ts. ts ≡ values_at threads.now numbers.now) }
+{
+    let mut copies = Seq::new(alloc);
+    for number in numbers {
+        match threads.get(*number) {
+            Some(thread) => copies.push(thread.clone()?)?,
+            None => return Ok(copies),
+        }
+    }
+    Ok(copies)
+}
+
+/// A copy of a kept state.
+pub fn copy_of(alloc: Global, view: &View<'_>) -> Result<State, AllocError>
+    ensures { IfOk result (λ s. s ≡ view.now) }
+{
+    let memory = view.memory.clone()?;
+    let history = view.history.clone()?;
+    let threads = copied_threads(alloc, view.threads, view.numbers.as_slice())?;
+    Ok(State {
+        memory,
+        threads,
+        history,
+    })
+}
