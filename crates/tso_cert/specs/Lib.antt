@@ -1,0 +1,5 @@
+pub mod Trees
+pub mod Certificates
+pub mod Limits
+pub mod Lookup
+pub mod Search

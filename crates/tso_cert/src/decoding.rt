@@ -1,0 +1,158 @@
+//! Certificates read from bytes.
+ghost use Rattle.std.specs.Prelude.{◌≡◌, ◌<◌, ◌≤◌, ℕ, Err, IfOk, min, Ok};
+ghost use Rattle.tso_code.specs.Numbers.{number};
+ghost use Rattle.tso_cert.specs.Certificates.{certificate_at, Decodes, field, fork_at, Gives, leaf_at, magic_at, Spells, tree_at};
+ghost use Rattle.tso_cert.specs.Limits.{IsNoCertificate, PassesLimit, SpellingsAreUnique};
+ghost use Rattle.tso_cert.specs.Trees.{IsWithinLimits, Tree, tree_of};
+ghost use Rattle.tso_foot.specs.declared.table.Table.{Table as FootprintTable};
+
+use crate::cert::Cert;
+use crate::fault::{DecodeError, Fault};
+use std::alloc::Global;
+use tso_code::{Code, ReadError, read_number};
+use tso_foot::Table;
+use tso_rec::{Known, Packed};
+use tso_state::State;
+
+pub(crate) const MAGIC: [u8; 4] = [84, 83, 79, 67];
+
+const RECORDS: u32 = 4_194_304;
+
+const RECORDS_IN_A_LEAF: u32 = 64;
+
+const FORKS: u8 = 64;
+
+// The value at the front of the bytes, and the bytes after it.
+fn field_of<T: Code>(alloc: Global, bytes: &[u8]) -> Result<(T, &[u8]), DecodeError>
+    ensures { Gives (λ x. (x.0, x.1.now)) result (field (T.read_at bytes.now)) }
+{
+    match T::read(alloc, bytes) {
+        Ok(read) => Ok(read),
+        Err(ReadError::Malformed) => Err(DecodeError::Fault(Fault::K01)),
+        Err(ReadError::Memory) => Err(DecodeError::Memory),
+    }
+}
+
+// A leaf behind its byte. Its limit is tested before a record is read.
+#[tactic(auto, unfolding(crate::specs::Certificates::leaf_at))]
+fn leaf_of<'a>(
+    alloc: Global,
+    known: &mut Known,
+    room: u32,
+    bytes: &'a [u8],
+) -> Result<(Cert, u32, &'a [u8]), DecodeError>
+    ensures read { Gives (λ x. (tree_of x.0, x.1, x.2.now)) result (leaf_at room bytes.now) }
+    // A count is no request for memory.
+    ensures ended { (n : ℕ) → 0 < n → n ≤ min 64 room → bytes.now ≡ number n → result ≡ Err (DecodeError.Fault Fault.K01) }
+{
+    let Some((count, rest)) = read_number(bytes) else {
+        return Err(DecodeError::Fault(Fault::K01));
+    };
+    if count > u64::from(RECORDS_IN_A_LEAF.min(room)) {
+        return Err(DecodeError::Fault(Fault::K02));
+    }
+    match Packed::read_among(alloc, known, count, rest) {
+        Ok((records, rest)) => Ok((Cert::Leaf(records), room - count as u32, rest)),
+        Err(ReadError::Malformed) => Err(DecodeError::Fault(Fault::K01)),
+        Err(ReadError::Memory) => Err(DecodeError::Memory),
+    }
+}
+
+// A tree in which at most `depth` forks are inside one another, with at most `room` records.
+#[cycle(tree)]
+#[tactic(auto, using(crate::proofs::Opening::tree_opens))]
+fn branch_of<'a>(
+    alloc: Global,
+    known: &mut Known,
+    depth: u8,
+    room: u32,
+    bytes: &'a [u8],
+) -> Result<(Cert, u32, &'a [u8]), DecodeError>
+    ensures { Gives (λ x. (tree_of x.0, x.1, x.2.now)) result (tree_at depth room bytes.now) }
+{
+    match bytes {
+        [0, rest @ ..] => leaf_of(alloc, known, room, rest),
+        [1, rest @ ..] => {
+            if depth == 0 {
+                Err(DecodeError::Fault(Fault::K02))
+            } else {
+                fork_of(alloc, known, depth - 1, room, rest)
+            }
+        }
+        _ => Err(DecodeError::Fault(Fault::K01)),
+    }
+}
+
+// A fork, in each half of which at most `depth` forks are inside one another.
+#[cycle(tree)]
+fn fork_of<'a>(
+    alloc: Global,
+    known: &mut Known,
+    depth: u8,
+    room: u32,
+    bytes: &'a [u8],
+) -> Result<(Cert, u32, &'a [u8]), DecodeError>
+    ensures { Gives (λ x. (tree_of x.0, x.1, x.2.now)) result (fork_at (tree_at depth) room bytes.now) }
+{
+    let (left, room, rest) = branch_of(alloc, known, depth, room, bytes)?;
+    let (state, rest) = field_of::<State>(alloc, rest)?;
+    let (right, room, rest) = branch_of(alloc, known, depth, room, rest)?;
+    let left = Box::new(alloc, left)?;
+    let right = Box::new(alloc, right)?;
+    Ok((Cert::Fork(left, state, right), room, rest))
+}
+
+// The bytes behind the first four.
+#[tactic(auto, unfolding(crate::specs::Certificates::magic_at))]
+fn behind_magic(bytes: &[u8]) -> Result<&[u8], DecodeError>
+    ensures { Gives (λ x. x.now) result (magic_at bytes.now) }
+{
+    if bytes.len() < MAGIC.len() {
+        return Err(DecodeError::Fault(Fault::K01));
+    }
+    let (magic, rest) = bytes.split_at(4);
+    if magic == MAGIC.as_slice() {
+        Ok(rest)
+    } else {
+        Err(DecodeError::Fault(Fault::K01))
+    }
+}
+
+#[tactic(auto, unfolding(crate::specs::Certificates::certificate_at))]
+fn whole(alloc: Global, bytes: &[u8]) -> Result<(Table, Cert), DecodeError>
+    ensures { Decodes result (certificate_at bytes.now) }
+{
+    let rest = behind_magic(bytes)?;
+    let (table, rest) = field_of::<Table>(alloc, rest)?;
+    let mut known = Known::new(alloc);
+    let (cert, _, rest) = branch_of(alloc, &mut known, FORKS, RECORDS, rest)?;
+    if rest.is_empty() {
+        Ok((table, cert))
+    } else {
+        Err(DecodeError::Fault(Fault::K01))
+    }
+}
+
+/// The table and the tree that the bytes spell, all of the bytes. Nothing grows but by what was read: a count is no request for
+/// memory.
+///
+/// Errors: the first fault from the front, K01 or K02; `Memory` where memory ran out before it was met.
+pub fn decode(alloc: Global, bytes: &[u8]) -> Result<(Table, Cert), DecodeError>
+    // What is read is spelled so, and within the limits.
+    ensures found { IfOk result (λ r. Spells bytes.now r.0 (tree_of r.1) × IsWithinLimits (tree_of r.1)) }
+    // What is spelled so, within the limits, is read.
+    ensures only { (t : FootprintTable) (c : Tree) → Spells bytes.now t c → IsWithinLimits c → Decodes result (Ok (t, c)) }
+    // K02 exactly where a front of the bytes, still the beginning of a certificate, goes beyond a limit.
+    ensures passed { result ≡ Err (DecodeError.Fault Fault.K02) → PassesLimit bytes.now }
+    ensures beyond { PassesLimit bytes.now → Decodes result (Err Fault.K02) }
+    // K01 everywhere else.
+    ensures malformed { IsNoCertificate bytes.now → Decodes result (Err Fault.K01) }
+    ensures exact { Decodes result (certificate_at bytes.now) }
+{
+    whole(alloc, bytes)
+}
+
+/// The one spelling of a value decodes to it, and only that does. This function does nothing when it runs.
+pub fn spellings_are_unique()
+    ensures { SpellingsAreUnique }
+{}

@@ -1,0 +1,17 @@
+//! Certificates: trees of records, their one spelling as bytes, and which states a tree has.
+#![tactic(auto)]
+
+mod cert;
+mod decoding;
+mod encoding;
+mod fault;
+mod lookup;
+#[cfg(test)]
+mod tests;
+mod workers;
+
+pub use cert::Cert;
+pub use decoding::decode;
+pub use encoding::{encode, write};
+pub use fault::{DecodeError, Fault, WriteError};
+pub use workers::{NoWatch, Watch, Workers};

@@ -1,0 +1,4 @@
+pub mod FrontLemmas
+pub mod KeptLemmas
+pub mod PartLemmas
+pub mod RecordCodes

@@ -1,0 +1,6 @@
+pub mod Records
+pub mod Exactness
+pub mod Fronts
+pub mod Keeping
+pub mod Parts
+pub mod Spelling

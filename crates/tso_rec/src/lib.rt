@@ -1,0 +1,14 @@
+//! Records, a state with its end, and lists of records that keep what changes.
+#![tactic(auto)]
+
+mod kept;
+mod known;
+mod packed;
+mod record;
+mod shared;
+mod spelling;
+mod told;
+
+pub use known::Known;
+pub use packed::Packed;
+pub use record::{End, Record};

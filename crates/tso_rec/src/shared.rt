@@ -1,0 +1,167 @@
+//! Parts that records share.
+ghost use Rattle.std.specs.Cmp.Lexicographic.{slice_cmp};
+ghost use Rattle.std.specs.Prelude.{◌≡◌, ◌≤◌, ◌++◌, IfOk, length, OnOk};
+ghost use Rattle.tso_code.specs.Fields.{list};
+ghost use Rattle.tso_rec.specs.Parts.{CopiesAre, differing};
+
+use std::alloc::{AllocError, Global};
+use std::cmp::Ordering;
+use std::fmt;
+use std::marker::Model;
+use std::sync::Arc;
+use tso_code::{Code, write_number};
+use tso_list::{Exact, Seq};
+
+/// A value that is held in several places and lies in memory once. Contracts see the value.
+#[derive(Drop)]
+pub struct Shared<T> {
+    held: Arc<T>,
+}
+
+impl<T> Model for Shared<T> {
+    ghost Value = { T };
+
+    ghost view = { λ s. s.held.value };
+}
+
+impl<T: Drop> Shared<T> {
+    /// A value that is held once.
+    pub fn new(alloc: Global, value: T) -> Result<Shared<T>, AllocError>
+        ensures { IfOk result (λ s. s ≡ value) }
+    {
+        let held = Arc::new(alloc, value)?;
+        Ok(Shared { held })
+    }
+
+    /// The value.
+    pub fn get(&self) -> &T
+        ensures { result.now ≡ self.now }
+    {
+        &self.held
+    }
+
+    /// The same value, held once more.
+    pub fn again(&self) -> Result<Shared<T>, AllocError>
+        ensures { IfOk result (λ s. s ≡ self.now) }
+    {
+        let held = self.held.clone()?;
+        Ok(Shared { held })
+    }
+}
+
+impl<T: fmt::Debug + Drop> fmt::Debug for Shared<T> {
+    fn fmt<W: fmt::Write>(&self, f: &mut fmt::Formatter<W>) -> fmt::Result {
+        self.get().fmt(f)
+    }
+}
+
+/// What may be shared: its copies and its `==` are exact.
+pub trait Part: Exact + Clone + Drop {
+    ghost copied: { CopiesAre Self.is_clone };
+}
+
+impl Part for u64 {
+    ghost use Rattle.std.proofs.Common.{rules};
+
+    ghost copied = { λ x y c. Prim.search rules };
+}
+
+impl<T: Part> Part for Seq<T> {
+    ghost use Rattle.tso_rec.specs.Parts.{zipped};
+
+    ghost copied = { zipped T.copied };
+}
+
+/// The part, shared with the same part of the record before.
+pub fn keep<T: Part>(
+    alloc: Global,
+    before: Option<&Shared<T>>,
+    part: &T,
+) -> Result<Shared<T>, AllocError>
+    ensures { IfOk result (λ s. s ≡ part.now) }
+{
+    if let Some(shared) = before {
+        if shared.get() == part {
+            return shared.again();
+        }
+    }
+    let copy = part.clone()?;
+    Shared::new(alloc, copy)
+}
+
+/// The parts, each shared with the one at its place in the record before where they are the same.
+pub fn keep_all<T: Part>(
+    alloc: Global,
+    before: &[Shared<T>],
+    parts: &[T],
+) -> Result<Seq<Shared<T>>, AllocError>
+    ensures { IfOk result (λ kept. kept ≡ parts.now) }
+{
+    let mut kept = Seq::new(alloc);
+    for (i, part) in parts.iter().enumerate() {
+        let shared = keep(alloc, before.get(i), part)?;
+        kept.push(shared)?;
+    }
+    Ok(kept)
+}
+
+/// The parts, each copied.
+pub fn copy_all<T: Part>(alloc: Global, parts: &[Shared<T>]) -> Result<Seq<T>, AllocError>
+    ensures { IfOk result (λ copies. copies ≡ parts.now) }
+{
+    let mut copies = Seq::new(alloc);
+    for part in parts {
+        let copy = copy_of(part.get())?;
+        copies.push(copy)?;
+    }
+    Ok(copies)
+}
+
+/// A copy of a part.
+pub fn copy_of<T: Part>(part: &T) -> Result<T, AllocError>
+    ensures { IfOk result (λ copy. copy ≡ part.now) }
+{
+    part.clone()
+}
+
+/// How the parts are ordered against other values, as lists are.
+pub fn compare_all<T: Ord>(parts: &[Shared<T>], values: &[T]) -> Ordering
+where
+    T: Drop,
+    ensures { result ≡ slice_cmp T.cmp parts.now values.now }
+{
+    for i in 0..parts.len().min(values.len()) {
+        let order = parts[i].get().cmp(&values[i]);
+        if order != Ordering::Equal {
+            return order;
+        }
+    }
+    parts.len().cmp(&values.len())
+}
+
+/// How many parts differ from those at the same places.
+pub fn differing<T: PartialEq>(before: &[Shared<T>], parts: &[Shared<T>]) -> usize
+where
+    T: Drop,
+    ensures count { result ≡ differing T.eq before.now parts.now }
+    ensures bound { result ≤ length parts.now }
+{
+    let mut count = 0;
+    for i in 0..before.len().min(parts.len()) {
+        if before[i].get() != parts[i].get() {
+            count += 1;
+        }
+    }
+    count
+}
+
+/// Puts the count of the parts and then the parts at the end.
+pub fn write_all<T: Code>(parts: &[Shared<T>], out: &mut Vec<u8>) -> Result<(), AllocError>
+    ensures { OnOk result (out.new.items ≡ out.old.items ++ list T.spell parts.now) }
+{
+    write_number(parts.len() as u64, out)?;
+    for part in parts {
+        part.get().write(out)?;
+    }
+    Ok(())
+}
