@@ -9,6 +9,11 @@ use std::alloc::{AllocError, Global};
 pub enum Request<'a> {
     /// Help, as this text.
     Help(String),
+    /// The verdict on a certificate.
+    Check {
+        program: &'a str,
+        cert: &'a str,
+    },
     /// The replay of a trace, back to so many labels.
     Replay {
         program: &'a str,
@@ -31,10 +36,23 @@ impl From<AllocError> for Misuse {
     }
 }
 
-fn replay_command<'a>(alloc: Global) -> Result<Command<'a>, AllocError> {
-    let program = Arg::new(alloc, "FILE")
+fn program_argument<'a>(alloc: Global) -> Arg<'a> {
+    Arg::new(alloc, "FILE")
         .required(true)
-        .help("the program text");
+        .help("the program text")
+}
+
+fn check_command<'a>(alloc: Global) -> Result<Command<'a>, AllocError> {
+    let cert = Arg::new(alloc, "CERT")
+        .required(true)
+        .help("the certificate");
+    Command::new(alloc, "check")
+        .about("decides a certificate: where it is accepted, every run of the program is good")
+        .arg(program_argument(alloc))?
+        .arg(cert)
+}
+
+fn replay_command<'a>(alloc: Global) -> Result<Command<'a>, AllocError> {
     let trace = Arg::new(alloc, "TRACE")
         .required(true)
         .help("the trace of an error");
@@ -48,7 +66,7 @@ fn replay_command<'a>(alloc: Global) -> Result<Command<'a>, AllocError> {
         .about(
             "walks the machine along a trace, and prints its labels, the state and what is wrong",
         )
-        .arg(program)?
+        .arg(program_argument(alloc))?
         .arg(trace)?
         .arg(to)
 }
@@ -57,6 +75,7 @@ fn command<'a>(alloc: Global) -> Result<Command<'a>, AllocError> {
     Command::new(alloc, "tsoq")
         .about("checks lock-free ring queues under x86-TSO")
         .subcommand_required(true)
+        .subcommand(check_command(alloc)?)?
         .subcommand(replay_command(alloc)?)
 }
 
@@ -76,6 +95,12 @@ pub fn request_of<'a>(alloc: Global, words: &'a [String]) -> Result<Request<'a>,
         Ok(matches) => matches,
         Err(error) => return error_request(alloc, error),
     };
+    if let Some(check) = matches.subcommand_matches("check") {
+        return Ok(Request::Check {
+            program: check.get_str("FILE").unwrap_or(""),
+            cert: check.get_str("CERT").unwrap_or(""),
+        });
+    }
     let Some(replay) = matches.subcommand_matches("replay") else {
         return Err(Misuse::Usage(String::from_str(alloc, "no command\n")?));
     };

@@ -5,8 +5,9 @@ ghost use Rattle.tsoq.specs.Statuses.{status_of};
 
 use std::alloc::{AllocError, AllocFailed};
 use std::fmt;
+use tso_check::CheckError;
 use tso_flow::FlowError;
-use tso_prog::{Code, Fault, ReadError};
+use tso_prog::{Fault, ReadError};
 use tso_trace::TraceFault;
 
 /// Why a command does not succeed.
@@ -14,6 +15,8 @@ use tso_trace::TraceFault;
 pub enum Failure {
     /// The words are none of the program's.
     Usage(String),
+    /// A word is not UTF-8.
+    NotText,
     /// The program text is refused.
     Program(Fault),
     /// The trace is refused.
@@ -36,27 +39,8 @@ impl Failure {
             Failure::Trace(_) => 3,
             Failure::Memory => 5,
             Failure::CannotRead(_) | Failure::CannotPrint => 6,
-            Failure::Usage(_) => 64,
+            Failure::Usage(_) | Failure::NotText => 64,
         }
-    }
-}
-
-fn code_text(code: Code) -> &'static str {
-    match code {
-        Code::E01 => "E01",
-        Code::E02 => "E02",
-        Code::E03 => "E03",
-        Code::E04 => "E04",
-        Code::E05 => "E05",
-        Code::E06 => "E06",
-        Code::E07 => "E07",
-        Code::E08 => "E08",
-        Code::E09 => "E09",
-        Code::E10 => "E10",
-        Code::E11 => "E11",
-        Code::E12 => "E12",
-        Code::E13 => "E13",
-        Code::E14 => "E14",
     }
 }
 
@@ -64,11 +48,8 @@ impl fmt::Display for Failure {
     fn fmt<W: fmt::Write>(&self, f: &mut fmt::Formatter<W>) -> fmt::Result {
         match self {
             Failure::Usage(text) => write!(f, "{text}"),
-            Failure::Program(fault) => {
-                let code = code_text(fault.code);
-                let line = fault.line;
-                writeln!(f, "{code} line {line}")
-            }
+            Failure::NotText => writeln!(f, "a word of the command line is not UTF-8"),
+            Failure::Program(fault) => writeln!(f, "{fault}"),
             Failure::Trace(fault) => writeln!(f, "{fault}"),
             Failure::CannotRead(path) => writeln!(f, "cannot read {path}"),
             Failure::CannotPrint => writeln!(f, "cannot write standard output"),
@@ -86,6 +67,15 @@ impl From<AllocError> for Failure {
 impl<T: Drop> From<AllocFailed<T>> for Failure {
     fn from(_e: AllocFailed<T>) -> Failure {
         Failure::Memory
+    }
+}
+
+impl From<CheckError> for Failure {
+    fn from(e: CheckError) -> Failure {
+        match e {
+            CheckError::Program(fault) => Failure::Program(fault),
+            CheckError::Memory => Failure::Memory,
+        }
     }
 }
 

@@ -5,22 +5,20 @@ mod command;
 mod failure;
 mod files;
 mod host;
+mod length;
 mod replay;
 mod run;
 #[cfg(test)]
 mod tests;
+mod words;
 
 use crate::host::HostFiles;
-use crate::run::run;
+use crate::run::run_process;
 use std::io;
 use std::process::ExitCode;
 
-fn main(rt: HostRuntime) -> io::Result<ExitCode> {
-    let alloc = rt.alloc();
-    let words: Vec<String> = std::env::args(&rt)?.collect(alloc)?;
+fn main(rt: HostRuntime) -> ExitCode {
     let mut files = HostFiles { rt: &rt };
-    let mut out = io::BufWriter::new(alloc, io::writer(&rt))?;
     let mut err = rt.stderr();
-    let status = run(alloc, words.as_slice(), &mut files, &mut out, &mut err);
-    Ok(ExitCode::from(status))
+    ExitCode::from(run_process(&rt, &mut files, io::writer(&rt), &mut err))
 }

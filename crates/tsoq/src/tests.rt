@@ -1,43 +1,19 @@
 //! The program over files in memory.
 
 use crate::files::Files;
-use crate::run::run;
-use std::alloc::Global;
+use crate::length::trace_within;
+use crate::run::{run, run_process};
+use std::alloc::{Alloc, Global};
+use std::env::{Env, FillError};
 use std::io;
 use std::io::{Error, ErrorKind, Read, Write};
 use std::process::Abort;
 use std::test::Fail;
-
-const OWN_STORE: &str = ".capacity 1
-.mode weak
-.array n 1
-.push
-  mov qword ptr [n], 5
-  mov rax, qword ptr [n]
-  cmp rax, 5
-  assert ne
-  mov rax, 0
-  ret
-.end
-.pop
-  mov rbx, qword ptr [n]
-  mov rdx, 0
-  mov rax, 0
-  ret
-.end
-.thread push 7
-.thread pop
-";
-
-const OWN_STORE_TRACE: &str = "tso-trace 1
-0 call push 7
-0 write n[0] = 5
-1 call pop
-1 read n[0] = 0
-0 read n[0] = 5
-0 reg
-0 fault assert
-";
+use tso_samples::{
+    EXCHANGE, EXCHANGE_TRACE, LAMPORT, LAMPORT_TRACE, ONE_REFUSAL, ONE_REFUSAL_STRICT, OWN_STORE,
+    OWN_STORE_TRACE,
+};
+use tso_trace::TraceFault;
 
 const OWN_STORE_TO_2: &str = "     1 0 call push 7
      2 0 write n[0] = 5
@@ -56,114 +32,10 @@ thread 1 at pop 1
 violation: fault in thread 0
 ";
 
-const EXCHANGE: &str = ".capacity 1
-.mode weak
-.array n 1
-.push
-  mov rbx, 5
-  xchg qword ptr [n], rbx
-  cmp rbx, 5
-  assert e
-  mov rax, 0
-  ret
-.end
-.pop
-  mov rbx, qword ptr [n]
-  mov rdx, 0
-  mov rax, 0
-  ret
-.end
-.thread push 7
-.thread pop
-";
-
-const EXCHANGE_TRACE: &str = "tso-trace 1
-0 call push 7
-0 reg
-0 lock
-0 read n[0] = 0
-0 write n[0] = 5
-0 drain n[0] = 5
-0 unlock
-0 reg
-0 fault assert
-";
-
 const LOCKED: &str = "state after 4
 n[0] = 0
 thread 0 at push 1 locked
 thread 1 idle
-";
-
-// A queue after Lamport, with no fence behind the store of tail.
-const LAMPORT: &str = ".capacity 2
-.mode strict
-.array head 1
-.array tail 1
-.array buf 2
-.push
-  mov rcx, qword ptr [tail]
-  mov rbx, qword ptr [head]
-  mov rax, rcx
-  sub rax, rbx
-  cmp rax, 2
-  je full
-  mov rdx, rcx
-  and rdx, 1
-  mov qword ptr [buf + rdx*8], rdi
-  inc rcx
-  mov qword ptr [tail], rcx
-  mov rax, 1
-  ret
-full:
-  mov rax, 0
-  ret
-.end
-.pop
-  mov rcx, qword ptr [head]
-  mov rbx, qword ptr [tail]
-  cmp rcx, rbx
-  je empty
-  mov rsi, rcx
-  and rsi, 1
-  mov rdx, qword ptr [buf + rsi*8]
-  inc rcx
-  mov qword ptr [head], rcx
-  mov rax, 1
-  ret
-empty:
-  mov rdx, 0
-  mov rax, 0
-  ret
-.end
-.thread push 7
-.thread pop
-";
-
-// A push of 7 returns while its stores are still in its buffer, and a pop that begins after that finds the queue empty.
-const LAMPORT_TRACE: &str = "tso-trace 1
-0 call push 7
-0 read tail[0] = 0
-0 read head[0] = 0
-0 reg
-0 reg
-0 reg
-0 reg
-0 reg
-0 reg
-0 write buf[0] = 7
-0 reg
-0 write tail[0] = 1
-0 reg
-0 return done
-1 call pop
-1 read head[0] = 0
-1 read tail[0] = 0
-1 reg
-1 reg
-1 reg
-1 reg
-1 return refused
 ";
 
 const LAMPORT_END: &str = "state after 22
@@ -216,6 +88,10 @@ impl<'a> Files for MemoryFiles<'a> {
         Err(Error::from(ErrorKind::NotFound))
     }
 }
+
+// The certificate of the client with one push that is refused.
+const ONE_REFUSAL_CERT: &[u8] =
+    b"TSOC\x01\x02\0\0\0\0\x03\0\0\0\0\0\0\0\x04\0\x01\0\0\x01\0\0\x01\0\0\0\x01\0\0\x01\x01\0\x07\x01\0\x01\x01\x01\0\0\x01\0\x01\x01\0\0\0\0\0\0\x07\0\0\0\0\0\0\0\0\0\0\0\0\x01\x01\0\x07\x01\0\0\0\x01\0\0\0\x01\x01\x01\0\0\0\0\0\x07\0\0\0\0\0\0\0\0\0\0\0\0\x01\x01\0\x07\x01\0\0\0\x01\0\0";
 
 // A stream that takes nothing.
 struct Closed;
@@ -296,6 +172,37 @@ fn changed(alloc: Global, text: &str, part: &str, other: &str) -> Result<String,
         None => result.push_str("the part is not there")?,
     }
     Ok(result)
+}
+
+// The check of these bytes for a program prints this, with this status.
+fn checks(
+    rt: &impl Abort,
+    alloc: Global,
+    program: &str,
+    cert: &[u8],
+    status: u8,
+    line: &str,
+) -> Result<(), Fail> {
+    let outcome = outcome_of(
+        alloc,
+        &["check", "program", "trace"],
+        program.as_bytes(),
+        cert,
+    )?;
+    assert_eq!(rt; outcome.out.as_slice(), line.as_bytes());
+    assert_eq!(rt; outcome.status, status);
+    Ok(())
+}
+
+#[test]
+fn certificates(rt: HostRuntime) -> Result<(), Fail> {
+    let alloc = rt.alloc();
+    checks(&rt, alloc, ONE_REFUSAL, ONE_REFUSAL_CERT, 0, "accepted\n")?;
+    let cut = &ONE_REFUSAL_CERT[..110];
+    checks(&rt, alloc, ONE_REFUSAL, cut, 3, "rejected K01\n")?;
+    let strict = "rejected K11 at record 1\n";
+    checks(&rt, alloc, ONE_REFUSAL_STRICT, ONE_REFUSAL_CERT, 3, strict)?;
+    checks(&rt, alloc, "", ONE_REFUSAL_CERT, 2, "")
 }
 
 #[test]
@@ -457,7 +364,8 @@ fn words_files_and_streams_fail(rt: HostRuntime) -> Result<(), Fail> {
     );
     for line in [
         "verify program trace",
-        "check program trace",
+        "check program",
+        "check program cert --to 1",
         "replay program",
         "replay program trace --to -1",
         "replay program trace --to x",
@@ -491,5 +399,86 @@ fn closed_output_is_a_failure(rt: HostRuntime) -> Result<(), Fail> {
         trace: _,
     } = files;
     let Closed = out;
+    Ok(())
+}
+
+// The words that a system gives, and its memory.
+#[derive(Drop)]
+struct System<'a> {
+    alloc: Global,
+    words: &'a [&'a [u8]],
+}
+
+impl<'a> Alloc for System<'a> {
+    type A = Global;
+
+    fn alloc(&self) -> Global {
+        self.alloc
+    }
+}
+
+impl<'a> Env for System<'a> {
+    fn arg(&self, i: usize, buf: &mut [u8]) -> Result<usize, FillError> {
+        let Some(word) = self.words.get(i) else {
+            return Err(FillError::NotPresent);
+        };
+        if word.len() > buf.len() {
+            return Err(FillError::TooLong);
+        }
+        buf[..word.len()].copy_from_slice(word);
+        Ok(word.len())
+    }
+
+    fn var(&self, _name: &str, _buf: &mut [u8]) -> Result<usize, FillError> {
+        Err(FillError::NotPresent)
+    }
+
+    fn var_at(&self, _i: usize, _buf: &mut [u8]) -> Result<usize, FillError> {
+        Err(FillError::NotPresent)
+    }
+}
+
+// The status of a process with these words.
+fn process_status(alloc: Global, words: &[&[u8]]) -> u8 {
+    let system = System { alloc, words };
+    let mut files = MemoryFiles {
+        program: OWN_STORE.as_bytes(),
+        trace: OWN_STORE_TRACE.as_bytes(),
+    };
+    let mut err = Vec::new(alloc);
+    let status = run_process(&system, &mut files, Vec::new(alloc), &mut err);
+    let MemoryFiles {
+        program: _,
+        trace: _,
+    } = files;
+    status
+}
+
+#[test]
+fn words_are_text(rt: HostRuntime) -> Result<(), Fail> {
+    let alloc = rt.alloc();
+    let right: [&[u8]; 4] = [b"tsoq", b"replay", b"program", b"trace"];
+    assert_eq!(rt; process_status(alloc, &right), 0);
+    let wrong: [&[u8]; 2] = [b"tsoq", b"\xff"];
+    assert_eq!(rt; process_status(alloc, &wrong), 64);
+    Ok(())
+}
+
+// Why the trace is refused where it may have so many bytes, if it is.
+fn fault_within(alloc: Global, limit: usize) -> Result<Option<TraceFault>, Fail> {
+    let client = tso_prog::read(alloc, OWN_STORE.as_bytes())?;
+    let checked = tso_flow::check(alloc, client)?;
+    Ok(trace_within(alloc, &checked, OWN_STORE_TRACE.as_bytes(), limit).err())
+}
+
+#[test]
+fn long_traces_are_refused(rt: HostRuntime) -> Result<(), Fail> {
+    let alloc = rt.alloc();
+    let len = OWN_STORE_TRACE.len();
+    assert_eq!(rt; fault_within(alloc, len)?, None);
+    let last = Some(TraceFault::Grammar { line: 8 });
+    assert_eq!(rt; fault_within(alloc, len - 1)?, last);
+    let second = Some(TraceFault::Grammar { line: 2 });
+    assert_eq!(rt; fault_within(alloc, 20)?, second);
     Ok(())
 }

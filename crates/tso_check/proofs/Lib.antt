@@ -1,0 +1,5 @@
+pub mod Goodness
+pub mod OneVerdict
+pub mod RisingLemmas
+pub mod VerdictLemmas
+pub mod WalkLemmas

@@ -1,0 +1,123 @@
+//! The check of certificates.
+
+ghost use Rattle.std.specs.Prelude.{◌≡◌, ◌≤◌, IfOk, None, Ok};
+ghost use Rattle.tso_cert.specs.Lookup.{IsOrdered, tree_states};
+ghost use Rattle.tso_cert.specs.Trees.{record_count, tree_of};
+ghost use Rattle.tso_check.specs.Headline.{IsVerified};
+ghost use Rattle.tso_check.specs.Valid.{HasInitial};
+ghost use Rattle.tso_check.specs.Verdicts.{IsAnswer, IsOfFault, IsTreeVerdict, IsVerdict, code_of};
+ghost use Rattle.tso_check.specs.declared.verdict.Verdict.TheVariants as verdicts;
+ghost use Rattle.tso_foot.specs.Closed.{IsClosed};
+
+use crate::program::checked_of;
+use crate::rising::is_ordered;
+use crate::verdict::{CheckError, Verdict};
+use crate::walk::judge_records;
+use std::alloc::{AllocError, Global};
+use tso_cert::{Cert, DecodeError, Fault, decode};
+use tso_flow::Checked;
+use tso_foot::{Table, is_closed};
+use tso_judge::Code;
+use tso_state::initial_state;
+
+// Refused for the certificate as a whole.
+fn rejected(code: Code) -> Verdict
+    ensures { result ≡ verdicts.Rejected code None }
+{
+    Verdict::Rejected { code, place: None }
+}
+
+// The code of a fault of bytes.
+fn code_of(fault: Fault) -> Code
+    ensures { result ≡ code_of fault }
+{
+    match fault {
+        Fault::K01 => Code::K01,
+        Fault::K02 => Code::K02,
+    }
+}
+
+// The verdict on bytes that were not decoded.
+fn undecoded(error: DecodeError) -> Result<Verdict, AllocError>
+    ensures { IfOk result (IsOfFault error) }
+{
+    match error {
+        DecodeError::Fault(fault) => Ok(rejected(code_of(fault))),
+        DecodeError::Memory => Err(AllocError),
+    }
+}
+
+// The records, from the left.
+fn check_records(
+    alloc: Global,
+    checked: &Checked,
+    table: &Table,
+    cert: &Cert,
+) -> Result<Verdict, AllocError>
+    requires ordered { IsOrdered (tree_of cert.now) }
+    requires closed { IsClosed checked.now.client table.now }
+    requires initial { HasInitial checked.now.client (tree_states (tree_of cert.now)) }
+    requires few { record_count (tree_of cert.now) ≤ 4194304 }
+    ensures { IfOk result (IsTreeVerdict checked.now.client table.now (tree_of cert.now)) }
+{
+    match judge_records(alloc, checked, table, cert, cert, 0)? {
+        Some(bad) => Ok(Verdict::Rejected {
+            code: bad.code,
+            place: Some(bad.place),
+        }),
+        None => Ok(Verdict::Accepted),
+    }
+}
+
+// The conditions of the tree and the table as wholes, and then the records.
+fn check_tree(
+    alloc: Global,
+    checked: &Checked,
+    table: &Table,
+    cert: &Cert,
+) -> Result<Verdict, AllocError>
+    requires { record_count (tree_of cert.now) ≤ 4194304 }
+    ensures { IfOk result (IsTreeVerdict checked.now.client table.now (tree_of cert.now)) }
+{
+    if !is_ordered(cert)? {
+        return Ok(rejected(Code::K03));
+    }
+    if !is_closed(checked, table) {
+        return Ok(rejected(Code::K04));
+    }
+    let initial = initial_state(alloc, checked)?;
+    if !cert.has(&initial) {
+        return Ok(rejected(Code::K09));
+    }
+    check_records(alloc, checked, table, cert)
+}
+
+/// The verdict on bytes as a certificate for a client: accepted exactly where they are a valid one; else the first condition
+/// that fails. First come those of the whole, in this order: the bytes spell a certificate (K01), within the limits (K02, which
+/// counts where it is met first), the states rise (K03), the table is closed (K04), a record has the initial state (K09). Then
+/// the first record from the left that fails one of its own, with the lowest of its numbers.
+///
+/// Errors: `Memory` where a growth was refused.
+pub fn check_client(alloc: Global, checked: &Checked, bytes: &[u8]) -> Result<Verdict, AllocError>
+    ensures { IfOk result (IsVerdict checked.now.client bytes.now) }
+{
+    match decode(alloc, bytes) {
+        Ok((table, cert)) => check_tree(alloc, checked, &table, &cert),
+        Err(error) => undecoded(error),
+    }
+}
+
+/// Decides a certificate for the client of a program text. Nothing is trusted: where it accepts, the text denotes a client, with
+/// every thread and call of the text, and each run of this client on the x86-TSO machine (Sewell and others 2010) within its
+/// loop bounds, ended or not, has no fault, and its calls and returns are linearizable (Herlihy and Wing 1990) against the
+/// bounded queue of its mode and capacity.
+///
+/// Errors: `Program` with the first fault of the text, which comes before all else; `Memory` where a growth was refused.
+pub fn check(alloc: Global, program: &[u8], cert: &[u8]) -> Result<Verdict, CheckError>
+    ensures answer { IsAnswer program.now cert.now result }
+    ensures headline { result ≡ Ok verdicts.Accepted → IsVerified program.now }
+{
+    let checked = checked_of(alloc, program)?;
+    let verdict = check_client(alloc, &checked, cert)?;
+    Ok(verdict)
+}

@@ -1,0 +1,14 @@
+//! The check of certificates: where it accepts, every run of the client is good.
+#![tactic(auto)]
+
+mod deciding;
+mod laws;
+mod program;
+mod rising;
+mod verdict;
+mod walk;
+
+pub use deciding::{check, check_client};
+pub use laws::{accepted_runs_are_good, verdicts_are_unique};
+pub use program::checked_of;
+pub use verdict::{CheckError, Verdict};

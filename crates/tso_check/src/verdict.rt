@@ -1,0 +1,54 @@
+//! What a check answers.
+
+ghost use Rattle.std.specs.Prelude.{◌≡◌};
+ghost use Rattle.tso_check.specs.declared.verdict.CheckError.TheVariants as errors;
+
+use std::alloc::AllocError;
+use std::fmt;
+use tso_judge::Code;
+use tso_prog::Fault;
+
+/// The verdict on bytes as a certificate for a client.
+#[derive(Clone, Copy, Debug, PartialEq, Eq)]
+pub enum Verdict {
+    /// They are a valid certificate.
+    Accepted,
+    /// They are none.
+    Rejected {
+        /// The first condition that fails.
+        code: Code,
+        /// The number of the record that fails it, counted from 0 from the left, if it is a condition of a record.
+        place: Option<u64>,
+    },
+}
+
+/// As the program prints it: `accepted`, `rejected K01`, `rejected K08 at record 2`.
+impl fmt::Display for Verdict {
+    fn fmt<W: fmt::Write>(&self, f: &mut fmt::Formatter<W>) -> fmt::Result {
+        match self {
+            Verdict::Accepted => write!(f, "accepted"),
+            Verdict::Rejected { code, place: None } => write!(f, "rejected {code}"),
+            Verdict::Rejected {
+                code,
+                place: Some(place),
+            } => write!(f, "rejected {code} at record {place}"),
+        }
+    }
+}
+
+/// Why there is no verdict.
+#[derive(Clone, Copy, Debug, PartialEq, Eq)]
+pub enum CheckError {
+    /// The program text is refused.
+    Program(Fault),
+    /// A growth was refused.
+    Memory,
+}
+
+impl From<AllocError> for CheckError {
+    ghost from_gives = { λ _ e. e ≡ errors.Memory };
+
+    fn from(_e: AllocError) -> CheckError {
+        CheckError::Memory
+    }
+}

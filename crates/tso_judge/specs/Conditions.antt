@@ -1,0 +1,72 @@
+-- The conditions of a record, a state with its end, each by itself.
+use Rattle.std.specs.Prelude.{◌≡◌, ℕ, ◌<◌, All, Contains, IsTrue, List, length, false, Some, slice_get}
+use Rattle.tso_choose.specs.Choices.{AreReasons, IsRising, actors_of}
+use Rattle.tso_choose.specs.Needs.{is_enabled}
+use Rattle.tso_choose.specs.declared.choice.Choice.{Choice}
+use Rattle.tso_compact.specs.Plans.{IsStep}
+use Rattle.tso_fifo.specs.Orders.{IsOrderOf, order_view}
+use Rattle.tso_foot.specs.declared.table.Table.{Table}
+use Rattle.tso_hist.specs.Views.{history_view}
+use Rattle.tso_prog.specs.declared.client.Client.{Client}
+use Rattle.tso_rec.specs.declared.record.End.{End}
+use Rattle.tso_rec.specs.declared.record.End.TheVariants.{Choices, Order}
+use Rattle.tso_state.specs.declared.actor.Actor.{Actor}
+use Rattle.tso_state.specs.declared.actor.Actor.TheVariants.{Exec, Drain}
+use Rattle.tso_state.specs.declared.state.Core.TheVariants.{Stopped}
+use Rattle.tso_state.specs.declared.state.State.{State}
+use Rattle.tso_state.specs.declared.state.Thread.{Thread}
+
+-- the chosen actors: some, in strictly rising order, each with a step
+pub record AreMovers (c : Client) (s : State) (choices : List Choice) : Type 0 where
+  pub some : 0 < length choices
+  pub rising : IsRising (actors_of choices)
+  pub enabled : All (λ (x : Choice). IsTrue (is_enabled c s x.actor)) choices
+
+-- neither the core nor the buffer of a thread has a step
+pub record HasNoStep (c : Client) (s : State) (thread : ℕ) : Type 0 where
+  pub core : is_enabled c s (Exec thread) ≡ false
+  pub buffer : is_enabled c s (Drain thread) ≡ false
+
+-- no actor has a step
+abbrev pub IsOver : Client → State → Type 0
+IsOver c s = (a : Actor) → is_enabled c s a ≡ false
+
+-- the record has such actors, or it has an order and no actor has a step
+abbrev pub EndFits : Client → State → End → Type 0
+EndFits c s (Choices choices) = AreMovers c s choices
+EndFits c s (Order order) = IsOver c s
+
+-- each chosen actor has one reason for each other thread, in rising order, each of which holds
+abbrev pub HaveReasons : Client → Table → State → End → Type 0
+HaveReasons c t s (Choices choices) = All (λ (x : Choice). AreReasons c t s (actors_of choices) x.actor x.reasons) choices
+HaveReasons c t s (Order order) = Unit {0}
+
+-- one of the states is that after the actor's step
+pub record IsKeptAfter (c : Client) (states : List State) (s : State) (a : Actor) : Type 0 where
+  pub after : State
+  pub step : IsStep c s a after
+  pub kept : Contains states after
+
+-- for each chosen actor
+abbrev pub SuccessorsAreKept : Client → List State → State → End → Type 0
+SuccessorsAreKept c states s (Choices choices) = All (λ (x : Choice). IsKeptAfter c states s x.actor) choices
+SuccessorsAreKept c states s (Order order) = Unit {0}
+
+-- a fault has stopped thread i
+pub record IsStoppedAt (s : State) (i : ℕ) : Type 0 where
+  pub thread : Thread
+  pub at : slice_get s.threads i ≡ Some thread
+  pub stopped : thread.core ≡ Stopped
+
+abbrev pub HasNoStopped : State → Type 0
+HasNoStopped s = (i : ℕ) → IsStoppedAt s i → ⊥
+
+-- where there is an order, no fault has stopped a thread
+abbrev pub IsUnstopped : State → End → Type 0
+IsUnstopped s (Choices choices) = Unit {0}
+IsUnstopped s (Order order) = HasNoStopped s
+
+-- the order explains the calls by the client's bounded queue
+abbrev pub IsExplained : Client → State → End → Type 0
+IsExplained c s (Choices choices) = Unit {0}
+IsExplained c s (Order order) = IsOrderOf c.mode c.capacity s.history (order_view (history_view s.history) order)

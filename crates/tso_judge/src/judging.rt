@@ -1,0 +1,155 @@
+//! Which condition of a record fails first.
+
+ghost use Rattle.std.specs.Prelude.{◌≡◌, IfOk, None};
+ghost use Rattle.tso_cert.specs.Lookup.{IsOrdered, tree_states};
+ghost use Rattle.tso_cert.specs.Trees.{tree_of};
+ghost use Rattle.tso_judge.specs.Judging.{IsJudgedAlone, IsJudgedAmong};
+ghost use Rattle.tso_rec.specs.declared.record.End.TheVariants as ends;
+ghost use Rattle.tso_state.specs.WellFormed.{IsWellFormed};
+
+use crate::code::Code;
+use crate::ends::{are_movers, has_no_stopped, is_over};
+use crate::reasons::have_reasons;
+use crate::successors::are_kept_after;
+use std::alloc::{AllocError, Global};
+use tso_cert::Cert;
+use tso_choose::Choices;
+use tso_fifo::{Order, is_linearization};
+use tso_flow::Checked;
+use tso_foot::Table;
+use tso_hist::History;
+use tso_rec::{End, Record};
+use tso_state::{State, Viewed, is_well_formed};
+
+// Of a well-formed state with choices.
+fn judge_choices<S: Viewed>(
+    alloc: Global,
+    checked: &Checked,
+    table: &Table,
+    state: &S,
+    choices: &Choices,
+) -> Result<Option<Code>, AllocError>
+    requires { IsWellFormed checked.now.client (S.state state.now) }
+    ensures { IfOk result (IsJudgedAlone checked.now.client table.now (S.state state.now) (ends.Choices choices.now)) }
+{
+    let choices = choices.as_slice();
+    if !are_movers(checked, state, choices) {
+        return Ok(Some(Code::K06));
+    }
+    if !have_reasons(alloc, checked, table, state, choices)? {
+        return Ok(Some(Code::K07));
+    }
+    Ok(None)
+}
+
+// Of a well-formed state with an order of the calls of its history.
+fn judge_order<S: Viewed>(
+    checked: &Checked,
+    table: &Table,
+    state: &S,
+    history: &History,
+    order: &Order,
+) -> Option<Code>
+    requires well_formed { IsWellFormed checked.now.client (S.state state.now) }
+    requires history { (S.state state.now).history ≡ history.now }
+    ensures { IsJudgedAlone checked.now.client table.now (S.state state.now) (ends.Order order.now) result }
+{
+    if !is_over(checked, state) {
+        return Some(Code::K06);
+    }
+    if !has_no_stopped(state) {
+        return Some(Code::K10);
+    }
+    let client = &checked.client;
+    if !is_linearization(history, client.mode, client.capacity as usize, order) {
+        return Some(Code::K11);
+    }
+    None
+}
+
+/// The code of the first condition that a record fails, of those that need no other record: all but K08. `history` is that of
+/// the state.
+///
+/// Errors: where a growth was refused.
+pub fn judge_alone<S: Viewed>(
+    alloc: Global,
+    checked: &Checked,
+    table: &Table,
+    state: &S,
+    history: &History,
+    end: &End,
+) -> Result<Option<Code>, AllocError>
+    requires { (S.state state.now).history ≡ history.now }
+    ensures { IfOk result (IsJudgedAlone checked.now.client table.now (S.state state.now) end.now) }
+{
+    if !is_well_formed(checked, state) {
+        return Ok(Some(Code::K05));
+    }
+    match end {
+        End::Choices(choices) => judge_choices(alloc, checked, table, state, choices),
+        End::Order(order) => Ok(judge_order(checked, table, state, history, order)),
+    }
+}
+
+// Where a record meets all conditions by itself, K08 is left.
+fn judge_successors(
+    alloc: Global,
+    checked: &Checked,
+    table: &Table,
+    cert: &Cert,
+    state: &State,
+    end: &End,
+) -> Result<Option<Code>, AllocError>
+    requires ordered { IsOrdered (tree_of cert.now) }
+    requires alone { IsJudgedAlone checked.now.client table.now state.now end.now None }
+    ensures { IfOk result (IsJudgedAmong checked.now.client table.now (tree_states (tree_of cert.now)) state.now end.now) }
+{
+    match end {
+        End::Order(_) => Ok(None),
+        End::Choices(choices) => {
+            if are_kept_after(alloc, checked, cert, state, choices.as_slice())? {
+                return Ok(None);
+            }
+            Ok(Some(Code::K08))
+        }
+    }
+}
+
+/// The code of the first condition that a state with its end fails against the records of a tree, as `judge` does.
+///
+/// Errors: where a growth was refused.
+pub fn judge_state(
+    alloc: Global,
+    checked: &Checked,
+    table: &Table,
+    cert: &Cert,
+    state: &State,
+    end: &End,
+) -> Result<Option<Code>, AllocError>
+    requires { IsOrdered (tree_of cert.now) }
+    ensures { IfOk result (IsJudgedAmong checked.now.client table.now (tree_states (tree_of cert.now)) state.now end.now) }
+{
+    match judge_alone(alloc, checked, table, state, &state.history, end)? {
+        Some(code) => Ok(Some(code)),
+        None => judge_successors(alloc, checked, table, cert, state, end),
+    }
+}
+
+/// The code of the first condition that a record fails against the records of a tree, K05 to K08, K10 and K11 in their order,
+/// or none: the state is well-formed; the record has chosen actors that each have a step, or an order where none has; each
+/// chosen actor has reasons that hold; records have the states after their steps; no thread is stopped where there is an order,
+/// and the order explains the calls.
+///
+/// Errors: where a growth was refused.
+pub fn judge(
+    alloc: Global,
+    checked: &Checked,
+    table: &Table,
+    cert: &Cert,
+    record: &Record,
+) -> Result<Option<Code>, AllocError>
+    requires { IsOrdered (tree_of cert.now) }
+    ensures { IfOk result (IsJudgedAmong checked.now.client table.now (tree_states (tree_of cert.now)) «record».now.state «record».now.end) }
+{
+    judge_state(alloc, checked, table, cert, &record.state, &record.end)
+}
