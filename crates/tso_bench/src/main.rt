@@ -1,51 +1,25 @@
 //! Benchmarks: how long a text of the greatest length is read, how long orders of calls are sought, how long a trace is walked
-//! forwards and back, and how long steps of compact states take. The time is that of the whole process.
+//! forwards and back, how long steps of compact states take, and how fast certificates are read and spelled. The time is that of
+//! the whole process.
 #![tactic(auto)]
 
 ghost use Rattle.std.specs.Prelude.{◌≡◌, ◌+◌, ◌<◌, ◌≤◌, ◌⊎◌, length, IfOk, IfSome, OnOk, string_len};
 
+use certs::{certificate_of, measure};
 use std::alloc::{AllocError, Global};
 use std::io;
 use std::process::ExitCode;
-use steps::{measure_kinds, measure_steps};
+use steps::{Question, count_in_walks};
+use store::{Walked, walk_store};
 use tso_fifo::linearize;
 use tso_hist::History;
 use tso_prog::{Answer, CallKind, Mode};
+use tso_samples::{OWN_STORE, OWN_STORE_TRACE, VYUKOV22};
 use tso_trace::{Cursor, Trace};
 
-mod programs;
+mod certs;
 mod steps;
-
-const PROGRAM: &str = ".capacity 1
-.mode weak
-.array n 1
-.push
-  mov qword ptr [n], 5
-  mov rax, qword ptr [n]
-  cmp rax, 5
-  assert ne
-  mov rax, 0
-  ret
-.end
-.pop
-  mov rbx, qword ptr [n]
-  mov rdx, 0
-  mov rax, 0
-  ret
-.end
-.thread push 7
-.thread pop
-";
-
-const TRACE: &str = "tso-trace 1
-0 call push 7
-0 write n[0] = 5
-1 call pop
-1 read n[0] = 0
-0 read n[0] = 5
-0 reg
-0 fault assert
-";
+mod store;
 
 /// The greatest length of a text.
 const TEXT_BYTES: usize = 65_536;
@@ -77,10 +51,10 @@ fn many_labels(alloc: Global) -> Result<String, AllocError> {
     Ok(text)
 }
 
-// Whether the reader refuses each of these texts, which all end too soon.
+// Whether the reader takes a program with many comments or blank lines behind it, and refuses a text that ends too soon.
 fn read_long_texts(alloc: Global) -> Result<bool, AllocError> {
-    let comments = long_text(alloc, PROGRAM, "; a line that says nothing\n")?;
-    let blanks = long_text(alloc, PROGRAM, "\n")?;
+    let comments = long_text(alloc, OWN_STORE, "; a line that says nothing\n")?;
+    let blanks = long_text(alloc, OWN_STORE, "\n")?;
     let labels = many_labels(alloc)?;
     let comments = tso_prog::read(alloc, comments.as_str().as_bytes());
     let blanks = tso_prog::read(alloc, blanks.as_str().as_bytes());
@@ -128,9 +102,9 @@ fn walk(alloc: Global, trace: &Trace, labels: u64) -> Result<(), AllocError>
 fn trace_of(alloc: Global) -> Option<Trace>
     ensures some { IfSome result (λ trace. 0 < length trace.labels) }
 {
-    let client = tso_prog::read(alloc, PROGRAM.as_bytes()).ok()?;
+    let client = tso_prog::read(alloc, OWN_STORE.as_bytes()).ok()?;
     let checked = tso_flow::check(alloc, client).ok()?;
-    let trace = Trace::read(alloc, &checked, TRACE.as_bytes()).ok()?;
+    let trace = Trace::read(alloc, &checked, OWN_STORE_TRACE.as_bytes()).ok()?;
     if trace.labels.is_empty() {
         None
     } else {
@@ -160,6 +134,20 @@ fn search_orders(alloc: Global) -> Result<bool, AllocError> {
     Ok(found.is_some() && none.is_none())
 }
 
+// The bytes of a certificate of so many records, of the same client.
+fn certificate(alloc: Global, states: u32) -> Option<Vec<u8>> {
+    let client = tso_prog::read(alloc, VYUKOV22.as_bytes()).ok()?;
+    let checked = tso_flow::check(alloc, client).ok()?;
+    certificate_of(alloc, &checked, states)
+}
+
+// A walk through so many states of two pushers and a popper, with two calls each but for one.
+fn walk_of(alloc: Global, states: u32) -> Option<Walked> {
+    let client = tso_prog::read(alloc, VYUKOV22.as_bytes()).ok()?;
+    let checked = tso_flow::check(alloc, client).ok()?;
+    walk_store(alloc, &checked, states)
+}
+
 /// What is measured.
 enum Benchmark {
     /// Long texts are read.
@@ -170,6 +158,16 @@ enum Benchmark {
     Kinds(u64),
     /// The threads' steps of a walk's states are made, so often.
     Steps(u64),
+    /// The states of a walk are tested for being well-formed, so often.
+    Formed(u64),
+    /// The same, and the actors to follow are chosen.
+    Chosen(u64),
+    /// The same, with the reasons of these actors.
+    Choices(u64),
+    /// So many states of a store are left by all their steps.
+    Store(u32),
+    /// The bytes of a certificate of so many records are read and spelled.
+    Certs(u32),
     /// So many labels are taken.
     Labels(u64),
 }
@@ -184,6 +182,15 @@ fn benchmark_of(words: &[String]) -> Benchmark {
         [_, word] if word.as_str() == "orders" => Benchmark::Orders,
         [_, word, rounds] if word.as_str() == "kinds" => Benchmark::Kinds(number_of(rounds)),
         [_, word, rounds] if word.as_str() == "steps" => Benchmark::Steps(number_of(rounds)),
+        [_, word, rounds] if word.as_str() == "formed" => Benchmark::Formed(number_of(rounds)),
+        [_, word, rounds] if word.as_str() == "chosen" => Benchmark::Chosen(number_of(rounds)),
+        [_, word, rounds] if word.as_str() == "choices" => Benchmark::Choices(number_of(rounds)),
+        [_, word, states] if word.as_str() == "store" => {
+            Benchmark::Store(states.as_str().parse::<u32>().unwrap_or(0))
+        }
+        [_, word, states] if word.as_str() == "certs" => {
+            Benchmark::Certs(states.as_str().parse::<u32>().unwrap_or(0))
+        }
         [_, labels] => Benchmark::Labels(number_of(labels)),
         _ => Benchmark::Texts,
     }
@@ -202,12 +209,36 @@ fn main(rt: HostRuntime) -> io::Result<ExitCode> {
             println!(rt; "orders: {expected}")?;
         }
         Benchmark::Kinds(rounds) => {
-            let count = measure_kinds(alloc, rounds)?;
+            let count = count_in_walks(alloc, Question::Kinds, rounds)?;
             println!(rt; "kinds: {count}")?;
         }
         Benchmark::Steps(rounds) => {
-            let count = measure_steps(alloc, rounds)?;
+            let count = count_in_walks(alloc, Question::Stores, rounds)?;
             println!(rt; "stores: {count}")?;
+        }
+        Benchmark::Formed(rounds) => {
+            let count = count_in_walks(alloc, Question::Formed, rounds)?;
+            println!(rt; "well-formed: {count}")?;
+        }
+        Benchmark::Chosen(rounds) => {
+            let count = count_in_walks(alloc, Question::Chosen, rounds)?;
+            println!(rt; "chosen: {count}")?;
+        }
+        Benchmark::Choices(rounds) => {
+            let count = count_in_walks(alloc, Question::Choices, rounds)?;
+            println!(rt; "choices: {count}")?;
+        }
+        Benchmark::Store(states) => {
+            let Some(walked) = walk_of(alloc, states) else {
+                return Ok(ExitCode::FAILURE);
+            };
+            println!(rt; "states: {}, steps: {}", walked.states, walked.steps)?;
+        }
+        Benchmark::Certs(states) => {
+            let Some(bytes) = certificate(alloc, states) else {
+                return Ok(ExitCode::FAILURE);
+            };
+            measure(&rt, bytes.as_slice())?;
         }
         Benchmark::Labels(labels) => {
             let Some(trace) = trace_of(alloc) else {

@@ -2,10 +2,13 @@
 
 ghost use Rattle.std.specs.Prelude.{◌≡◌};
 
-use crate::programs::{SPIN, VYUKOV};
 use std::alloc::{AllocError, Global};
+use tso_choose::{choose, chosen};
 use tso_compact::{kind, planned, step, thread_after, word_read};
 use tso_flow::Checked;
+use tso_foot::{Table, build};
+use tso_machine::thread_count;
+use tso_samples::{SPIN, VYUKOV};
 use tso_state::{Actor, State, Viewed, initial_state, is_well_formed};
 
 /// How many states a walk has.
@@ -24,7 +27,7 @@ fn enabled_actors(
     state: &State,
 ) -> Result<Vec<Actor>, AllocError> {
     let mut actors = Vec::new(alloc);
-    for number in 0..checked.thread_count() {
+    for number in 0..thread_count(&checked.client) {
         for actor in [Actor::Exec(number), Actor::Drain(number)] {
             if kind(checked, state, actor).is_some() {
                 actors.push(actor)?;
@@ -70,7 +73,7 @@ fn random_walk(alloc: Global, checked: &Checked) -> Result<Vec<State>, AllocErro
 // How many actors of the state have a step.
 fn count_kinds(checked: &Checked, state: &State) -> u64 {
     let mut count: u64 = 0;
-    for number in 0..checked.thread_count() {
+    for number in 0..thread_count(&checked.client) {
         for actor in [Actor::Exec(number), Actor::Drain(number)] {
             if kind(checked, state, actor).is_some() {
                 count = count.wrapping_add(1);
@@ -83,7 +86,7 @@ fn count_kinds(checked: &Checked, state: &State) -> u64 {
 // How many stores are buffered in the threads after each actor's step.
 fn count_stores(alloc: Global, checked: &Checked, state: &State) -> Result<u64, AllocError> {
     let mut count: u64 = 0;
-    for number in 0..checked.thread_count() {
+    for number in 0..thread_count(&checked.client) {
         for actor in [Actor::Exec(number), Actor::Drain(number)] {
             count = count.wrapping_add(stores_after(alloc, checked, state, actor)?);
         }
@@ -109,34 +112,73 @@ fn stores_after(
     Ok(after.buffer.len() as u64)
 }
 
-/// Asks for the kinds of all actors of the states of a walk so often, and says how many there are.
-pub fn measure_kinds(alloc: Global, rounds: u64) -> Result<u64, AllocError> {
-    let mut count: u64 = 0;
-    for text in [VYUKOV, SPIN] {
-        let Some(checked) = checked_of(alloc, text) else {
-            return Ok(0);
-        };
-        let states = random_walk(alloc, &checked)?;
-        for _ in 0..rounds {
-            for state in &states {
-                count = count.wrapping_add(count_kinds(&checked, state));
-            }
-        }
-    }
-    Ok(count)
+/// What is counted in each state of a walk.
+#[derive(Clone, Copy)]
+pub enum Question {
+    /// The actors that have a step.
+    Kinds,
+    /// The stores that are buffered after each actor's step.
+    Stores,
+    /// The state, if it is well-formed.
+    Formed,
+    /// The actors that are chosen, if the state is well-formed.
+    Chosen,
+    /// The same, with their reasons.
+    Choices,
 }
 
-/// Makes the thread's step of all actors of the states of a walk so often, and says how many stores are buffered then.
-pub fn measure_steps(alloc: Global, rounds: u64) -> Result<u64, AllocError> {
+// How many actors are chosen.
+fn count_chosen(checked: &Checked, table: &Table, state: &State) -> u64 {
+    if is_well_formed(checked, state) {
+        u64::from(chosen(checked, table, state).count_ones())
+    } else {
+        0
+    }
+}
+
+// How many actors are chosen, where their reasons are sought too.
+fn count_choices(
+    alloc: Global,
+    checked: &Checked,
+    table: &Table,
+    state: &State,
+) -> Result<u64, AllocError> {
+    if is_well_formed(checked, state) {
+        let choices = choose(alloc, checked, table, state)?;
+        Ok(choices.len() as u64)
+    } else {
+        Ok(0)
+    }
+}
+
+fn answer(
+    alloc: Global,
+    checked: &Checked,
+    table: &Table,
+    state: &State,
+    question: Question,
+) -> Result<u64, AllocError> {
+    match question {
+        Question::Kinds => Ok(count_kinds(checked, state)),
+        Question::Stores => count_stores(alloc, checked, state),
+        Question::Formed => Ok(u64::from(is_well_formed(checked, state))),
+        Question::Chosen => Ok(count_chosen(checked, table, state)),
+        Question::Choices => count_choices(alloc, checked, table, state),
+    }
+}
+
+/// Asks each state of a walk so often, and gives the sum of the answers.
+pub fn count_in_walks(alloc: Global, question: Question, rounds: u64) -> Result<u64, AllocError> {
     let mut count: u64 = 0;
     for text in [VYUKOV, SPIN] {
         let Some(checked) = checked_of(alloc, text) else {
             return Ok(0);
         };
+        let table = build(alloc, &checked)?;
         let states = random_walk(alloc, &checked)?;
         for _ in 0..rounds {
             for state in &states {
-                count = count.wrapping_add(count_stores(alloc, &checked, state)?);
+                count = count.wrapping_add(answer(alloc, &checked, &table, state, question)?);
             }
         }
     }

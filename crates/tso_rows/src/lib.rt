@@ -1,7 +1,11 @@
-//! Worked examples that cross crates: whole program texts through the reader, the flow check and the printer.
+//! Worked examples that cross crates: whole program texts through the reader, the flow check, the printer, steps, choices and
+//! the check of certificates.
 #![tactic(auto)]
 
-mod checked;
+#[cfg(test)]
+mod certificates;
+#[cfg(test)]
+mod choices;
 #[cfg(test)]
 mod limits;
 #[cfg(test)]
@@ -12,5 +16,3 @@ mod refusals;
 mod steps;
 #[cfg(test)]
 mod texts;
-
-pub use checked::{Refusal, checked_of};

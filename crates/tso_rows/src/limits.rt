@@ -1,11 +1,12 @@
 //! How many labels the runs of whole programs can have.
 
-use crate::checked_of;
-use crate::programs::{LAMPORT, ONE_REFUSAL, SPIN, VYUKOV};
 use std::alloc::Global;
 use std::test::Fail;
+use tso_check::checked_of;
 use tso_flow::ProcedureKind;
+use tso_machine::{calls_of, procedure_of, thread_count};
 use tso_prog::CallKind;
+use tso_samples::{LAMPORT, ONE_REFUSAL, SPIN, VYUKOV};
 
 // The bound of a text, none where it is refused.
 fn limit(alloc: Global, text: &str) -> Option<u64> {
@@ -74,18 +75,22 @@ fn checked_clients_have_their_parts(rt: HostRuntime) -> Result<(), Fail> {
     let checked = checked_of(alloc, whole.as_str().as_bytes())
         .ok()
         .ok_or("the program is refused")?;
-    assert_eq!(rt; checked.client().capacity, 2);
-    assert_eq!(rt; checked.procedure(CallKind::Push(7)).instructions.len(), 15);
-    assert_eq!(rt; checked.procedure(CallKind::Pop).instructions.len(), 14);
-    let count = checked.thread_count();
-    assert_eq!(rt; count, 3);
-    if count > 2 {
-        assert_eq!(rt;
-            checked.calls(0),
-            [CallKind::Push(7), CallKind::Pop].as_slice()
-        );
-        assert_eq!(rt; checked.calls(2), [CallKind::Push(5)].as_slice());
-    }
+    let client = &checked.client;
+    assert_eq!(rt; client.capacity, 2);
+    assert_eq!(rt;
+        procedure_of(client, ProcedureKind::Push).instructions.len(),
+        15
+    );
+    assert_eq!(rt;
+        procedure_of(client, ProcedureKind::Pop).instructions.len(),
+        14
+    );
+    assert_eq!(rt; thread_count(client), 3);
+    assert_eq!(rt;
+        calls_of(client, 0),
+        [CallKind::Push(7), CallKind::Pop].as_slice()
+    );
+    assert_eq!(rt; calls_of(client, 2), [CallKind::Push(5)].as_slice());
     checked.flow_is_sound(ProcedureKind::from(CallKind::Push(7)));
     checked.flow_is_sound(ProcedureKind::from(CallKind::Pop));
     Ok(())

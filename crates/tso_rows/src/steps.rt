@@ -1,57 +1,34 @@
 //! Steps of compact states of whole programs.
 
-use crate::checked_of;
-use crate::programs::{DEKKER, LAMPORT, LAMPORT_FENCED, LATE_DATA, OWN_STORE, SPIN, VYUKOV};
 use std::alloc::Global;
 use std::process::Abort;
 use std::test::Fail;
+use tso_check::checked_of;
 use tso_compact::{StepKind, kind, labels, step};
 use tso_flow::Checked;
 use tso_hist::History;
 use tso_list::Seq;
 use tso_machine::{Entry, Frame, Label, LabelKind};
+use tso_samples::{
+    BOUNDED_AFTER_PUSH, DEKKER, LAMPORT, LAMPORT_FENCED, LATE_DATA, OWN_STORE, SPIN, VYUKOV,
+};
 use tso_state::{Actor, Core, State, Thread, initial_state, is_well_formed};
 use tso_word::Flags;
 
-// A loop whose push stores again and again, and a locked instruction behind a store.
-const LOOP: &str = ".capacity 1
-.mode weak
-.array x 1
-.push
-again:
-  mov qword ptr [x], 1
-  cmp rdi, 7
-  je again bound 1
-  mov rax, 0
-  ret
-.end
-.pop
-  mov qword ptr [x], 2
-  mov rbx, 3
-  xchg qword ptr [x], rbx
-  mov rdx, 0
-  mov rax, 0
-  ret
-.end
-.before push 8
-.thread push 7
-.thread pop
-";
-
-const PUSHES: Actor = Actor::Exec(0);
+pub(crate) const PUSHES: Actor = Actor::Exec(0);
 
 const PUSH_DRAINS: Actor = Actor::Drain(0);
 
-const POPS: Actor = Actor::Exec(1);
+pub(crate) const POPS: Actor = Actor::Exec(1);
 
 const POP_DRAINS: Actor = Actor::Drain(1);
 
-const FIRST: Actor = Actor::Exec(2);
+pub(crate) const FIRST: Actor = Actor::Exec(2);
 
 const FIRST_DRAINS: Actor = Actor::Drain(2);
 
 // Where the steps of these actors lead from the state before any; none where one has no step.
-fn state_after(alloc: Global, checked: &Checked, actors: &[Actor]) -> Option<State> {
+pub(crate) fn state_after(alloc: Global, checked: &Checked, actors: &[Actor]) -> Option<State> {
     let mut state = initial_state(alloc, checked).ok()?;
     for actor in actors {
         if !is_well_formed(checked, &state) {
@@ -116,12 +93,12 @@ fn locked_instructions_wait_for_the_buffer(rt: HostRuntime) -> Result<(), Fail> 
     let mut actors = Vec::from_slice(rt.alloc(), &first)?;
     actors.extend_from_slice(&[POPS, POPS, POPS])?;
     let waits = [(POPS, None), (POP_DRAINS, Some(StepKind::Drain(0)))];
-    assert_kinds(&rt, rt.alloc(), LOOP, &actors, &waits)?;
+    assert_kinds(&rt, rt.alloc(), BOUNDED_AFTER_PUSH, &actors, &waits)?;
     actors.push(POP_DRAINS)?;
     assert_kinds(
         &rt,
         rt.alloc(),
-        LOOP,
+        BOUNDED_AFTER_PUSH,
         &actors,
         &[(POPS, Some(StepKind::Locked(0)))],
     )
@@ -150,20 +127,20 @@ fn cut_threads_drain(rt: HostRuntime) -> Result<(), Fail> {
         (PUSH_DRAINS, Some(StepKind::Drain(0))),
         (FIRST, None),
     ];
-    assert_kinds(&rt, rt.alloc(), LOOP, &actors, &want)
+    assert_kinds(&rt, rt.alloc(), BOUNDED_AFTER_PUSH, &actors, &want)
 }
 
 #[test]
 fn calls_wait_for_the_prologue(rt: HostRuntime) -> Result<(), Fail> {
     let waits = [(PUSHES, None), (POPS, None), (FIRST, Some(StepKind::Call))];
-    assert_kinds(&rt, rt.alloc(), LOOP, &[], &waits)?;
+    assert_kinds(&rt, rt.alloc(), BOUNDED_AFTER_PUSH, &[], &waits)?;
     let answered = [FIRST, FIRST, FIRST, FIRST, FIRST, FIRST];
     let undrained = [
         (PUSHES, None),
         (FIRST, None),
         (FIRST_DRAINS, Some(StepKind::Drain(0))),
     ];
-    assert_kinds(&rt, rt.alloc(), LOOP, &answered, &undrained)
+    assert_kinds(&rt, rt.alloc(), BOUNDED_AFTER_PUSH, &answered, &undrained)
 }
 
 #[test]
