@@ -5,7 +5,7 @@ use Rattle.std.proofs.lemmas.Option.{same_Some}
 use Rattle.tso_cert.proofs.Uniqueness.{unique}
 use Rattle.tso_cert.specs.Lookup.{tree_states}
 use Rattle.tso_cert.specs.Trees.{Tree, records_of}
-use Rattle.tso_check.specs.Valid.{IsValidCertificate, IsValidTree}
+use Rattle.tso_judge.specs.Valid.{IsValidCertificate, IsValidTree}
 use Rattle.tso_check.specs.Verdicts.{IsFault, IsFirstBadRecord, IsTreeFault, IsVerdict, no_certificate, no_initial, not_closed, not_ordered, of_record, of_tree, past_limit}
 use Rattle.tso_check.specs.declared.verdict.Verdict.{Verdict}
 use Rattle.tso_check.specs.declared.verdict.Verdict.TheVariants.{Accepted, Rejected}

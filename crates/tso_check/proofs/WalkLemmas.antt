@@ -6,7 +6,7 @@ use Rattle.std.proofs.lemmas.Option.{same_Some, slice_get_within}
 use Rattle.tso_check.proofs.RisingLemmas.{got_left, got_right}
 use Rattle.tso_cert.specs.Lookup.{IsOrdered, tree_states}
 use Rattle.tso_cert.specs.Trees.{Tree, leaf, fork, record_count, records_of}
-use Rattle.tso_check.specs.Valid.{AreValidRecords, HasInitial, IsValidRecord}
+use Rattle.tso_judge.specs.Valid.{AreValidRecords, HasInitial, IsValidRecord}
 use Rattle.tso_check.specs.Verdicts.{AreJudged, IsFirstBadRecord, IsTreeFault, of_record}
 use Rattle.tso_foot.specs.Closed.{IsClosed}
 use Rattle.tso_check.specs.declared.walk.Bad.{Bad}

@@ -1,5 +1,5 @@
 -- What the check of a certificate answers: that it is valid, or the first condition that fails.
-use Rattle.std.specs.Prelude.{◌≡◌, ◌+◌, ◌<◌, ℕ, List, None, Option, Some, slice_get, Result, Ok, Err}
+use Rattle.std.specs.Prelude.{◌≡◌, ◌+◌, ◌<◌, ◌++◌, ℕ, List, None, Option, Some, codes, decimal, slice_get, Result, Ok, Err}
 use Rattle.tso_cert.specs.Certificates.{Spells}
 use Rattle.tso_cert.specs.declared.fault.DecodeError.{DecodeError}
 use Rattle.tso_cert.specs.declared.fault.DecodeError.TheVariants as errors
@@ -10,13 +10,14 @@ use Rattle.tso_cert.specs.Lookup.{IsOrdered, tree_states}
 use Rattle.tso_cert.specs.Trees.{IsWithinLimits, Tree, records_of}
 use Rattle.tso_check.specs.Headline.{DenotesChecked}
 use Rattle.tso_check.specs.Programs.{IsNoVerdict}
-use Rattle.tso_check.specs.Valid.{AreValidRecords, HasInitial, IsValidCertificate, IsValidRecord, IsValidTree}
+use Rattle.tso_judge.specs.Valid.{AreValidRecords, HasInitial, IsValidCertificate, IsValidRecord, IsValidTree}
 use Rattle.tso_check.specs.declared.verdict.CheckError.{CheckError}
 use Rattle.tso_check.specs.declared.verdict.Verdict.{Verdict}
 use Rattle.tso_check.specs.declared.verdict.Verdict.TheVariants.{Accepted, Rejected}
 use Rattle.tso_check.specs.declared.walk.Bad.{Bad}
 use Rattle.tso_foot.specs.Closed.{IsClosed}
 use Rattle.tso_foot.specs.declared.table.Table.{Table}
+use Rattle.tso_judge.specs.Codes.{code_text}
 use Rattle.tso_judge.specs.Conditions.{SuccessorsAreKept}
 use Rattle.tso_judge.specs.Judging.{IsFirstFault}
 use Rattle.tso_judge.specs.declared.code.Code.{Code}
@@ -24,6 +25,12 @@ use Rattle.tso_judge.specs.declared.code.Code.TheVariants as faults
 use Rattle.tso_prog.specs.declared.client.Client.{Client}
 use Rattle.tso_rec.specs.declared.record.Record.{Record}
 use Rattle.tso_state.specs.declared.state.State.{State}
+
+-- a verdict as it is printed: accepted; or rejected, the code, and the number of the record, if there is one
+abbrev pub verdict_text : Verdict → List ℕ
+verdict_text Accepted = codes "accepted"
+verdict_text (Rejected code None) = codes "rejected " ++ code_text code
+verdict_text (Rejected code (Some place)) = codes "rejected " ++ (code_text code ++ (codes " at record " ++ decimal place))
 
 -- the code of a fault of bytes
 abbrev pub code_of : Fault → Code

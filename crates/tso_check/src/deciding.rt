@@ -1,13 +1,20 @@
 //! The check of certificates.
 
-ghost use Rattle.std.specs.Prelude.{◌≡◌, ◌≤◌, IfOk, None, Ok};
+ghost use Rattle.std.specs.Prelude.{◌≡◌, ◌≤◌, ◌↔◌, ◌⊎◌, Err, IfOk, IsTrue, None, Ok, Result};
 ghost use Rattle.tso_cert.specs.Lookup.{IsOrdered, tree_states};
 ghost use Rattle.tso_cert.specs.Trees.{record_count, tree_of};
-ghost use Rattle.tso_check.specs.Headline.{IsVerified};
-ghost use Rattle.tso_check.specs.Valid.{HasInitial};
+ghost use Rattle.tso_check.specs.Headline.{DenotesChecked, IsVerified};
+ghost use Rattle.tso_check.specs.Laws.{IsSameButMemory};
+ghost use Rattle.tso_check.specs.Programs.{IsRefused};
 ghost use Rattle.tso_check.specs.Verdicts.{IsAnswer, IsOfFault, IsTreeVerdict, IsVerdict, code_of};
+ghost use Rattle.tso_check.specs.declared.verdict.CheckError.{CheckError as AnError};
+ghost use Rattle.tso_check.specs.declared.verdict.CheckError.TheVariants as errors;
+ghost use Rattle.tso_check.specs.declared.verdict.Verdict.{Verdict as AVerdict};
 ghost use Rattle.tso_check.specs.declared.verdict.Verdict.TheVariants as verdicts;
 ghost use Rattle.tso_foot.specs.Closed.{IsClosed};
+ghost use Rattle.tso_judge.specs.Valid.{HasInitial, IsValidCertificate};
+ghost use Rattle.tso_prog.specs.declared.client.Client.{Client};
+ghost use Rattle.tso_prog.specs.declared.fault.Fault.{Fault as AFault};
 
 use crate::program::checked_of;
 use crate::rising::is_ordered;
@@ -69,6 +76,18 @@ fn check_records(
     }
 }
 
+// Whether a record has the initial state.
+fn has_initial(alloc: Global, checked: &Checked, cert: &Cert) -> Result<bool, AllocError>
+    requires { IsOrdered (tree_of cert.now) }
+    ensures { IfOk result (λ r. IsTrue r ↔ HasInitial checked.now.client (tree_states (tree_of cert.now))) }
+{
+    let initial = initial_state(alloc, checked)?;
+    if !cert.has(&initial) {
+        return Ok(false);
+    }
+    Ok(true)
+}
+
 // The conditions of the tree and the table as wholes, and then the records.
 fn check_tree(
     alloc: Global,
@@ -85,8 +104,7 @@ fn check_tree(
     if !is_closed(checked, table) {
         return Ok(rejected(Code::K04));
     }
-    let initial = initial_state(alloc, checked)?;
-    if !cert.has(&initial) {
+    if !has_initial(alloc, checked, cert)? {
         return Ok(rejected(Code::K09));
     }
     check_records(alloc, checked, table, cert)
@@ -99,7 +117,8 @@ fn check_tree(
 ///
 /// Errors: `Memory` where a growth was refused.
 pub fn check_client(alloc: Global, checked: &Checked, bytes: &[u8]) -> Result<Verdict, AllocError>
-    ensures { IfOk result (IsVerdict checked.now.client bytes.now) }
+    ensures verdict { IfOk result (IsVerdict checked.now.client bytes.now) }
+    ensures exact { (v : AVerdict) → IsVerdict checked.now.client bytes.now v → IfOk result (λ found. found ≡ v) }
 {
     match decode(alloc, bytes) {
         Ok((table, cert)) => check_tree(alloc, checked, &table, &cert),
@@ -107,17 +126,28 @@ pub fn check_client(alloc: Global, checked: &Checked, bytes: &[u8]) -> Result<Ve
     }
 }
 
+// What is answered of a program text and bytes.
+fn answer(alloc: Global, program: &[u8], cert: &[u8]) -> Result<Verdict, CheckError>
+    ensures { IsAnswer program.now cert.now result }
+{
+    let checked = checked_of(alloc, program)?;
+    let verdict = check_client(alloc, &checked, cert)?;
+    Ok(verdict)
+}
+
 /// Decides a certificate for the client of a program text. Nothing is trusted: where it accepts, the text denotes a client, with
 /// every thread and call of the text, and each run of this client on the x86-TSO machine (Sewell and others 2010) within its
 /// loop bounds, ended or not, has no fault, and its calls and returns are linearizable (Herlihy and Wing 1990) against the
-/// bounded queue of its mode and capacity.
+/// bounded queue of its mode and capacity. It answers `Program` exactly where the text has a fault, else `Accepted` exactly
+/// where the certificate is valid for the client of the text; only want of memory may stand in place of an answer.
 ///
 /// Errors: `Program` with the first fault of the text, which comes before all else; `Memory` where a growth was refused.
 pub fn check(alloc: Global, program: &[u8], cert: &[u8]) -> Result<Verdict, CheckError>
     ensures answer { IsAnswer program.now cert.now result }
     ensures headline { result ≡ Ok verdicts.Accepted → IsVerified program.now }
+    ensures exact { (other : Result AVerdict AnError) → IsAnswer program.now cert.now other → IsSameButMemory result other }
+    ensures refused { (fault : AFault) → IsRefused program.now fault → (result ≡ Err (errors.Program fault)) ⊎ (result ≡ Err errors.Memory) }
+    ensures valid { (c : Client) → DenotesChecked program.now c → IsValidCertificate c cert.now → (result ≡ Ok verdicts.Accepted) ⊎ (result ≡ Err errors.Memory) }
 {
-    let checked = checked_of(alloc, program)?;
-    let verdict = check_client(alloc, &checked, cert)?;
-    Ok(verdict)
+    answer(alloc, program, cert)
 }

@@ -9,6 +9,6 @@ mod verdict;
 mod walk;
 
 pub use deciding::{check, check_client};
-pub use laws::{accepted_runs_are_good, verdicts_are_unique};
+pub use laws::{accepted_runs_are_good, answers_are_unique, verdicts_are_unique};
 pub use program::checked_of;
 pub use verdict::{CheckError, Verdict};

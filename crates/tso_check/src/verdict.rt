@@ -1,6 +1,7 @@
 //! What a check answers.
 
-ghost use Rattle.std.specs.Prelude.{◌≡◌};
+ghost use Rattle.std.specs.Prelude.{◌≡◌, Some};
+ghost use Rattle.tso_check.specs.Verdicts.{verdict_text};
 ghost use Rattle.tso_check.specs.declared.verdict.CheckError.TheVariants as errors;
 
 use std::alloc::AllocError;
@@ -24,6 +25,8 @@ pub enum Verdict {
 
 /// As the program prints it: `accepted`, `rejected K01`, `rejected K08 at record 2`.
 impl fmt::Display for Verdict {
+    ghost output = { λ verdict. Some (verdict_text verdict) };
+
     fn fmt<W: fmt::Write>(&self, f: &mut fmt::Formatter<W>) -> fmt::Result {
         match self {
             Verdict::Accepted => write!(f, "accepted"),

@@ -1,3 +1,4 @@
 pub mod Codes
 pub mod Conditions
 pub mod Judging
+pub mod Valid

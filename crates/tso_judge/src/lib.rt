@@ -8,4 +8,5 @@ mod reasons;
 mod successors;
 
 pub use code::Code;
+pub use ends::has_no_stopped;
 pub use judging::{judge, judge_alone, judge_state};

@@ -1,0 +1,5 @@
+use Rattle.tso_check.proofs.OneAnswer.{one_answer}
+use Rattle.tso_check.proofs.laws.answers_are_unique.Goals as goal
+
+pub returns : goal.returns
+returns c = one_answer c.args.program.now c.args.cert.now
