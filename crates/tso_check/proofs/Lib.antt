@@ -1,7 +1,9 @@
 pub mod Goodness
+pub mod NumberedLemmas
 pub mod OneAnswer
 pub mod OneText
 pub mod OneVerdict
+pub mod RisingByNumbers
 pub mod RisingLemmas
 pub mod VerdictLemmas
 pub mod WalkLemmas

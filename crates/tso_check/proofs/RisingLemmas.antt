@@ -65,11 +65,15 @@ pub record IsGoing (last0 : Option State) (states : List State) (n : ℕ) (last 
 pub going_none : (last : Option State) (states : List State) → IsGoing last states 0 last
 going_none last states = record { each = λ before r. subst (λ l. AreRisen l last) (sym (append-nil before)) r }
 
+pub take_more : (states : List State) (n : ℕ) (y : State) → slice_get states n ≡ Some y → take (n + 1) states ≡ take n states ++ y ∷ []
+take_more states n y at =
+    let lt = slice_get_within states n y at in
+    ap (λ k. take k states) (let e : n + 1 ≡ suc n = omega arith in e) ∙ take-suc states n y lt ∙ ap (λ z. take n states ++ z ∷ []) (get_or_from_slice_get states n y y at)
+
 pub going_more : (last0 : Option State) (states : List State) (n : ℕ) (last : Option State) (y : State) → IsGoing last0 states n last → slice_get states n ≡ Some y → GoesOn last y → IsGoing last0 states (n + 1) (Some y)
 going_more last0 states n last y going at g = record {
   each = λ before r.
-      let lt = slice_get_within states n y at in
-      let next : take (n + 1) states ≡ take n states ++ y ∷ [] = ap (λ k. take k states) (let e : n + 1 ≡ suc n = omega arith in e) ∙ take-suc states n y lt ∙ ap (λ z. take n states ++ z ∷ []) (get_or_from_slice_get states n y y at) in
+      let next = take_more states n y at in
       subst (λ l. AreRisen l (Some y)) (append_assoc before (take n states) (y ∷ []) ∙ ap (λ l. before ++ l) (sym next)) (one_more (before ++ take n states) last y (going.each before r) g);
 }
 

@@ -93,7 +93,7 @@ module _ (c : Client) (t : Table) (states : List State) where
 
 -- ---- trees
 
-count_is : (t : Tree) → length (records_of t) ≡ record_count t
+pub count_is : (t : Tree) → length (records_of t) ≡ record_count t
 count_is (leaf rs) = refl
 count_is (fork l m r) = let long = length-append (records_of l) (records_of r) in let a = count_is l in let b = count_is r in omega (arith, long, a, b)
 

@@ -1,5 +1,6 @@
 pub mod Headline
 pub mod Laws
+pub mod Numbered
 pub mod Programs
 pub mod Risen
 pub mod Verdicts

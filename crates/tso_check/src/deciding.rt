@@ -1,38 +1,25 @@
 //! The check of certificates.
 
-ghost use Rattle.std.specs.Prelude.{◌≡◌, ◌≤◌, ◌↔◌, ◌⊎◌, Err, IfOk, IsTrue, None, Ok, Result};
-ghost use Rattle.tso_cert.specs.Lookup.{IsOrdered, tree_states};
-ghost use Rattle.tso_cert.specs.Trees.{record_count, tree_of};
+ghost use Rattle.std.specs.Prelude.{◌≡◌, ◌⊎◌, Err, IfOk, Ok, Result};
 ghost use Rattle.tso_check.specs.Headline.{DenotesChecked, IsVerified};
 ghost use Rattle.tso_check.specs.Laws.{IsSameButMemory};
 ghost use Rattle.tso_check.specs.Programs.{IsRefused};
-ghost use Rattle.tso_check.specs.Verdicts.{IsAnswer, IsOfFault, IsTreeVerdict, IsVerdict, code_of};
+ghost use Rattle.tso_check.specs.Verdicts.{IsAnswer, IsOfFault, IsVerdict, code_of};
 ghost use Rattle.tso_check.specs.declared.verdict.CheckError.{CheckError as AnError};
 ghost use Rattle.tso_check.specs.declared.verdict.CheckError.TheVariants as errors;
 ghost use Rattle.tso_check.specs.declared.verdict.Verdict.{Verdict as AVerdict};
 ghost use Rattle.tso_check.specs.declared.verdict.Verdict.TheVariants as verdicts;
-ghost use Rattle.tso_foot.specs.Closed.{IsClosed};
-ghost use Rattle.tso_judge.specs.Valid.{HasInitial, IsValidCertificate};
+ghost use Rattle.tso_judge.specs.Valid.{IsValidCertificate};
 ghost use Rattle.tso_prog.specs.declared.client.Client.{Client};
 ghost use Rattle.tso_prog.specs.declared.fault.Fault.{Fault as AFault};
 
 use crate::program::checked_of;
-use crate::rising::is_ordered;
-use crate::verdict::{CheckError, Verdict};
-use crate::walk::judge_records;
+use crate::stored::check_tree;
+use crate::verdict::{CheckError, Verdict, rejected};
 use std::alloc::{AllocError, Global};
-use tso_cert::{Cert, DecodeError, Fault, decode};
+use tso_cert::{DecodeError, Fault, decode};
 use tso_flow::Checked;
-use tso_foot::{Table, is_closed};
 use tso_judge::Code;
-use tso_state::initial_state;
-
-// Refused for the certificate as a whole.
-fn rejected(code: Code) -> Verdict
-    ensures { result ≡ verdicts.Rejected code None }
-{
-    Verdict::Rejected { code, place: None }
-}
 
 // The code of a fault of bytes.
 fn code_of(fault: Fault) -> Code
@@ -52,62 +39,6 @@ fn undecoded(error: DecodeError) -> Result<Verdict, AllocError>
         DecodeError::Fault(fault) => Ok(rejected(code_of(fault))),
         DecodeError::Memory => Err(AllocError),
     }
-}
-
-// The records, from the left.
-fn check_records(
-    alloc: Global,
-    checked: &Checked,
-    table: &Table,
-    cert: &Cert,
-) -> Result<Verdict, AllocError>
-    requires ordered { IsOrdered (tree_of cert.now) }
-    requires closed { IsClosed checked.now.client table.now }
-    requires initial { HasInitial checked.now.client (tree_states (tree_of cert.now)) }
-    requires few { record_count (tree_of cert.now) ≤ 4194304 }
-    ensures { IfOk result (IsTreeVerdict checked.now.client table.now (tree_of cert.now)) }
-{
-    match judge_records(alloc, checked, table, cert, cert, 0)? {
-        Some(bad) => Ok(Verdict::Rejected {
-            code: bad.code,
-            place: Some(bad.place),
-        }),
-        None => Ok(Verdict::Accepted),
-    }
-}
-
-// Whether a record has the initial state.
-fn has_initial(alloc: Global, checked: &Checked, cert: &Cert) -> Result<bool, AllocError>
-    requires { IsOrdered (tree_of cert.now) }
-    ensures { IfOk result (λ r. IsTrue r ↔ HasInitial checked.now.client (tree_states (tree_of cert.now))) }
-{
-    let initial = initial_state(alloc, checked)?;
-    if !cert.has(&initial) {
-        return Ok(false);
-    }
-    Ok(true)
-}
-
-// The conditions of the tree and the table as wholes, and then the records.
-fn check_tree(
-    alloc: Global,
-    checked: &Checked,
-    table: &Table,
-    cert: &Cert,
-) -> Result<Verdict, AllocError>
-    requires { record_count (tree_of cert.now) ≤ 4194304 }
-    ensures { IfOk result (IsTreeVerdict checked.now.client table.now (tree_of cert.now)) }
-{
-    if !is_ordered(cert)? {
-        return Ok(rejected(Code::K03));
-    }
-    if !is_closed(checked, table) {
-        return Ok(rejected(Code::K04));
-    }
-    if !has_initial(alloc, checked, cert)? {
-        return Ok(rejected(Code::K09));
-    }
-    check_records(alloc, checked, table, cert)
 }
 
 /// The verdict on bytes as a certificate for a client: accepted exactly where they are a valid one; else the first condition

@@ -2,9 +2,13 @@
 #![tactic(auto)]
 
 mod deciding;
+mod filling;
+mod halves;
 mod laws;
+mod numbered;
 mod program;
 mod rising;
+mod stored;
 mod verdict;
 mod walk;
 

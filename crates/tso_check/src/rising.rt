@@ -22,7 +22,8 @@ pub enum Risen {
     Not,
 }
 
-fn is_less(order: Ordering) -> bool
+/// Whether this says that the first of two is below the second.
+pub fn is_less(order: Ordering) -> bool
     ensures { IsTrue result ↔ (order ≡ Less) }
 {
     matches!(order, Ordering::Less)
@@ -117,9 +118,9 @@ fn begins_above(cert: &Cert, state: &State) -> bool
     }
 }
 
-// Whether each fork's state is above the ends of the leaves of its left half, and not above the beginnings of those of its right
-// half.
-fn forks_look(cert: &Cert) -> bool
+/// Whether each fork's state is above the ends of the leaves of its left half, and not above the beginnings of those of its right
+/// half.
+pub fn forks_look(cert: &Cert) -> bool
     ensures { IsTrue result ↔ ForksLook (tree_of cert.now) }
 {
     match cert {

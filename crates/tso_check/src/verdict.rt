@@ -1,8 +1,9 @@
 //! What a check answers.
 
-ghost use Rattle.std.specs.Prelude.{◌≡◌, Some};
+ghost use Rattle.std.specs.Prelude.{◌≡◌, None, Some};
 ghost use Rattle.tso_check.specs.Verdicts.{verdict_text};
 ghost use Rattle.tso_check.specs.declared.verdict.CheckError.TheVariants as errors;
+ghost use Rattle.tso_check.specs.declared.verdict.Verdict.TheVariants as verdicts;
 
 use std::alloc::AllocError;
 use std::fmt;
@@ -21,6 +22,13 @@ pub enum Verdict {
         /// The number of the record that fails it, counted from 0 from the left, if it is a condition of a record.
         place: Option<u64>,
     },
+}
+
+/// Refused for the certificate as a whole.
+pub fn rejected(code: Code) -> Verdict
+    ensures { result ≡ verdicts.Rejected code None }
+{
+    Verdict::Rejected { code, place: None }
 }
 
 /// As the program prints it: `accepted`, `rejected K01`, `rejected K08 at record 2`.

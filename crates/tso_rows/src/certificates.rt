@@ -5,9 +5,9 @@ use tso_check::{Verdict, check};
 use tso_judge::Code;
 use tso_samples::{BAD_ANSWER, ONE_REFUSAL, ONE_REFUSAL_STRICT};
 
-// The certificate: 17 bytes up to the tree, one leaf of four records. Their states: nothing has begun; the push has returned;
-// before its first instruction; before its second. The second ends with an order; the others choose the core.
-const WHOLE: &[u8] =
+/// The certificate: 17 bytes up to the tree, one leaf of four records. Their states: nothing has begun; the push has returned;
+/// before its first instruction; before its second. The second ends with an order; the others choose the core.
+pub const WHOLE: &[u8] =
     b"TSOC\x01\x02\0\0\0\0\x03\0\0\0\0\0\0\0\x04\0\x01\0\0\x01\0\0\x01\0\0\0\x01\0\0\x01\x01\0\x07\x01\0\x01\x01\x01\0\0\x01\0\x01\x01\0\0\0\0\0\0\x07\0\0\0\0\0\0\0\0\0\0\0\0\x01\x01\0\x07\x01\0\0\0\x01\0\0\0\x01\x01\x01\0\0\0\0\0\x07\0\0\0\0\0\0\0\0\0\0\0\0\x01\x01\0\x07\x01\0\0\0\x01\0\0";
 
 // What is answered of bytes as a certificate for the program.

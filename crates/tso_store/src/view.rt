@@ -66,6 +66,13 @@ impl<'a> View<'a> {
     ghost use Rattle.tso_store.specs.Keys.{IsKept, state_at};
     ghost use Rattle.tso_prog.specs.declared.client.Client.{Client};
 
+    /// The calls of all threads.
+    pub fn history(&self) -> &History
+        ensures { result.now ≡ self.now.history }
+    {
+        self.history
+    }
+
     /// The state of a key, where it is kept.
     pub(crate) fn of_key(parts: &'a Parts, key: &Key) -> Option<View<'a>>
         requires kept { (c : Client) × IsKept c parts.now key.now }

@@ -1,5 +1,7 @@
 //! Why a walk ends too soon.
 
+ghost use Rattle.std.specs.Prelude.{◌≡◌, true, false, OnErr, OnOk};
+
 use std::alloc::AllocError;
 use tso_compact::StepError;
 use tso_store::{AddError, Refused};
@@ -47,7 +49,10 @@ impl From<Refused> for Failure {
 }
 
 /// An error where this does not hold.
-pub fn ensure(holds: bool) -> Result<(), Failure> {
+pub fn ensure(holds: bool) -> Result<(), Failure>
+    ensures ok { OnOk result (holds ≡ true) }
+    ensures err { OnErr result (holds ≡ false) }
+{
     if holds {
         Ok(())
     } else {

@@ -1,14 +1,31 @@
 //! The words of the command line.
 
+use crate::help;
+use crate::limit::StateLimit;
 use clap::error::ErrorKind;
-use clap::{Arg, ArgAction, Command, Error, value_parser};
+use clap::{Arg, ArgAction, ArgMatches, Command, Error, value_parser};
 use std::alloc::{AllocError, Global};
+use tso_cert::Workers;
+
+/// What is searched, how far, and where what is found is written.
+#[derive(Clone, Copy, Debug)]
+pub struct Search<'a> {
+    pub program: &'a str,
+    pub cert: &'a str,
+    pub trace: &'a str,
+    pub workers: Workers,
+    pub limit: StateLimit,
+    /// Whether it is to be said how much was written.
+    pub stats: bool,
+}
 
 /// What the words ask for.
 #[derive(Debug, Drop)]
 pub enum Request<'a> {
     /// Help, as this text.
     Help(String),
+    /// The search of a program's runs.
+    Verify(Search<'a>),
     /// The verdict on a certificate.
     Check {
         program: &'a str,
@@ -42,12 +59,55 @@ fn program_argument<'a>(alloc: Global) -> Arg<'a> {
         .help("the program text")
 }
 
+// An option with a value, which has to be there.
+fn path_option<'a>(alloc: Global, name: &'a str, value: &'a str, help: &'a str) -> Arg<'a> {
+    Arg::new(alloc, name)
+        .long(name)
+        .value_name(value)
+        .action(ArgAction::Set)
+        .required(true)
+        .help(help)
+}
+
+fn verify_command<'a>(alloc: Global) -> Result<Command<'a>, AllocError> {
+    let workers = Arg::new(alloc, "workers")
+        .long("workers")
+        .value_name("N")
+        .action(ArgAction::Set)
+        .value_parser(value_parser!(u64).range(1..=64))
+        .default_value("1")
+        .help("how many workers search, 1 to 64");
+    let states = Arg::new(alloc, "states")
+        .long("states")
+        .value_name("N")
+        .action(ArgAction::Set)
+        .value_parser(value_parser!(u64).range(1..=4_194_304))
+        .default_value("4194304")
+        .help("how many states the search may meet, 1 to 4194304");
+    let stats = Arg::new(alloc, "stats")
+        .long("stats")
+        .action(ArgAction::SetTrue)
+        .help("says on standard error how much was written");
+    Command::new(alloc, "verify")
+        .about(
+            "searches all runs of a program, for a certificate that they are good or a trace of one that is not",
+        )
+        .after_help(help::VERIFY)
+        .arg(program_argument(alloc))?
+        .arg(path_option(alloc, "out", "CERT", "where the certificate is written"))?
+        .arg(path_option(alloc, "trace", "TRACE", "where the trace is written"))?
+        .arg(workers)?
+        .arg(states)?
+        .arg(stats)
+}
+
 fn check_command<'a>(alloc: Global) -> Result<Command<'a>, AllocError> {
     let cert = Arg::new(alloc, "CERT")
         .required(true)
         .help("the certificate");
     Command::new(alloc, "check")
         .about("decides a certificate: where it is accepted, every run of the program is good")
+        .after_help(help::CHECK)
         .arg(program_argument(alloc))?
         .arg(cert)
 }
@@ -66,6 +126,7 @@ fn replay_command<'a>(alloc: Global) -> Result<Command<'a>, AllocError> {
         .about(
             "walks the machine along a trace, and prints its labels, the state and what is wrong",
         )
+        .after_help(help::REPLAY)
         .arg(program_argument(alloc))?
         .arg(trace)?
         .arg(to)
@@ -74,7 +135,9 @@ fn replay_command<'a>(alloc: Global) -> Result<Command<'a>, AllocError> {
 fn command<'a>(alloc: Global) -> Result<Command<'a>, AllocError> {
     Command::new(alloc, "tsoq")
         .about("checks lock-free ring queues under x86-TSO")
+        .after_help(help::PROGRAM)
         .subcommand_required(true)
+        .subcommand(verify_command(alloc)?)?
         .subcommand(check_command(alloc)?)?
         .subcommand(replay_command(alloc)?)
 }
@@ -89,12 +152,40 @@ fn error_request<'a>(alloc: Global, error: Error) -> Result<Request<'a>, Misuse>
     }
 }
 
+// A usage fault of which this is said.
+fn misused(alloc: Global, text: &str) -> Misuse {
+    match String::from_str(alloc, text) {
+        Ok(text) => Misuse::Usage(text),
+        Err(_) => Misuse::Memory,
+    }
+}
+
+fn search_of<'a>(alloc: Global, verify: &ArgMatches<'a>) -> Result<Search<'a>, Misuse> {
+    let Some(workers) = Workers::new(verify.get_one::<u64>("workers").unwrap_or(0)) else {
+        return Err(misused(alloc, "there are 1 to 64 workers\n"));
+    };
+    let Some(limit) = StateLimit::new(verify.get_one::<u64>("states").unwrap_or(0)) else {
+        return Err(misused(alloc, "the limit is 1 to 4194304 states\n"));
+    };
+    Ok(Search {
+        program: verify.get_str("FILE").unwrap_or(""),
+        cert: verify.get_str("out").unwrap_or(""),
+        trace: verify.get_str("trace").unwrap_or(""),
+        workers,
+        limit,
+        stats: verify.get_flag("stats"),
+    })
+}
+
 /// What the words ask for, the program's name first.
 pub fn request_of<'a>(alloc: Global, words: &'a [String]) -> Result<Request<'a>, Misuse> {
     let matches = match command(alloc)?.try_get_matches_from(words) {
         Ok(matches) => matches,
         Err(error) => return error_request(alloc, error),
     };
+    if let Some(verify) = matches.subcommand_matches("verify") {
+        return Ok(Request::Verify(search_of(alloc, verify)?));
+    }
     if let Some(check) = matches.subcommand_matches("check") {
         return Ok(Request::Check {
             program: check.get_str("FILE").unwrap_or(""),
@@ -102,7 +193,7 @@ pub fn request_of<'a>(alloc: Global, words: &'a [String]) -> Result<Request<'a>,
         });
     }
     let Some(replay) = matches.subcommand_matches("replay") else {
-        return Err(Misuse::Usage(String::from_str(alloc, "no command\n")?));
+        return Err(misused(alloc, "no command\n"));
     };
     Ok(Request::Replay {
         program: replay.get_str("FILE").unwrap_or(""),

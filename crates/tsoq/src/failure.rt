@@ -21,8 +21,12 @@ pub enum Failure {
     Program(Fault),
     /// The trace is refused.
     Trace(TraceFault),
+    /// More states can be reached than the search may meet.
+    Limit,
     /// A file cannot be read.
     CannotRead(String),
+    /// A file cannot be written.
+    CannotWrite(String),
     /// Standard output cannot be written.
     CannotPrint,
     /// A growth was refused.
@@ -37,8 +41,9 @@ impl Failure {
         match self {
             Failure::Program(_) => 2,
             Failure::Trace(_) => 3,
+            Failure::Limit => 4,
             Failure::Memory => 5,
-            Failure::CannotRead(_) | Failure::CannotPrint => 6,
+            Failure::CannotRead(_) | Failure::CannotWrite(_) | Failure::CannotPrint => 6,
             Failure::Usage(_) | Failure::NotText => 64,
         }
     }
@@ -51,7 +56,9 @@ impl fmt::Display for Failure {
             Failure::NotText => writeln!(f, "a word of the command line is not UTF-8"),
             Failure::Program(fault) => writeln!(f, "{fault}"),
             Failure::Trace(fault) => writeln!(f, "{fault}"),
+            Failure::Limit => writeln!(f, "limit reached"),
             Failure::CannotRead(path) => writeln!(f, "cannot read {path}"),
+            Failure::CannotWrite(path) => writeln!(f, "cannot write {path}"),
             Failure::CannotPrint => writeln!(f, "cannot write standard output"),
             Failure::Memory => writeln!(f, "out of memory"),
         }

@@ -2,14 +2,21 @@
 #![tactic(auto)]
 
 mod command;
+mod counted;
 mod failure;
 mod files;
+mod help;
 mod host;
 mod length;
+mod limit;
+#[cfg(test)]
+mod memory;
 mod replay;
+mod report;
 mod run;
 #[cfg(test)]
 mod tests;
+mod verify;
 mod words;
 
 use crate::host::HostFiles;

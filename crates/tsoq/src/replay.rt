@@ -3,13 +3,14 @@
 ghost use Rattle.std.specs.Prelude.{◌≡◌, ◌+◌, ◌≤◌, length, IfOk, OnOk};
 
 use crate::failure::Failure;
+use crate::report::Wrong;
 use std::alloc::Global;
 use std::io::Write;
 use tso_flow::ProcedureKind;
 use tso_list::Seq;
 use tso_machine::{Core, Machine, Running, Stage, Thread};
 use tso_prog::Array;
-use tso_trace::{Cursor, Trace, Violation, cell_name};
+use tso_trace::{Cursor, Trace, cell_name};
 
 // Writes a text and a newline.
 fn put_line<W: Write>(out: &mut W, text: &str) -> Result<(), Failure> {
@@ -96,13 +97,8 @@ fn put_state<W: Write>(
 }
 
 fn put_violation<W: Write>(alloc: Global, out: &mut W, trace: &Trace) -> Result<(), Failure> {
-    match trace.violation() {
-        Violation::Fault(thread) => put_line(
-            out,
-            format!(in alloc; "violation: fault in thread {thread}")?.as_str(),
-        ),
-        Violation::NoOrder => put_line(out, "violation: no order"),
-    }
+    let wrong = Wrong(trace.violation());
+    put_line(out, format!(in alloc; "{wrong}")?.as_str())
 }
 
 // Takes so many labels.

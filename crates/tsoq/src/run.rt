@@ -3,11 +3,12 @@
 ghost use Rattle.std.specs.Prelude.{◌≡◌};
 ghost use Rattle.tsoq.specs.Statuses.{status_of, status_of_verdict};
 
-use crate::command::{Misuse, Request, request_of};
+use crate::command::{Misuse, Request, Search, request_of};
 use crate::failure::Failure;
 use crate::files::{FileFailure, Files, read_up_to};
 use crate::length::trace_within;
 use crate::replay::print_replay;
+use crate::verify::verify;
 use crate::words::words_of;
 use std::alloc::{Alloc, Global};
 use std::env::Env;
@@ -81,18 +82,38 @@ fn check<F: Files, O: Write>(
     Ok(verdict_status(verdict))
 }
 
+fn search<F: Files, O: Write, E: Write>(
+    alloc: Global,
+    files: &mut F,
+    out: &mut O,
+    err: &mut E,
+    search: &Search<'_>,
+) -> Result<u8, Failure> {
+    let program = read_file(alloc, files, search.program, PROGRAM_BYTES)?;
+    let report = verify(alloc, files, &program, search)?;
+    print(out, &report.to_string(alloc)?)?;
+    if search.stats {
+        out.flush().map_err(|_| Failure::CannotPrint)?;
+        let sizes = report.sizes().to_string(alloc)?;
+        let _ = err.write_all(sizes.as_bytes());
+    }
+    Ok(report.status())
+}
+
 // Does what the words ask for, and gives the status.
-fn perform<F: Files, O: Write>(
+fn perform<F: Files, O: Write, E: Write>(
     alloc: Global,
     words: &[String],
     files: &mut F,
     out: &mut O,
+    err: &mut E,
 ) -> Result<u8, Failure> {
     match request_of(alloc, words) {
         Ok(Request::Help(text)) => {
             print(out, &text)?;
             Ok(0)
         }
+        Ok(Request::Verify(asked)) => search(alloc, files, out, err, &asked),
         Ok(Request::Check { program, cert }) => check(alloc, files, out, program, cert),
         Ok(Request::Replay { program, trace, to }) => {
             replay(alloc, files, out, program, trace, to)?;
@@ -104,13 +125,14 @@ fn perform<F: Files, O: Write>(
 }
 
 // The same, with all that was printed written out.
-fn perform_all<F: Files, O: Write>(
+fn perform_all<F: Files, O: Write, E: Write>(
     alloc: Global,
     words: &[String],
     files: &mut F,
     out: &mut O,
+    err: &mut E,
 ) -> Result<u8, Failure> {
-    let status = perform(alloc, words, files, out)?;
+    let status = perform(alloc, words, files, out, err)?;
     out.flush().map_err(|_| Failure::CannotPrint)?;
     Ok(status)
 }
@@ -135,7 +157,7 @@ pub fn run<F: Files, O: Write, E: Write>(
     out: &mut O,
     err: &mut E,
 ) -> u8 {
-    match perform_all(alloc, words, files, out) {
+    match perform_all(alloc, words, files, out, err) {
         Ok(status) => status,
         Err(failure) => reported(alloc, err, &failure),
     }

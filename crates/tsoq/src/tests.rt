@@ -1,12 +1,13 @@
 //! The program over files in memory.
 
-use crate::files::Files;
 use crate::length::trace_within;
+use crate::memory::MemoryFiles;
 use crate::run::{run, run_process};
 use std::alloc::{Alloc, Global};
+use std::cell::RefCell;
 use std::env::{Env, FillError};
 use std::io;
-use std::io::{Error, ErrorKind, Read, Write};
+use std::io::{Error, ErrorKind, Write};
 use std::process::Abort;
 use std::test::Fail;
 use tso_samples::{
@@ -50,45 +51,6 @@ thread 1 idle
 violation: no order
 ";
 
-// A program file and a trace file, called `program` and `trace`.
-struct MemoryFiles<'a> {
-    program: &'a [u8],
-    trace: &'a [u8],
-}
-
-#[derive(Drop)]
-struct MemoryReader<'a> {
-    rest: &'a [u8],
-}
-
-impl<'a> Read for MemoryReader<'a> {
-    fn read(&mut self, buf: &mut [u8]) -> io::Result<usize> {
-        let count = buf.len().min(self.rest.len());
-        let (now, later) = self.rest.split_at(count);
-        buf[..count].copy_from_slice(now);
-        self.rest = later;
-        Ok(count)
-    }
-}
-
-impl<'a> Files for MemoryFiles<'a> {
-    type Reader = MemoryReader<'a>;
-
-    type Writer = Vec<u8>;
-
-    fn open(&mut self, path: &str) -> io::Result<MemoryReader<'a>> {
-        match path {
-            "program" => Ok(MemoryReader { rest: self.program }),
-            "trace" => Ok(MemoryReader { rest: self.trace }),
-            _ => Err(Error::from(ErrorKind::NotFound)),
-        }
-    }
-
-    fn create(&mut self, _path: &str) -> io::Result<Vec<u8>> {
-        Err(Error::from(ErrorKind::NotFound))
-    }
-}
-
 // The certificate of the client with one push that is refused.
 const ONE_REFUSAL_CERT: &[u8] =
     b"TSOC\x01\x02\0\0\0\0\x03\0\0\0\0\0\0\0\x04\0\x01\0\0\x01\0\0\x01\0\0\0\x01\0\0\x01\x01\0\x07\x01\0\x01\x01\x01\0\0\x01\0\x01\x01\0\0\0\0\0\0\x07\0\0\0\0\0\0\0\0\0\0\0\0\x01\x01\0\x07\x01\0\0\0\x01\0\0\0\x01\x01\x01\0\0\0\0\0\x07\0\0\0\0\0\0\0\0\0\0\0\0\x01\x01\0\x07\x01\0\0\0\x01\0\0";
@@ -111,6 +73,8 @@ struct Outcome {
     status: u8,
     out: Vec<u8>,
     err: Vec<u8>,
+    paths: Vec<u8>,
+    written: Vec<u8>,
 }
 
 fn outcome_of(
@@ -124,15 +88,25 @@ fn outcome_of(
     for word in words {
         owned.push(String::from_str(alloc, word)?)?;
     }
-    let mut files = MemoryFiles { program, trace };
+    let paths = RefCell::new(Vec::new(alloc));
+    let written = RefCell::new(Vec::new(alloc));
+    let mut files = MemoryFiles {
+        program,
+        trace,
+        paths: &paths,
+        written: &written,
+    };
     let mut out = Vec::new(alloc);
     let mut err = Vec::new(alloc);
     let status = run(alloc, owned.as_slice(), &mut files, &mut out, &mut err);
-    let MemoryFiles {
-        program: _,
-        trace: _,
-    } = files;
-    Ok(Outcome { status, out, err })
+    drop(files);
+    Ok(Outcome {
+        status,
+        out,
+        err,
+        paths: paths.into_inner(),
+        written: written.into_inner(),
+    })
 }
 
 fn replayed(alloc: Global, program: &str, trace: &str) -> Result<Outcome, Fail> {
@@ -363,7 +337,13 @@ fn words_files_and_streams_fail(rt: HostRuntime) -> Result<(), Fail> {
         b"cannot read nothing\n".as_slice()
     );
     for line in [
-        "verify program trace",
+        "verify program cert",
+        "verify program --out cert",
+        "verify program --out cert --trace found --workers 0",
+        "verify program --out cert --trace found --workers 65",
+        "verify program --out cert --trace found --states 0",
+        "verify program --out cert --trace found --states 4194305",
+        "verify program --out cert --trace found --states x",
         "check program",
         "check program cert --to 1",
         "replay program",
@@ -373,9 +353,111 @@ fn words_files_and_streams_fail(rt: HostRuntime) -> Result<(), Fail> {
     ] {
         assert_eq!(rt; status_of(alloc, line)?, 64, "{line}");
     }
-    let help = outcome_of(alloc, &["--help"], b"", b"")?;
-    assert_eq!(rt; help.status, 0);
-    assert!(rt; !help.out.is_empty());
+    Ok(())
+}
+
+#[test]
+fn help_teaches(rt: HostRuntime) -> Result<(), Fail> {
+    let alloc = rt.alloc();
+    for command in ["verify", "check", "replay"] {
+        let help = outcome_of(alloc, &[command, "--help"], b"", b"")?;
+        assert_eq!(rt; help.status, 0);
+        assert!(rt; help.out.ends_with(b"  64  the words are none of these\n"));
+    }
+    let all = outcome_of(alloc, &["--help"], b"", b"")?;
+    assert_eq!(rt; all.status, 0);
+    assert!(rt; all.out.len() > 500);
+    Ok(())
+}
+
+// The search of a program's runs, of at most so many states.
+fn verified(alloc: Global, program: &str, states: &str, out: &str) -> Result<Outcome, Fail> {
+    outcome_of(
+        alloc,
+        &[
+            "verify", "program", "--out", out, "--trace", "found", "--states", states,
+        ],
+        program.as_bytes(),
+        b"",
+    )
+}
+
+#[test]
+fn certificates_are_written(rt: HostRuntime) -> Result<(), Fail> {
+    let found = verified(rt.alloc(), ONE_REFUSAL, "4", "cert")?;
+    assert_eq!(rt;
+        found.out.as_slice(),
+        b"certificate: 4 records\n".as_slice()
+    );
+    assert_eq!(rt; found.status, 0);
+    assert_eq!(rt; found.paths.as_slice(), b"cert:".as_slice());
+    assert_eq!(rt; found.written.as_slice(), ONE_REFUSAL_CERT);
+    Ok(())
+}
+
+#[test]
+fn searches_stop_at_their_limit(rt: HostRuntime) -> Result<(), Fail> {
+    let found = verified(rt.alloc(), ONE_REFUSAL, "3", "cert")?;
+    assert_eq!(rt; found.err.as_slice(), b"limit reached\n".as_slice());
+    assert_eq!(rt; found.status, 4);
+    assert!(rt; found.out.is_empty());
+    assert!(rt; found.paths.is_empty());
+    Ok(())
+}
+
+#[test]
+fn traces_are_written(rt: HostRuntime) -> Result<(), Fail> {
+    let alloc = rt.alloc();
+    let found = verified(alloc, OWN_STORE, "4194304", "cert")?;
+    assert!(rt;
+        found
+            .out
+            .starts_with(b"violation: fault in thread 0\ntrace: ")
+    );
+    assert_eq!(rt; found.status, 1);
+    assert_eq!(rt; found.paths.as_slice(), b"found:".as_slice());
+    let words = ["replay", "program", "trace"];
+    let again = outcome_of(alloc, &words, OWN_STORE.as_bytes(), &found.written)?;
+    assert!(rt; again.out.ends_with(b"violation: fault in thread 0\n"));
+    Ok(())
+}
+
+#[test]
+fn files_that_are_not_written_are_named(rt: HostRuntime) -> Result<(), Fail> {
+    let alloc = rt.alloc();
+    let lines = [
+        ("full", "cannot write full\n"),
+        ("nowhere", "cannot write nowhere\n"),
+    ];
+    for (path, line) in lines {
+        let found = verified(alloc, ONE_REFUSAL, "4", path)?;
+        assert_eq!(rt; found.err.as_slice(), line.as_bytes());
+        assert_eq!(rt; found.status, 6);
+        assert!(rt; found.out.is_empty());
+    }
+    Ok(())
+}
+
+#[test]
+fn searches_want_a_program(rt: HostRuntime) -> Result<(), Fail> {
+    let found = verified(rt.alloc(), ".mode strict\n", "4", "cert")?;
+    assert_eq!(rt; found.err.as_slice(), b"E03 line 1\n".as_slice());
+    assert_eq!(rt; found.status, 2);
+    assert!(rt; found.paths.is_empty());
+    Ok(())
+}
+
+#[test]
+fn sizes_are_told(rt: HostRuntime) -> Result<(), Fail> {
+    let words = [
+        "verify", "program", "--out", "cert", "--trace", "found", "--stats",
+    ];
+    let found = outcome_of(rt.alloc(), &words, ONE_REFUSAL.as_bytes(), b"")?;
+    assert_eq!(rt;
+        found.err.as_slice(),
+        b"records: 4\nbytes: 111\n".as_slice()
+    );
+    assert_eq!(rt; found.status, 0);
     Ok(())
 }
 
@@ -386,18 +468,18 @@ fn closed_output_is_a_failure(rt: HostRuntime) -> Result<(), Fail> {
     for word in ["tsoq", "replay", "program", "trace"] {
         words.push(String::from_str(alloc, word)?)?;
     }
+    let paths = RefCell::new(Vec::new(alloc));
+    let written = RefCell::new(Vec::new(alloc));
     let mut files = MemoryFiles {
         program: OWN_STORE.as_bytes(),
         trace: OWN_STORE_TRACE.as_bytes(),
+        paths: &paths,
+        written: &written,
     };
     let mut out = Closed;
     let mut err = Vec::new(alloc);
     let status = run(alloc, words.as_slice(), &mut files, &mut out, &mut err);
     assert_eq!(rt; status, 6);
-    let MemoryFiles {
-        program: _,
-        trace: _,
-    } = files;
     let Closed = out;
     Ok(())
 }
@@ -441,16 +523,16 @@ impl<'a> Env for System<'a> {
 // The status of a process with these words.
 fn process_status(alloc: Global, words: &[&[u8]]) -> u8 {
     let system = System { alloc, words };
+    let paths = RefCell::new(Vec::new(alloc));
+    let written = RefCell::new(Vec::new(alloc));
     let mut files = MemoryFiles {
         program: OWN_STORE.as_bytes(),
         trace: OWN_STORE_TRACE.as_bytes(),
+        paths: &paths,
+        written: &written,
     };
     let mut err = Vec::new(alloc);
     let status = run_process(&system, &mut files, Vec::new(alloc), &mut err);
-    let MemoryFiles {
-        program: _,
-        trace: _,
-    } = files;
     status
 }
 

@@ -1,0 +1,58 @@
+//! The states of a tree's records, put into a store so that each has its record's number.
+
+ghost use Rattle.std.specs.Prelude.{◌≡◌, ◌++◌, ◌∷◌, [], IfOk, IsTrue};
+ghost use Rattle.tso_cert.specs.Lookup.{tree_states};
+ghost use Rattle.tso_cert.specs.Trees.{tree_of};
+ghost use Rattle.tso_rec.specs.Records.{states_of};
+
+use std::alloc::AllocError;
+use tso_cert::Cert;
+use tso_rec::Packed;
+use tso_state::State;
+use tso_store::{AddError, Store};
+
+// Puts a state behind those of the store, unless it is one of them or does not fit the client.
+fn append(store: &mut Store<'_>, state: &State) -> Result<bool, AllocError>
+    ensures states { IfOk result (λ r. IsTrue r → store.new.states ≡ store.old.states ++ state.now ∷ []) }
+    ensures client { store.new.client ≡ store.old.client }
+{
+    match store.add(state) {
+        Ok((_, is_new)) => Ok(is_new),
+        Err(AddError::Memory) => Err(AllocError),
+        Err(AddError::Misfit) => Ok(false),
+        Err(AddError::Full) => Ok(false),
+    }
+}
+
+// The same for the states of a leaf, in their order.
+fn append_leaf(store: &mut Store<'_>, records: &Packed) -> Result<bool, AllocError>
+    ensures states { IfOk result (λ r. IsTrue r → store.new.states ≡ store.old.states ++ states_of records.now) }
+    ensures client { store.new.client ≡ store.old.client }
+{
+    for k in 0..records.len() {
+        let state = records.state(k)?;
+        if !append(store, &state)? {
+            return Ok(false);
+        }
+    }
+    Ok(true)
+}
+
+/// Puts the states of a tree's records behind those of a store, in the order of the records, if all fit the client and no two
+/// are the same.
+///
+/// Errors: where a growth was refused.
+pub fn append_tree(store: &mut Store<'_>, cert: &Cert) -> Result<bool, AllocError>
+    ensures states { IfOk result (λ r. IsTrue r → store.new.states ≡ store.old.states ++ tree_states (tree_of cert.now)) }
+    ensures client { store.new.client ≡ store.old.client }
+{
+    match cert {
+        Cert::Leaf(records) => append_leaf(store, records),
+        Cert::Fork(left, _, right) => {
+            if !append_tree(store, left)? {
+                return Ok(false);
+            }
+            append_tree(store, right)
+        }
+    }
+}

@@ -1,0 +1,178 @@
+//! Records whose states lie in a store under the records' numbers.
+
+ghost use Rattle.std.specs.Prelude.{◌≡◌, ◌↔◌, ◌+◌, ◌<◌, ◌≤◌, All, IfOk, IsTrue, length};
+ghost use Rattle.std.specs.declared.cmp.Ordering.TheVariants.{Less};
+ghost use Rattle.tso_cert.specs.Lookup.{IsRising};
+ghost use Rattle.tso_cert.specs.Trees.{record_count, records_of, tree_of};
+ghost use Rattle.tso_check.specs.Numbered.{AreJudgedFrom, AreKeptFrom, IsJudgedAt, IsKeptFrom};
+ghost use Rattle.tso_choose.specs.declared.choice.Choice.{Choice as AChoice};
+ghost use Rattle.tso_judge.specs.Judging.{IsJudgedAlone};
+ghost use Rattle.tso_judge.specs.Valid.{HasInitial};
+ghost use Rattle.tso_store.specs.Orders.{IsOrderOf};
+
+use crate::rising::is_less;
+use crate::walk::Bad;
+use std::alloc::{AllocError, Global};
+use tso_cert::Cert;
+use tso_choose::Choice;
+use tso_flow::Checked;
+use tso_foot::Table;
+use tso_judge::{Code, judge_alone};
+use tso_rec::{End, Packed};
+use tso_state::{Actor, initial_state};
+use tso_store::{Found, Store, View};
+
+// Whether one state is below another.
+fn is_below(store: &Store<'_>, a: u32, b: u32) -> bool
+    ensures { IsTrue result ↔ IsOrderOf store.now.states a b Less }
+{
+    match store.compare(a, b) {
+        Some(order) => is_less(order),
+        None => false,
+    }
+}
+
+/// Whether each state is below the next one.
+pub fn is_rising(store: &Store<'_>) -> bool
+    requires { length store.now.states ≤ 4194304 }
+    ensures { IsTrue result ↔ IsRising store.now.states }
+{
+    for k in 1..store.len() {
+        if !is_below(store, (k - 1) as u32, k as u32) {
+            return false;
+        }
+    }
+    true
+}
+
+/// Whether the initial state is kept.
+///
+/// Errors: where a growth was refused.
+pub fn has_initial(alloc: Global, checked: &Checked, store: &Store<'_>) -> Result<bool, AllocError>
+    ensures { IfOk result (λ r. IsTrue r ↔ HasInitial checked.now.client store.now.states) }
+{
+    let initial = initial_state(alloc, checked)?;
+    match store.find(&initial) {
+        Some(_) => Ok(true),
+        None => Ok(false),
+    }
+}
+
+// Whether the state after the actor's step is kept.
+fn is_kept_from(store: &Store<'_>, number: u32, actor: Actor) -> bool
+    ensures { IsTrue result ↔ IsKeptFrom store.now.client store.now.states number actor }
+{
+    match store.find_successor(number, actor) {
+        Found::At(_) => true,
+        Found::Absent => false,
+        Found::Disabled => false,
+    }
+}
+
+// Whether the states after the steps of all chosen actors are kept.
+fn are_kept_from(store: &Store<'_>, number: u32, choices: &[Choice]) -> bool
+    ensures { IsTrue result ↔ All (λ (x : AChoice). IsKeptFrom store.now.client store.now.states number x.actor) choices.now }
+{
+    choices
+        .iter()
+        .all(|choice| is_kept_from(store, number, choice.actor))
+}
+
+// The same, where there are chosen actors.
+fn are_successors_kept(store: &Store<'_>, number: u32, end: &End) -> bool
+    ensures { IsTrue result ↔ AreKeptFrom store.now.client store.now.states number end.now }
+{
+    match end {
+        End::Choices(choices) => are_kept_from(store, number, choices.as_slice()),
+        End::Order(_) => true,
+    }
+}
+
+// The first condition that a kept state with its end fails by itself.
+fn judge_view(
+    alloc: Global,
+    checked: &Checked,
+    table: &Table,
+    view: &View<'_>,
+    end: &End,
+) -> Result<Option<Code>, AllocError>
+    ensures { IfOk result (IsJudgedAlone checked.now.client table.now view.now end.now) }
+{
+    judge_alone(alloc, checked, table, view, view.history(), end)
+}
+
+// The first condition that the state of this number fails with an end, if there is such a state.
+fn judge_number(
+    alloc: Global,
+    checked: &Checked,
+    table: &Table,
+    store: &Store<'_>,
+    number: u32,
+    end: &End,
+) -> Result<Option<Code>, AllocError>
+    requires { store.now.client ≡ checked.now.client }
+    ensures { IfOk result (IsJudgedAt checked.now.client table.now store.now.states number end.now) }
+{
+    let Some(view) = store.view(number) else {
+        return Ok(None);
+    };
+    match judge_view(alloc, checked, table, &view, end)? {
+        Some(code) => Ok(Some(code)),
+        None => {
+            if are_successors_kept(store, number, end) {
+                return Ok(None);
+            }
+            Ok(Some(Code::K08))
+        }
+    }
+}
+
+// The first record of a leaf that is not valid, where its records have their numbers from `start` on.
+fn judge_leaf(
+    alloc: Global,
+    checked: &Checked,
+    table: &Table,
+    store: &Store<'_>,
+    records: &Packed,
+    start: u64,
+) -> Result<Option<Bad>, AllocError>
+    requires client { store.now.client ≡ checked.now.client }
+    requires few { start + length records.now ≤ 4194304 }
+    ensures { IfOk result (AreJudgedFrom checked.now.client table.now store.now.states records.now start) }
+{
+    for k in 0..records.len() {
+        let place = start + k as u64;
+        match judge_number(alloc, checked, table, store, place as u32, records.end(k))? {
+            Some(code) => return Ok(Some(Bad { place, code })),
+            None => {}
+        }
+    }
+    Ok(None)
+}
+
+/// The first record of a part of a tree that is not valid, where the part's records have their numbers from `start` on, and
+/// these are the numbers of their states.
+///
+/// Errors: where a growth was refused.
+pub fn judge_numbered(
+    alloc: Global,
+    checked: &Checked,
+    table: &Table,
+    store: &Store<'_>,
+    part: &Cert,
+    start: u64,
+) -> Result<Option<Bad>, AllocError>
+    requires client { store.now.client ≡ checked.now.client }
+    requires few { start + record_count (tree_of part.now) ≤ 4194304 }
+    ensures { IfOk result (AreJudgedFrom checked.now.client table.now store.now.states (records_of (tree_of part.now)) start) }
+{
+    match part {
+        Cert::Leaf(records) => judge_leaf(alloc, checked, table, store, records, start),
+        Cert::Fork(left, _, right) => {
+            match judge_numbered(alloc, checked, table, store, left, start)? {
+                Some(bad) => Ok(Some(bad)),
+                None => judge_numbered(alloc, checked, table, store, right, start + left.len()),
+            }
+        }
+    }
+}

@@ -1,0 +1,5 @@
+use Rattle.tso_explore.proofs.SearchLemmas.{IsFollowing}
+use Rattle.tso_explore.proofs.following.follow_all.Given as goal
+
+abbrev pub invariant-loop-k : goal.invariant-loop-k
+invariant-loop-k l = IsFollowing l.checked.client l.limit l.initial.store l.store l.origins.items l.number l.set l.k

@@ -1,0 +1,49 @@
+-- Worked states as the records of a tree.
+use Rattle.std.specs.Prelude.{◌≡◌, ◌<◌, ◌≤◌, ◌*◌, ◌^◌, ℕ, List, length, Some, slice_get}
+use Rattle.tso_cert.specs.Lookup.{ForksSplit, IsBelow}
+use Rattle.tso_cert.specs.Trees.{IsWithin, Tree, records_of}
+use Rattle.tso_choose.specs.Choices.{AreChosen}
+use Rattle.tso_fifo.specs.Orders.{HasOrder}
+use Rattle.tso_foot.specs.declared.table.Table.{Table}
+use Rattle.tso_judge.specs.Conditions.{IsExplained, IsOver}
+use Rattle.tso_judge.specs.Valid.{IsValidRecord}
+use Rattle.tso_prog.specs.declared.client.Client.{Client}
+use Rattle.tso_rec.specs.declared.record.End.{End}
+use Rattle.tso_rec.specs.declared.record.End.TheVariants.{Choices, Order}
+use Rattle.tso_rec.specs.declared.record.Record.{Record}
+use Rattle.tso_state.specs.declared.state.State.{State}
+
+-- the chosen actors, if there are some; else no actor has a step, and an order explains the calls
+abbrev pub IsEndOf : Client → Table → State → End → Type 0
+IsEndOf c t s (Choices choices) = AreChosen c t s choices × (0 < length choices)
+IsEndOf c t s (Order order) = IsOver c s × IsExplained c s (Order order)
+
+-- where no actor has a step, an order explains the calls
+abbrev pub IsExplainedAtEnd : Client → State → Type 0
+IsExplainedAtEnd c s = IsOver c s → HasOrder c.mode c.capacity s.history
+
+-- a valid record, of state number n
+pub record IsRecordOf (c : Client) (t : Table) (states : List State) (n : ℕ) (r : Record) : Type 0 where
+  pub at : slice_get states n ≡ Some r.state
+  pub valid : IsValidRecord c t states r
+
+-- one for each of these numbers, in order
+pub record AreRecordsOf (c : Client) (t : Table) (states : List State) (ns : List ℕ) (records : List Record) : Type 0 where
+  pub count : length records ≡ length ns
+  pub each : (k n : ℕ) (r : Record) → slice_get ns k ≡ Some n → slice_get records k ≡ Some r → IsRecordOf c t states n r
+
+-- each is the number of a state
+abbrev pub AreNumbers : List State → List ℕ → Type 0
+AreNumbers states ns = (k n : ℕ) → slice_get ns k ≡ Some n → n < length states
+
+-- the states with these numbers rise strictly
+abbrev pub AreRising : List State → List ℕ → Type 0
+AreRising states ns = (i j n m : ℕ) (s u : State) → i < j → slice_get ns i ≡ Some n → slice_get ns j ≡ Some m
+    → slice_get states n ≡ Some s → slice_get states m ≡ Some u → IsBelow s u
+
+-- a tree of the records of these states: each fork's state is above those of its left half and at most those of its right half,
+-- leaves have at most 64 records, and forks are inside one another as often as the records can be halved
+pub record IsCut (c : Client) (t : Table) (states : List State) (ns : List ℕ) (tree : Tree) : Type 0 where
+  pub records : AreRecordsOf c t states ns (records_of tree)
+  pub forks : ForksSplit tree
+  pub within : (depth : ℕ) → length ns ≤ 64 * 2 ^ depth → IsWithin depth tree

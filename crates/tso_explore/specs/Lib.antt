@@ -1,0 +1,5 @@
+pub mod Reached
+pub mod Searched
+pub mod Cutting
+pub mod Outcomes
+pub mod Ways

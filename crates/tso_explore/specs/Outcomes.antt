@@ -1,0 +1,23 @@
+-- What a search finds.
+use Rattle.std.specs.Prelude.{◌≡◌, ◌≤◌, ℕ}
+use Rattle.tso_cert.specs.Trees.{IsWithinLimits, Tree, record_count, tree_of}
+use Rattle.tso_explore.specs.Searched.{HasMore}
+use Rattle.tso_explore.specs.declared.outcome.Outcome.{Outcome}
+use Rattle.tso_explore.specs.declared.outcome.Outcome.TheVariants as found
+use Rattle.tso_foot.specs.declared.table.Table.{Table}
+use Rattle.tso_judge.specs.Valid.{IsValidTree}
+use Rattle.tso_prog.specs.declared.client.Client.{Client}
+use Rattle.tso_trace.specs.Runs.{IsErrorTrace}
+
+-- a table and a tree that are valid for the client, within the limits, with at most so many records
+pub record IsCertificate (c : Client) (limit : ℕ) (t : Table) (tree : Tree) : Type 0 where
+  pub valid : IsValidTree c t tree
+  pub within : IsWithinLimits tree
+  pub few : record_count tree ≤ limit
+
+-- what is found: a valid certificate; the trace of an error of this client; that more states can be reached than the limit allows
+abbrev pub IsOutcome : Client → ℕ → Outcome → Type 0
+IsOutcome c limit (found.Certificate t cert) = IsCertificate c limit t (tree_of cert)
+IsOutcome c limit (found.Trace trace) = (trace.checked.client ≡ c) × ∥ IsErrorTrace c trace.labels ∥₁
+IsOutcome c limit found.LimitReached = HasMore c limit
+IsOutcome c limit found.NoMemory = Unit {0}

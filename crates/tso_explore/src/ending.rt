@@ -1,0 +1,25 @@
+//! States in which no actor has a step.
+
+ghost use Rattle.std.specs.Prelude.{◌≡◌, true, false, IfOk};
+ghost use Rattle.tso_explore.specs.Reached.{IsBad};
+ghost use Rattle.tso_fifo.specs.Orders.{HasOrder};
+ghost use Rattle.tso_judge.specs.Conditions.{HasNoStopped};
+
+use std::alloc::{AllocError, Global};
+use tso_fifo::linearize;
+use tso_flow::Checked;
+use tso_judge::has_no_stopped;
+use tso_state::State;
+
+/// Whether no fault has stopped a thread of the state, and an order explains its calls.
+pub fn is_good(alloc: Global, checked: &Checked, state: &State) -> Result<bool, AllocError>
+    ensures good { IfOk result (λ good. good ≡ true → HasNoStopped state.now × HasOrder checked.now.client.mode checked.now.client.capacity state.now.history) }
+    ensures bad { IfOk result (λ good. good ≡ false → IsBad checked.now.client state.now) }
+{
+    if !has_no_stopped(state) {
+        return Ok(false);
+    }
+    let client = &checked.client;
+    let order = linearize(alloc, &state.history, client.mode, client.capacity as usize)?;
+    Ok(order.is_some())
+}

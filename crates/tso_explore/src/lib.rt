@@ -1,0 +1,15 @@
+//! The search of a client's states: a certificate that all runs are good, or the trace of one that is not.
+#![tactic(auto)]
+
+mod cutting;
+mod ending;
+mod exploring;
+mod following;
+mod origin;
+mod outcome;
+mod searching;
+mod stop;
+mod way;
+
+pub use exploring::explore;
+pub use outcome::Outcome;

@@ -1,0 +1,22 @@
+//! Worked examples that cross crates: whole program texts through the reader, the flow check, the printer, steps, choices and
+//! the check of certificates. It is a program that does nothing: what it is for are its tests.
+#![tactic(auto)]
+
+#[cfg(test)]
+mod certificates;
+#[cfg(test)]
+mod choices;
+#[cfg(test)]
+mod limits;
+#[cfg(test)]
+mod programs;
+#[cfg(test)]
+mod refusals;
+#[cfg(test)]
+mod steps;
+#[cfg(test)]
+mod texts;
+#[cfg(test)]
+mod verdicts;
+
+fn main(_rt: HostRuntime) {}

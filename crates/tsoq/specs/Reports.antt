@@ -1,0 +1,31 @@
+-- What a report of a search says of the program text.
+use Rattle.std.specs.Prelude.{◌≡◌, ℕ, List}
+use Rattle.tso_check.specs.Headline.{DenotesChecked, IsVerified}
+use Rattle.tso_machine.specs.declared.label.Label.{Label}
+use Rattle.tso_prog.specs.declared.client.Client.{Client}
+use Rattle.tso_trace.specs.Runs.{IsErrorTrace}
+use Rattle.tso_trace.specs.declared.trace.Violation.{Violation}
+use Rattle.tsoq.specs.declared.report.Report.{Report}
+use Rattle.tsoq.specs.declared.report.Report.TheVariants.{Certified, Violated}
+
+-- the text denotes a client that has a run with a fault, or with calls that no order explains
+pub record IsErring (text : List ℕ) : Type 0 where
+  pub erring : Client
+  pub denotes : DenotesChecked text erring
+  pub labels : List Label
+  pub run : ∥ IsErrorTrace erring labels ∥₁
+
+-- a certificate is reported only where all runs are good, and a violation only where one is not
+abbrev pub IsReport : List ℕ → Report → Type 0
+IsReport text (Certified records bytes) = IsVerified text
+IsReport text (Violated violation labels bytes) = IsErring text
+
+-- a certificate of so many records
+abbrev pub IsOfRecords : ℕ → Report → Type 0
+IsOfRecords count (Certified records bytes) = records ≡ count
+IsOfRecords count (Violated violation labels bytes) = ⊥
+
+-- a trace of so many labels, and what is wrong with its run
+abbrev pub IsOfLabels : Violation → ℕ → Report → Type 0
+IsOfLabels wrong count (Certified records bytes) = ⊥
+IsOfLabels wrong count (Violated violation labels bytes) = (violation ≡ wrong) × (labels ≡ count)

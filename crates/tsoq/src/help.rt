@@ -1,0 +1,61 @@
+//! What help says behind the list of words.
+
+/// Help for the program as a whole.
+pub const PROGRAM: &str = "A first verdict, from the top of the repository:
+  tsoq verify queues/lamport.tso --out lamport.cert --trace lamport.trace
+  tsoq replay queues/lamport.tso lamport.trace
+  tsoq verify queues/lamport_fenced.tso --out fenced.cert --trace fenced.trace
+  tsoq check queues/lamport_fenced.tso fenced.cert
+
+`tsoq COMMAND --help` says of each command what it reads and writes, and with which status it ends.
+docs/TUTORIAL.md leads from a queue of your own to its first verdict.";
+
+/// Help for `verify`.
+pub const VERIFY: &str =
+    "Reads FILE, a program text: the push and the pop of a ring queue in Intel syntax, and the calls of a few
+threads. Writes CERT where all runs are good, or TRACE where one is not, and never both. CERT is decided by
+`tsoq check`, TRACE is shown by `tsoq replay`.
+
+Example:
+  tsoq verify queues/vyukov.tso --out vyukov.cert --trace vyukov.trace
+
+Status:
+  0   CERT is written              certificate: R records
+  1   TRACE is written             violation: fault in thread I, or violation: no order
+                                   trace: N labels
+  2   FILE is refused              E04 line 7
+  4   more states than --states    limit reached
+  5   memory ran out
+  6   a file failed                cannot read PATH, or cannot write PATH
+  64  the words are none of these";
+
+/// Help for `check`.
+pub const CHECK: &str =
+    "Reads FILE, a program text, and CERT, a certificate, and trusts neither. Writes no file.
+
+Example:
+  tsoq check queues/vyukov_weak.tso vyukov_weak.cert
+
+Status:
+  0   every run is good            accepted
+  2   FILE is refused              E04 line 7
+  3   CERT is refused              rejected K01, or rejected K08 at record 2
+  5   memory ran out
+  6   a file failed                cannot read PATH
+  64  the words are none of these";
+
+/// Help for `replay`.
+pub const REPLAY: &str =
+    "Reads FILE, a program text, and TRACE, the trace of an error. Writes no file. It prints the labels, one a
+line, then each word of memory, each thread with what is in its store buffer, and what is wrong.
+
+Example:
+  tsoq replay queues/vyukov.tso vyukov.trace --to 40
+
+Status:
+  0   replayed
+  2   FILE is refused              E04 line 7
+  3   TRACE is refused             T01 label 5, T02, or T03 line 4
+  5   memory ran out
+  6   a file failed                cannot read PATH
+  64  the words are none of these";

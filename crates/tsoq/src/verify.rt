@@ -1,0 +1,133 @@
+//! The search of a program's runs, and the file that says what it found.
+
+ghost use Rattle.std.specs.Prelude.{◌≤◌, IfOk, length};
+ghost use Rattle.tso_cert.specs.Trees.{record_count, tree_of};
+ghost use Rattle.tso_trace.specs.Runs.{first_fault, violation_of};
+ghost use Rattle.tsoq.specs.Reports.{IsOfLabels, IsOfRecords, IsReport};
+
+use crate::command::Search;
+use crate::counted::Counted;
+use crate::failure::Failure;
+use crate::files::Files;
+use crate::report::Report;
+use std::alloc::Global;
+use std::io;
+use std::io::{BufWriter, ErrorKind, Write};
+use tso_cert::{Cert, NoWatch, WriteError};
+use tso_check::checked_of;
+use tso_explore::{Outcome, explore};
+use tso_foot::Table;
+use tso_trace::Trace;
+
+// The failure that names a file that is not written.
+fn cannot_write(alloc: Global, path: &str) -> Failure {
+    match String::from_str(alloc, path) {
+        Ok(path) => Failure::CannotWrite(path),
+        Err(_) => Failure::Memory,
+    }
+}
+
+// Why a file is not written, where a write of it gave this error.
+fn write_failure(alloc: Global, path: &str, error: &io::Error) -> Failure {
+    match error.kind() {
+        ErrorKind::OutOfMemory => Failure::Memory,
+        _ => cannot_write(alloc, path),
+    }
+}
+
+// A new file at this path, with a buffer before it.
+fn created<F: Files>(
+    alloc: Global,
+    files: &mut F,
+    path: &str,
+) -> Result<Counted<BufWriter<F::Writer>>, Failure> {
+    let Ok(file) = files.create(path) else {
+        return Err(cannot_write(alloc, path));
+    };
+    match BufWriter::new(alloc, file) {
+        Ok(out) => Ok(Counted { out, bytes: 0 }),
+        Err(_) => Err(Failure::Memory),
+    }
+}
+
+// Writes out what waits before a file, and says how many bytes the file has.
+fn finished<W: Write + Drop>(
+    alloc: Global,
+    path: &str,
+    mut file: Counted<W>,
+) -> Result<u64, Failure> {
+    match file.flush() {
+        Ok(()) => Ok(file.bytes),
+        Err(error) => Err(write_failure(alloc, path, &error)),
+    }
+}
+
+// Writes a certificate to this path.
+fn certified<F: Files>(
+    alloc: Global,
+    files: &mut F,
+    path: &str,
+    table: &Table,
+    cert: &Cert,
+) -> Result<Report, Failure>
+    requires { record_count (tree_of cert.now) ≤ 4194304 }
+    ensures { IfOk result (IsOfRecords (record_count (tree_of cert.now))) }
+{
+    let mut file = created(alloc, files, path)?;
+    match tso_cert::write(alloc, table, cert, &mut file) {
+        Ok(()) => Ok(Report::Certified {
+            records: cert.len(),
+            bytes: finished(alloc, path, file)?,
+        }),
+        Err(WriteError::Io(error)) => Err(write_failure(alloc, path, &error)),
+        Err(WriteError::Memory) => Err(Failure::Memory),
+    }
+}
+
+// Writes a trace to this path.
+fn violated<F: Files>(
+    alloc: Global,
+    files: &mut F,
+    path: &str,
+    trace: &Trace,
+) -> Result<Report, Failure>
+    ensures { IfOk result (IsOfLabels (violation_of (first_fault trace.now.labels)) (length trace.now.labels)) }
+{
+    let mut file = created(alloc, files, path)?;
+    match trace.print(&mut file) {
+        Ok(()) => Ok(Report::Violated {
+            violation: trace.violation(),
+            labels: trace.labels.len(),
+            bytes: finished(alloc, path, file)?,
+        }),
+        Err(error) => Err(write_failure(alloc, path, &error)),
+    }
+}
+
+/// Searches the runs of the client of a program text, and writes the certificate that all are good, or the trace of one that
+/// is not.
+///
+/// Errors: `Program` with the first fault of the text; `Limit` where more states can be reached than the search may meet;
+/// `CannotWrite` where the file failed; `Memory`.
+pub fn verify<F: Files>(
+    alloc: Global,
+    files: &mut F,
+    program: &[u8],
+    search: &Search<'_>,
+) -> Result<Report, Failure>
+    ensures { IfOk result (IsReport program.now) }
+{
+    let checked = checked_of(alloc, program)?;
+    match explore(
+        alloc,
+        &checked,
+        search.workers,
+        search.limit.count(),
+        &NoWatch,
+    ) {
+        Outcome::Certificate(table, cert) => certified(alloc, files, search.cert, &table, &cert),
+        Outcome::Trace(trace) => violated(alloc, files, search.trace, &trace),
+        Outcome::LimitReached => Err(Failure::Limit),
+        Outcome::NoMemory => Err(Failure::Memory),
+    }
+}
