@@ -5,11 +5,11 @@ use Rattle.std.proofs.lemmas.List.{length-append, take-append-drop, length-take,
 use Rattle.std.proofs.lemmas.List.Sorted.{All-permutation, Contains-permutation, length_permutation, sorted_far}
 use Rattle.std.proofs.lemmas.List.MinMax.{ranks_by}
 use Rattle.std.proofs.lemmas.Map.Keys.{IsDistinct-IsPermutation, IsDistinct-from_apart, apart_from_distinct}
-use Rattle.std.proofs.lemmas.Option.{none-some, same_Some, slice_get_within, slice_get-get_or, get_or_from_slice_get}
+use Rattle.std.proofs.lemmas.Option.{none-some, same_Some, slice_get_within, slice_get-get_or, slice_get-map, get_or_from_slice_get}
 use Rattle.std.specs.Cmp.{nat_eq_equiv}
 use Rattle.std.specs.Cmp.Lexicographic.{options_total}
 use Rattle.std.specs.List.{AllByRecursion}
-use Rattle.std.specs.Option.{option_cmp}
+use Rattle.std.specs.Option.{option_cmp, option_map}
 use Rattle.std.specs.Ordering.{is_lt, ordering_reverse}
 use Rattle.std.specs.Prelude.{All, Contains, IsTrue}
 use Rattle.std.specs.declared.cmp.Ordering.{Ordering}
@@ -22,10 +22,10 @@ use Rattle.tso_choose.proofs.ChoiceLemmas.{chosen_are_valid}
 use Rattle.tso_choose.specs.Choices.{AreChosen, AreReasons, actors_of}
 use Rattle.tso_choose.specs.Needs.{is_enabled}
 use Rattle.tso_choose.specs.declared.choice.Choice.{Choice}
-use Rattle.tso_explore.specs.Cutting.{AreNumbers, AreRecordsOf, AreRising, IsCut, IsEndOf, IsRecordOf}
+use Rattle.tso_explore.specs.Cutting.{AreNumbers, AreRecordsOf, AreRising, IsCut, IsEndOf, IsFork, IsRecordOf}
 use Rattle.tso_explore.specs.Outcomes.{IsCertificate}
 use Rattle.tso_explore.specs.Searched.{AreSearched, IsWorked}
-use Rattle.tso_foot.specs.Closed.{IsClosed}
+use Rattle.tso_foot.specs.Closed.{IsClosed, IsLeastClosed}
 use Rattle.tso_foot.specs.declared.table.Table.{Table}
 use Rattle.tso_judge.specs.Conditions.{IsOver, SuccessorsAreKept}
 use Rattle.tso_judge.specs.Judging.{AreMet}
@@ -186,7 +186,7 @@ below_once : (x y : State) → IsBelow x y → IsBelow y x → ⊥
 below_once x y a b = not_itself x (total.trans x y x a b)
 
 pub leaf_cut : (c : Client) (t : Table) (states : List State) (ns : List ℕ) (rs : List Record) → length ns ≤ 64 → AreRecordsOf c t states ns rs → IsCut c t states ns (leaf rs)
-leaf_cut c t states ns rs few all = record { records = all; forks = tt; within = within }
+leaf_cut c t states ns rs few all = record { records = all; forks = tt; halved = (let count = all.count in omega (arith, few, count)); within = within }
   where
     within : (depth : ℕ) → length ns ≤ 64 * 2 ^ depth → IsWithin depth (leaf rs)
     within zero le = let count = all.count in omega (arith, few, count)
@@ -237,6 +237,25 @@ module _ (c : Client) (t : Table) (states : List State) (ns : List ℕ) (h n : �
 two_to : (depth : ℕ) → 2 ^ suc depth ≡ 2 * 2 ^ depth
 two_to depth = omega arith
 
+counted : (tree : Tree) → record_count tree ≡ length (records_of tree)
+counted (leaf rs) = refl
+counted (fork left s right) = (λ i. counted left i + counted right i) ∙ sym (length-append (records_of left) (records_of right))
+
+first_record : (xs : List Record) → 0 < length xs → (r : Record) × (slice_get xs 0 ≡ Some r)
+first_record [] lt = absurd (omega (arith, lt))
+first_record (r ∷ rs) lt = (r, refl)
+
+-- the first state of the right half
+first_state : (c : Client) (t : Table) (states : List State) (ns : List ℕ) (n : ℕ) (s : State) (right : Tree) → AreRecordsOf c t states ns (records_of right) → slice_get ns 0 ≡ Some n
+    → slice_get states n ≡ Some s → slice_get (tree_states right) 0 ≡ Some s
+first_state c t states ns n s right all first at =
+    let some = slice_get_within ns 0 n first in
+    let count = all.count in
+    let (r, here) = first_record (records_of right) (omega (arith, some, count)) in
+    let of = all.each 0 n r first here in
+    let same : r.state ≡ s = same_Some r.state s (sym of.at ∙ at) in
+    slice_get-map (λ (x : Record). x.state) (records_of right) 0 ∙ ap (option_map (λ (x : Record). x.state)) here ∙ ap Some same
+
 fork_cut : (c : Client) (t : Table) (states : List State) (ns : List ℕ) (h n : ℕ) (s : State) (left right : Tree) → 64 < length ns → h ≡ length ns / 2 → AreRising states ns
     → IsCut c t states (take h ns) left → IsCut c t states (drop h ns) right → slice_get (drop h ns) 0 ≡ Some n → slice_get states n ≡ Some s → IsCut c t states ns (fork left s right)
 fork_cut c t states ns h n s left right many half up low high first at = record {
@@ -244,9 +263,20 @@ fork_cut c t states ns h n s left right many half up low high first at = record 
       let P : List ℕ → Type 0 = λ l. AreRecordsOf c t states l (records_of left ++ records_of right) in
       subst P (take-append-drop h ns) (both_records c t states (take h ns) (drop h ns) (records_of left) (records_of right) low.records high.records);
   forks = (low.forks, high.forks, left_below c t states ns h n s up first at left low.records (omega (arith, half)), right_above c t states ns h n s up first at right high.records);
+  halved = (halves, low.halved, high.halved);
   within = within;
 }
   where
+    halves : IsFork left s right
+    halves =
+        let first_count = counted left ∙ low.records.count ∙ length-take h ns in
+        let other_count = counted right ∙ high.records.count ∙ length-drop h ns in
+        record {
+          many = omega (arith, many, half, first_count, other_count);
+          half = omega (arith, many, half, first_count, other_count);
+          first = first_state c t states (drop h ns) n s right high.records first at;
+        }
+
     within : (depth : ℕ) → length ns ≤ 64 * 2 ^ depth → IsWithin depth (fork left s right)
     within zero le = absurd (omega (arith, le, many))
     within (suc depth) le =
@@ -340,10 +370,6 @@ rising_from : (xs : List State) → ((i j : ℕ) (x y : State) → i < j → sli
 rising_from [] up = tt
 rising_from (x ∷ xs) up = (each_by (λ y. IsBelow x y) xs (λ k y at. up 0 (suc k) x y (omega arith) refl at), rising_from xs (λ i j a b lt e f. up (suc i) (suc j) a b (omega (arith, lt)) e f))
 
-counted : (tree : Tree) → record_count tree ≡ length (records_of tree)
-counted (leaf rs) = refl
-counted (fork left s right) = (λ i. counted left i + counted right i) ∙ sym (length-append (records_of left) (records_of right))
-
 module _ (c : Client) (t : Table) (states : List State) (ns : List ℕ) (tree : Tree) (all : orders.IsRising states ns) (differ : IsNumbered states) (cut : IsCut c t states ns tree) where
   tree_rises : lookup.IsRising (tree_states tree)
   tree_rises = rising_from (tree_states tree) (λ i j x y lt a b.
@@ -389,9 +415,9 @@ module _ (c : Client) (t : Table) (states : List State) (ns : List ℕ) (tree : 
       (cut.within 64 (omega (arith, few, many)), omega (arith, few, count))
 
 -- the table and the tree are a valid certificate
-pub certificate_is_valid : (c : Client) (limit : ℕ) (t : Table) (states : List State) (ns : List ℕ) (tree : Tree) → AreSearched c t states → IsClosed c t → orders.IsRising states ns → IsNumbered states
+pub certificate_is_valid : (c : Client) (limit : ℕ) (t : Table) (states : List State) (ns : List ℕ) (tree : Tree) → AreSearched c t states → IsClosed c t → IsLeastClosed c t → orders.IsRising states ns → IsNumbered states
     → IsCut c t states ns tree → length states ≤ limit → limit ≤ 4194304 → IsCertificate c limit t tree
-certificate_is_valid c limit t states ns tree searched closed all differ cut few small =
+certificate_is_valid c limit t states ns tree searched closed least all differ cut few small =
     let count = few_records c t states ns tree all differ cut in
     record {
       valid = record {
@@ -400,6 +426,8 @@ certificate_is_valid c limit t states ns tree searched closed all differ cut few
         initial = has_initial c t states ns tree all differ cut searched;
         records = valid_records c t states ns tree all differ cut;
       };
+      least = least;
       within = within_limits c t states ns tree all differ cut (omega (arith, few, small));
       few = omega (arith, few, count);
+      halved = cut.halved;
     }

@@ -1,7 +1,7 @@
 -- Worked states as the records of a tree.
-use Rattle.std.specs.Prelude.{◌≡◌, ◌<◌, ◌≤◌, ◌*◌, ◌^◌, ℕ, List, length, Some, slice_get}
-use Rattle.tso_cert.specs.Lookup.{ForksSplit, IsBelow}
-use Rattle.tso_cert.specs.Trees.{IsWithin, Tree, records_of}
+use Rattle.std.specs.Prelude.{◌≡◌, ◌+◌, ◌<◌, ◌≤◌, ◌*◌, ◌/◌, ◌^◌, ℕ, List, length, Some, slice_get}
+use Rattle.tso_cert.specs.Lookup.{ForksSplit, IsBelow, tree_states}
+use Rattle.tso_cert.specs.Trees.{IsWithin, Tree, fork, leaf, record_count, records_of}
 use Rattle.tso_choose.specs.Choices.{AreChosen}
 use Rattle.tso_fifo.specs.Orders.{HasOrder}
 use Rattle.tso_foot.specs.declared.table.Table.{Table}
@@ -41,9 +41,21 @@ abbrev pub AreRising : List State → List ℕ → Type 0
 AreRising states ns = (i j n m : ℕ) (s u : State) → i < j → slice_get ns i ≡ Some n → slice_get ns j ≡ Some m
     → slice_get states n ≡ Some s → slice_get states m ≡ Some u → IsBelow s u
 
+-- more than 64 records: the left half has half of them, rounded down, and the state is the first of the right half
+pub record IsFork (left : Tree) (s : State) (right : Tree) : Type 0 where
+  pub many : 64 < record_count left + record_count right
+  pub half : record_count left ≡ (record_count left + record_count right) / 2
+  pub first : slice_get (tree_states right) 0 ≡ Some s
+
+-- up to 64 records are one leaf, more are cut in halves, and both halves are cut alike
+abbrev pub IsHalved : Tree → Type 0
+IsHalved (leaf records) = length records ≤ 64
+IsHalved (fork left s right) = IsFork left s right × IsHalved left × IsHalved right
+
 -- a tree of the records of these states: each fork's state is above those of its left half and at most those of its right half,
 -- leaves have at most 64 records, and forks are inside one another as often as the records can be halved
 pub record IsCut (c : Client) (t : Table) (states : List State) (ns : List ℕ) (tree : Tree) : Type 0 where
   pub records : AreRecordsOf c t states ns (records_of tree)
   pub forks : ForksSplit tree
+  pub halved : IsHalved tree
   pub within : (depth : ℕ) → length ns ≤ 64 * 2 ^ depth → IsWithin depth tree

@@ -3,7 +3,7 @@
 ghost use Rattle.std.specs.Prelude.{◌≡◌, ◌≤◌, IfOk, length};
 ghost use Rattle.tso_explore.specs.Outcomes.{IsOutcome};
 ghost use Rattle.tso_explore.specs.Searched.{AreSearched, IsStarted, IsStop};
-ghost use Rattle.tso_foot.specs.Closed.{IsClosed};
+ghost use Rattle.tso_foot.specs.Closed.{IsClosed, IsLeastClosed};
 
 use crate::cutting::tree_of;
 use crate::origin::Origin;
@@ -44,6 +44,7 @@ fn certificate_of(
 ) -> Result<Outcome, AllocError>
     requires client { store.now.client ≡ checked.now.client }
     requires closed { IsClosed checked.now.client table }
+    requires least { IsLeastClosed checked.now.client table }
     requires searched { AreSearched checked.now.client table store.now.states }
     requires few { length store.now.states ≤ limit }
     requires limit { limit ≤ 4194304 }
@@ -89,6 +90,7 @@ fn found_from<W: Watch>(
 ) -> Result<Outcome, AllocError>
     requires client { store.client ≡ checked.now.client }
     requires closed { IsClosed checked.now.client table }
+    requires least { IsLeastClosed checked.now.client table }
     requires started { IsStarted checked.now.client store.states }
     requires few { length store.states ≤ limit }
     requires limit { limit ≤ 4194304 }
