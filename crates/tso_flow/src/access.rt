@@ -149,9 +149,9 @@ fn writes_flag(step: Step, flag: Flag) -> bool
     }
 }
 
-// Whether the instruction of this procedure reads what the register or flag holds.
+/// Whether the instruction, in a procedure of this kind, reads what the register or flag holds before it.
 #[tactic(auto, unfolding(crate::specs::Accesses::reads))]
-pub(crate) fn reads(kind: ProcedureKind, step: Step, location: Location) -> bool
+pub fn reads(kind: ProcedureKind, step: Step, location: Location) -> bool
     ensures { result ≡ reads kind step location }
 {
     match location {
@@ -160,8 +160,9 @@ pub(crate) fn reads(kind: ProcedureKind, step: Step, location: Location) -> bool
     }
 }
 
+/// Whether the instruction writes the register or flag.
 #[tactic(auto, unfolding(crate::specs::Accesses::writes))]
-pub(crate) fn writes(step: Step, location: Location) -> bool
+pub fn writes(step: Step, location: Location) -> bool
     ensures { result ≡ writes step location }
 {
     match location {
@@ -170,9 +171,9 @@ pub(crate) fn writes(step: Step, location: Location) -> bool
     }
 }
 
-// Whether a call of this kind begins with the register or flag written.
+/// Whether a call of this kind begins with the register or flag written: the value of a push stands in RDI.
 #[tactic(auto, unfolding(crate::specs::Accesses::is_given))]
-pub(crate) fn is_given(kind: ProcedureKind, location: Location) -> bool
+pub fn is_given(kind: ProcedureKind, location: Location) -> bool
     ensures { result ≡ is_given kind location }
 {
     match (kind, location) {

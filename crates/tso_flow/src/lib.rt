@@ -10,6 +10,7 @@ mod limit;
 mod location;
 mod path;
 
+pub use access::{is_given, reads, writes};
 pub use flow::{Checked, FlowError, check};
-pub use location::{Flag, Location, ProcedureKind};
+pub use location::{Flag, LOCATIONS, Location, ProcedureKind};
 pub use path::{jump_target, next_position};

@@ -39,8 +39,8 @@ impl From<CallKind> for ProcedureKind {
     }
 }
 
-/// Each register and each flag.
-pub(crate) const LOCATIONS: [Location; 19] = [
+/// Each register and each flag, in the order in which faults of reads are told.
+pub const LOCATIONS: [Location; 19] = [
     Location::Register(Register::Rax),
     Location::Register(Register::Rbx),
     Location::Register(Register::Rcx),
