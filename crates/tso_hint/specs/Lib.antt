@@ -1,0 +1,4 @@
+pub mod Ahead
+pub mod Places
+pub mod Sources
+pub mod Unwritten

@@ -1,0 +1,60 @@
+//! Why a trace is refused.
+
+use crate::lines::{put_meaning, put_number};
+use crate::next::put_nexts;
+use crate::page::Page;
+use std::alloc::{AllocError, Global};
+use tso_flow::Checked;
+use tso_trace::{TraceFault, labels_of};
+
+// The threads' next labels, where a label is no step.
+fn put_no_step(
+    alloc: Global,
+    page: &mut Page,
+    checked: &Checked,
+    text: &[u8],
+    label: usize,
+) -> Result<(), AllocError> {
+    put_number(alloc, page, text, label.saturating_add(1))?;
+    let Ok(labels) = labels_of(alloc, &checked.client, text) else {
+        return Ok(());
+    };
+    let taken = label.saturating_sub(1);
+    page.say(format!(in alloc; "It is no step. After label {taken} come next:\n")?.as_str())?;
+    let before = labels.as_slice().get(..taken).unwrap_or(&[]);
+    put_nexts(alloc, page, checked, before)
+}
+
+// The checked client of a program text, if it is one.
+fn checked_if(alloc: Global, program: &[u8]) -> Option<Checked> {
+    match tso_prog::read(alloc, program) {
+        Ok(client) => tso_flow::check(alloc, client).ok(),
+        Err(_) => None,
+    }
+}
+
+/// Says why a trace of a program is refused: the line with a mark, what each thread could have done there, and what the code means.
+///
+/// Errors: where a growth was refused.
+pub fn put_trace(
+    alloc: Global,
+    page: &mut Page,
+    program: &[u8],
+    text: &[u8],
+    fault: &TraceFault,
+) -> Result<(), AllocError> {
+    match fault {
+        TraceFault::NotAStep { label } => {
+            if let Some(checked) = checked_if(alloc, program) {
+                put_no_step(alloc, page, &checked, text, *label)?;
+            }
+            put_meaning(alloc, page, "T01")
+        }
+        TraceFault::NoError => put_meaning(alloc, page, "T02"),
+        TraceFault::Grammar { line } => {
+            put_number(alloc, page, text, *line)?;
+            put_meaning(alloc, page, "T03")
+        }
+        TraceFault::Memory => Ok(()),
+    }
+}
