@@ -1,0 +1,17 @@
+//! A replay as a page: one HTML file with the run as a picture, which loads nothing from elsewhere.
+#![tactic(auto)]
+
+mod data;
+mod escape;
+mod html;
+mod lanes;
+mod laws;
+mod page;
+mod parts;
+#[cfg(test)]
+mod tests;
+
+pub use data::push_state_data;
+pub use escape::{push_data, push_escaped};
+pub use laws::{data_is_no_markup, escaped_text_is_no_markup};
+pub use page::{Run, page_of};

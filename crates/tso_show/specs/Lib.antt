@@ -1,0 +1,10 @@
+pub mod Buffers
+pub mod Calls
+pub mod Lines
+pub mod Moments
+pub mod Registers
+pub mod Replayed
+pub mod Sites
+pub mod States
+pub mod Unordered
+pub mod Walks

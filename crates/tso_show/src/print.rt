@@ -1,0 +1,262 @@
+//! Labels with what is shown beside them, and the calls of a run, printed.
+
+use crate::call::{TimedCall, calls_in};
+use crate::line::line_text;
+use crate::moment::{Moment, next_moment};
+use crate::site::Site;
+use crate::state::Show;
+use crate::unordered::{Served, ordered_part};
+use crate::walk::{Walk, WalkError};
+use std::alloc::{AllocError, Global};
+use std::fmt;
+use std::io::Write;
+use thiserror::Error;
+use tso_fifo::Order;
+use tso_flow::ProcedureKind;
+use tso_line::CallKind;
+use tso_machine::Label;
+use tso_prog::{Answer, Client};
+use tso_trace::line_of;
+
+/// Why something is not printed to its end.
+#[derive(Debug, PartialEq, Eq, Drop, Error)]
+pub enum ShowError {
+    /// The label of this number, from 1, is no step after those before it.
+    #[error("label {label} is no step")]
+    NotAStep { label: usize },
+    /// It cannot be written.
+    #[error("a write failed")]
+    Write,
+    /// A growth was refused.
+    #[error("out of memory")]
+    Memory,
+}
+
+impl From<AllocError> for ShowError {
+    fn from(_e: AllocError) -> ShowError {
+        ShowError::Memory
+    }
+}
+
+impl From<WalkError> for ShowError {
+    fn from(e: WalkError) -> ShowError {
+        match e {
+            WalkError::NotAStep { label } => ShowError::NotAStep { label },
+            WalkError::Memory => ShowError::Memory,
+        }
+    }
+}
+
+/// A procedure by its name.
+#[derive(Clone, Copy, Debug)]
+pub struct Name(pub ProcedureKind);
+
+impl fmt::Display for Name {
+    fn fmt<W: fmt::Write>(&self, f: &mut fmt::Formatter<W>) -> fmt::Result {
+        match self.0 {
+            ProcedureKind::Push => f.write_str("push"),
+            ProcedureKind::Pop => f.write_str("pop"),
+        }
+    }
+}
+
+/// A call by what it asks for.
+#[derive(Clone, Copy, Debug)]
+pub struct Asked(pub CallKind);
+
+impl fmt::Display for Asked {
+    fn fmt<W: fmt::Write>(&self, f: &mut fmt::Formatter<W>) -> fmt::Result {
+        match self.0 {
+            CallKind::Push(word) => write!(f, "push {word}"),
+            CallKind::Pop => f.write_str("pop"),
+        }
+    }
+}
+
+/// An answer, as a trace has it.
+#[derive(Clone, Copy, Debug)]
+pub struct Answered(pub Answer);
+
+impl fmt::Display for Answered {
+    fn fmt<W: fmt::Write>(&self, f: &mut fmt::Formatter<W>) -> fmt::Result {
+        match self.0 {
+            Answer::Refused => f.write_str("refused"),
+            Answer::Done => f.write_str("done"),
+            Answer::Value(word) => write!(f, "value {word}"),
+        }
+    }
+}
+
+impl fmt::Display for Site {
+    fn fmt<W: fmt::Write>(&self, f: &mut fmt::Formatter<W>) -> fmt::Result {
+        let name = Name(self.procedure);
+        let line = self.line;
+        write!(f, "{name}, line {line}")
+    }
+}
+
+impl fmt::Display for TimedCall {
+    fn fmt<W: fmt::Write>(&self, f: &mut fmt::Formatter<W>) -> fmt::Result {
+        let thread = self.thread;
+        let asked = Asked(self.kind);
+        let begins = self.begins;
+        match self.returns {
+            Some(returned) => {
+                let label = returned.label;
+                let answer = Answered(returned.answer);
+                write!(
+                    f,
+                    "thread {thread} {asked}: {answer}, labels {begins} to {label}"
+                )
+            }
+            None => write!(f, "thread {thread} {asked}: pending, from label {begins}"),
+        }
+    }
+}
+
+fn put<W: Write>(out: &mut W, bytes: &[u8]) -> Result<(), ShowError> {
+    out.write_all(bytes).map_err(|_| ShowError::Write)
+}
+
+// Prints the instruction that takes a label, and its line of the text without the spaces around it.
+fn put_site<W: Write>(
+    alloc: Global,
+    out: &mut W,
+    source: &[u8],
+    site: Option<Site>,
+) -> Result<(), ShowError> {
+    match site {
+        Some(site) => {
+            put(out, format!(in alloc; "{site}: ")?.as_bytes())?;
+            put(out, line_text(source, site.line as usize).trim_ascii())
+        }
+        None => Ok(()),
+    }
+}
+
+// Prints a label behind its number, and what is shown beside and after it.
+fn put_moment<W: Write>(
+    alloc: Global,
+    out: &mut W,
+    client: &Client,
+    source: &[u8],
+    show: Show,
+    number: usize,
+    moment: &Moment,
+) -> Result<(), ShowError> {
+    let line = line_of(alloc, client.arrays.as_slice(), moment.label)?;
+    if show.source && moment.site.is_some() {
+        put(
+            out,
+            format!(in alloc; "{number:>6} {line:<28}  ")?.as_bytes(),
+        )?;
+        put_site(alloc, out, source, moment.site)?;
+    } else {
+        put(out, format!(in alloc; "{number:>6} {line}")?.as_bytes())?;
+    }
+    put(out, b"\n")?;
+    put(out, moment.shown.as_bytes())
+}
+
+/// Prints the next labels of a walk, at most so many, each on a line behind its number, with what is shown of it.
+pub fn print_labels<W: Write>(
+    alloc: Global,
+    out: &mut W,
+    walk: &mut Walk<'_>,
+    source: &[u8],
+    show: Show,
+    count: usize,
+) -> Result<(), ShowError> {
+    for _ in 0..count {
+        let Some(moment) = next_moment(alloc, walk, show)? else {
+            return Ok(());
+        };
+        let number = walk.position();
+        let client = &walk.checked().client;
+        put_moment(alloc, out, client, source, show, number, &moment)?;
+    }
+    Ok(())
+}
+
+/// Prints the calls of a run, one a line, with their answers and the labels from which and to which they last.
+pub fn print_calls<W: Write>(
+    alloc: Global,
+    out: &mut W,
+    labels: &[Label],
+) -> Result<(), ShowError> {
+    put(out, b"calls\n")?;
+    for call in calls_in(alloc, labels)? {
+        put(out, format!(in alloc; "  {call}\n")?.as_bytes())?;
+    }
+    Ok(())
+}
+
+// Prints the calls of an order, each with its answer.
+fn put_order<W: Write>(
+    alloc: Global,
+    out: &mut W,
+    calls: &[TimedCall],
+    order: &Order,
+) -> Result<(), ShowError> {
+    for placed in order.as_slice() {
+        let thread = placed.thread;
+        let answer = Answered(placed.answer);
+        let mut of_thread = calls.iter().filter(|call| call.thread == thread);
+        if let Some(call) = of_thread.nth(placed.call) {
+            let asked = Asked(call.kind);
+            put(
+                out,
+                format!(in alloc; "  thread {thread} {asked}: {answer}\n")?.as_bytes(),
+            )?;
+        }
+    }
+    Ok(())
+}
+
+// Prints the call that returns at a label.
+fn put_returning<W: Write>(
+    alloc: Global,
+    out: &mut W,
+    calls: &[TimedCall],
+    number: usize,
+) -> Result<(), ShowError> {
+    for call in calls {
+        if matches!(call.returns, Some(returned) if returned.label == number) {
+            put(out, format!(in alloc; "  {call}\n")?.as_bytes())?;
+        }
+    }
+    Ok(())
+}
+
+// Prints an order of the calls up to a label.
+fn put_served<W: Write>(
+    alloc: Global,
+    out: &mut W,
+    calls: &[TimedCall],
+    label: usize,
+    order: &Order,
+) -> Result<(), ShowError> {
+    put(
+        out,
+        format!(in alloc; "an order up to label {label}\n")?.as_bytes(),
+    )?;
+    put_order(alloc, out, calls, order)
+}
+
+/// Prints how far the calls of the labels that a walk has taken have an order, and one. Where they have none to the end, it
+/// prints the first label with which they have none, and the call that returns there.
+pub fn print_order<W: Write>(alloc: Global, out: &mut W, walk: &Walk<'_>) -> Result<(), ShowError> {
+    let labels = walk.taken();
+    let calls = calls_in(alloc, labels)?;
+    match ordered_part(alloc, &walk.checked().client, labels)? {
+        Served::Whole(order) => put_served(alloc, out, &calls, labels.len(), &order),
+        Served::Until { label, order } => {
+            put(
+                out,
+                format!(in alloc; "no order from label {label} on\n")?.as_bytes(),
+            )?;
+            put_returning(alloc, out, &calls, label)?;
+            put_served(alloc, out, &calls, label - 1, &order)
+        }
+    }
+}
