@@ -5,10 +5,11 @@
 
 ghost use Rattle.std.specs.Prelude.{◌≡◌, ◌+◌, ◌<◌, ◌≤◌, ◌⊎◌, length, IfOk, IfSome, OnOk, string_len};
 
-use certs::{certificate_of, measure};
+use certs::measure;
 use std::alloc::{AllocError, Global};
 use std::io;
 use std::process::ExitCode;
+use std::rt::{Clock, Files};
 use steps::{Question, count_in_walks};
 use store::{Walked, walk_store};
 use tso_fifo::linearize;
@@ -134,40 +135,25 @@ fn search_orders(alloc: Global) -> Result<bool, AllocError> {
     Ok(found.is_some() && none.is_none())
 }
 
-// The bytes of a certificate of so many records, of the same client.
-fn certificate(alloc: Global, states: u32) -> Option<Vec<u8>> {
-    let client = tso_prog::read(alloc, VYUKOV22.as_bytes()).ok()?;
-    let checked = tso_flow::check(alloc, client).ok()?;
-    certificate_of(alloc, &checked, states)
-}
-
 // A walk through so many states of two pushers and a popper, with two calls each but for one.
-fn walk_of(alloc: Global, states: u32) -> Option<Walked> {
+fn walk_of<R: Clock>(rt: &R, alloc: Global, states: u32) -> Option<Walked> {
     let client = tso_prog::read(alloc, VYUKOV22.as_bytes()).ok()?;
     let checked = tso_flow::check(alloc, client).ok()?;
-    walk_store(alloc, &checked, states)
+    walk_store(rt, alloc, &checked, states)
 }
 
 /// What is measured.
-enum Benchmark {
+enum Benchmark<'a> {
     /// Long texts are read.
     Texts,
     /// Orders of twelve calls are sought.
     Orders,
-    /// The kinds of all steps of a walk's states are asked for, so often.
-    Kinds(u64),
-    /// The threads' steps of a walk's states are made, so often.
-    Steps(u64),
-    /// The states of a walk are tested for being well-formed, so often.
-    Formed(u64),
-    /// The same, and the actors to follow are chosen.
-    Chosen(u64),
-    /// The same, with the reasons of these actors.
-    Choices(u64),
-    /// So many states of a store are left by all their steps.
+    /// The states of a walk are asked this, so often.
+    Asked(Question, u64),
+    /// So many states of a store are left by all their steps, which are then found again.
     Store(u32),
-    /// The bytes of a certificate of so many records are read and spelled.
-    Certs(u32),
+    /// The certificate of this file is read and spelled.
+    Certs(&'a str),
     /// So many labels are taken.
     Labels(u64),
 }
@@ -177,76 +163,113 @@ fn number_of(word: &String) -> u64 {
     word.as_str().parse::<u64>().unwrap_or(0)
 }
 
-fn benchmark_of(words: &[String]) -> Benchmark {
+// What the states of a walk are asked under this word.
+fn question_of(word: &str) -> Option<Question> {
+    match word {
+        "kinds" => Some(Question::Kinds),
+        "steps" => Some(Question::Stores),
+        "formed" => Some(Question::Formed),
+        "chosen" => Some(Question::Chosen),
+        "choices" => Some(Question::Choices),
+        _ => None,
+    }
+}
+
+// What is measured with a word and what stands behind it.
+fn benchmark_with<'a>(word: &str, behind: &'a String) -> Benchmark<'a> {
+    if word == "store" {
+        return Benchmark::Store(behind.as_str().parse::<u32>().unwrap_or(0));
+    }
+    if word == "certs" {
+        return Benchmark::Certs(behind.as_str());
+    }
+    match question_of(word) {
+        Some(question) => Benchmark::Asked(question, number_of(behind)),
+        None => Benchmark::Texts,
+    }
+}
+
+fn benchmark_of<'a>(words: &'a [String]) -> Benchmark<'a> {
     match words {
+        [_, word, behind] => benchmark_with(word.as_str(), behind),
         [_, word] if word.as_str() == "orders" => Benchmark::Orders,
-        [_, word, rounds] if word.as_str() == "kinds" => Benchmark::Kinds(number_of(rounds)),
-        [_, word, rounds] if word.as_str() == "steps" => Benchmark::Steps(number_of(rounds)),
-        [_, word, rounds] if word.as_str() == "formed" => Benchmark::Formed(number_of(rounds)),
-        [_, word, rounds] if word.as_str() == "chosen" => Benchmark::Chosen(number_of(rounds)),
-        [_, word, rounds] if word.as_str() == "choices" => Benchmark::Choices(number_of(rounds)),
-        [_, word, states] if word.as_str() == "store" => {
-            Benchmark::Store(states.as_str().parse::<u32>().unwrap_or(0))
-        }
-        [_, word, states] if word.as_str() == "certs" => {
-            Benchmark::Certs(states.as_str().parse::<u32>().unwrap_or(0))
-        }
         [_, labels] => Benchmark::Labels(number_of(labels)),
         _ => Benchmark::Texts,
     }
 }
 
-fn main(rt: HostRuntime) -> io::Result<ExitCode> {
-    let alloc = rt.alloc();
-    let words: Vec<String> = std::env::args(&rt)?.collect(alloc)?;
-    match benchmark_of(words.as_slice()) {
-        Benchmark::Texts => {
-            let expected = read_long_texts(alloc)?;
-            println!(rt; "long texts: {expected}")?;
-        }
-        Benchmark::Orders => {
-            let expected = search_orders(alloc)?;
-            println!(rt; "orders: {expected}")?;
-        }
-        Benchmark::Kinds(rounds) => {
-            let count = count_in_walks(alloc, Question::Kinds, rounds)?;
-            println!(rt; "kinds: {count}")?;
-        }
-        Benchmark::Steps(rounds) => {
-            let count = count_in_walks(alloc, Question::Stores, rounds)?;
-            println!(rt; "stores: {count}")?;
-        }
-        Benchmark::Formed(rounds) => {
-            let count = count_in_walks(alloc, Question::Formed, rounds)?;
-            println!(rt; "well-formed: {count}")?;
-        }
-        Benchmark::Chosen(rounds) => {
-            let count = count_in_walks(alloc, Question::Chosen, rounds)?;
-            println!(rt; "chosen: {count}")?;
-        }
-        Benchmark::Choices(rounds) => {
-            let count = count_in_walks(alloc, Question::Choices, rounds)?;
-            println!(rt; "choices: {count}")?;
-        }
-        Benchmark::Store(states) => {
-            let Some(walked) = walk_of(alloc, states) else {
-                return Ok(ExitCode::FAILURE);
-            };
-            println!(rt; "states: {}, steps: {}", walked.states, walked.steps)?;
-        }
-        Benchmark::Certs(states) => {
-            let Some(bytes) = certificate(alloc, states) else {
-                return Ok(ExitCode::FAILURE);
-            };
-            measure(&rt, bytes.as_slice())?;
-        }
-        Benchmark::Labels(labels) => {
-            let Some(trace) = trace_of(alloc) else {
-                return Ok(ExitCode::FAILURE);
-            };
+// Takes so many labels along a trace and back.
+fn take_labels(alloc: Global, labels: u64) -> Result<bool, AllocError> {
+    match trace_of(alloc) {
+        Some(trace) => {
             walk(alloc, &trace, labels)?;
-            println!(rt; "labels: {labels}")?;
+            Ok(true)
         }
+        None => Ok(false),
     }
-    Ok(ExitCode::SUCCESS)
+}
+
+// Prints how long the walk through a store took.
+fn print_walk<R: Print>(rt: &R, walked: &Walked) -> io::Result<()> {
+    let (states, steps, found) = (walked.states, walked.steps, walked.found);
+    let (walked_in, found_in) = (walked.walked_in, walked.found_in);
+    println!(rt;
+        "states: {states}, steps: {steps} in {walked_in} ns, found: {found} in {found_in} ns"
+    )
+}
+
+// Takes so many labels, and says so. Whether there is a trace.
+fn measure_labels<R: Print>(rt: &R, alloc: Global, labels: u64) -> io::Result<bool> {
+    if !take_labels(alloc, labels)? {
+        return Ok(false);
+    }
+    println!(rt; "labels: {labels}")?;
+    Ok(true)
+}
+
+// Walks through so many states, and prints how long it took. Whether there is such a walk.
+fn measure_store<R: Clock + Print>(rt: &R, alloc: Global, states: u32) -> io::Result<bool> {
+    match walk_of(rt, alloc, states) {
+        Some(walked) => {
+            print_walk(rt, &walked)?;
+            Ok(true)
+        }
+        None => Ok(false),
+    }
+}
+
+// Prints what came of a benchmark.
+fn print_count<R: Print>(rt: &R, count: u64) -> io::Result<bool> {
+    println!(rt; "{count}")?;
+    Ok(true)
+}
+
+// Does what is to be measured. Whether it came out as expected.
+fn run<R: Clock + Files + Print + AllocGlobal>(
+    rt: &R,
+    benchmark: Benchmark<'_>,
+) -> io::Result<bool> {
+    let alloc = rt.alloc();
+    match benchmark {
+        Benchmark::Texts => Ok(read_long_texts(alloc)?),
+        Benchmark::Orders => Ok(search_orders(alloc)?),
+        Benchmark::Asked(question, rounds) => {
+            print_count(rt, count_in_walks(alloc, question, rounds)?)
+        }
+        Benchmark::Store(states) => measure_store(rt, alloc, states),
+        Benchmark::Certs(path) => {
+            measure(rt, path)?;
+            Ok(true)
+        }
+        Benchmark::Labels(labels) => measure_labels(rt, alloc, labels),
+    }
+}
+
+fn main(rt: HostRuntime) -> io::Result<ExitCode> {
+    let words: Vec<String> = std::env::args(&rt)?.collect(rt.alloc())?;
+    if run(&rt, benchmark_of(words.as_slice()))? {
+        Ok(ExitCode::SUCCESS)
+    } else {
+        Ok(ExitCode::FAILURE)
+    }
 }

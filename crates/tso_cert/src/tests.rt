@@ -206,5 +206,5 @@ fn workers_are_1_to_64(rt: HostRuntime) {
     assert!(rt; Workers::new(0).is_none());
     assert_eq!(rt; Workers::new(64).map(|w| w.count()), Some(64));
     assert!(rt; Workers::new(65).is_none());
-    NoWatch.at(3);
+    NoWatch.at(&rt, 3);
 }

@@ -1,6 +1,8 @@
 //! How many workers there are, and who watches them.
 ghost use Rattle.std.specs.Prelude.{◌≡◌, ◌↔◌, ◌≤◌, IfSome, IsTrue, is_some};
 
+use std::sync::Wait;
+
 /// A number of workers, from 1 to 64.
 #[derive(Clone, Copy, Debug, PartialEq, Eq)]
 pub struct Workers {
@@ -31,7 +33,11 @@ impl Workers {
 /// Who is told of each step of a worker.
 pub trait Watch {
     /// Told before step `n`. It may wait, and changes no answer.
-    fn at(&self, n: u64);
+    fn at<R: Wait>(&self, rt: &R, n: u64);
+
+    /// Told by a search, at each state that it leaves, how many states it has met and how many of them it has yet to leave.
+    /// It changes no answer.
+    fn met(&self, _found: u64, _left: u64) {}
 }
 
 /// A watch that does nothing.
@@ -39,5 +45,5 @@ pub trait Watch {
 pub struct NoWatch;
 
 impl Watch for NoWatch {
-    fn at(&self, _n: u64) {}
+    fn at<R: Wait>(&self, _rt: &R, _n: u64) {}
 }

@@ -7,14 +7,16 @@ use Rattle.std.specs.declared.cmp.Ordering.{Ordering}
 use Rattle.std.specs.declared.cmp.Ordering.TheVariants.{Less}
 use Rattle.tso_cert.proofs.LookupLemmas.{rises}
 use Rattle.tso_cert.specs.Lookup.{IsOrdered, IsRising, tree_states}
-use Rattle.tso_cert.specs.Trees.{Tree, records_of, record_count}
+use Rattle.tso_cert.specs.Trees.{Tree, records_of, record_count, tree_of}
 use Rattle.tso_check.proofs.RisingByNumbers.{RisesTo, at_contains, contains_at, rises_on}
 use Rattle.tso_check.proofs.RisingLemmas.{got_left, got_right, look_split, take_more}
 use Rattle.tso_check.proofs.VerdictLemmas.{initial_there}
 use Rattle.tso_check.proofs.WalkLemmas.{bad_is, bad_left, count_is, judged_right}
 use Rattle.tso_check.specs.Numbered.{AreJudgedFrom, AreKeptFrom, AreNumbered, IsJudgedAt, IsKeptFrom}
+use Rattle.tso_check.specs.Opened.{AreJudgedIn, AreKeptIn, IsOpened, IsRecordJudged}
 use Rattle.tso_check.specs.Risen.{ForksLook}
-use Rattle.tso_check.specs.Verdicts.{AreJudged, IsTreeFault}
+use Rattle.tso_check.specs.Verdicts.{IsTreeFault}
+use Rattle.tso_check.specs.declared.opening.Opened.{Opened}
 use Rattle.tso_check.specs.declared.walk.Bad.{Bad}
 use Rattle.tso_compact.specs.Laws.{initial_of}
 use Rattle.tso_compact.specs.Plans.{IsStep}
@@ -27,7 +29,7 @@ use Rattle.tso_judge.specs.Valid.{HasInitial, IsValidTree}
 use Rattle.tso_judge.specs.declared.code.Code.{Code}
 use Rattle.tso_judge.specs.declared.code.Code.TheVariants as faults
 use Rattle.tso_prog.specs.declared.client.Client.{Client}
-use Rattle.tso_rec.specs.Records.{states_of}
+use Rattle.tso_rec.specs.Records.{ends_of, states_of}
 use Rattle.tso_rec.specs.declared.record.End.{End}
 use Rattle.tso_rec.specs.declared.record.End.TheVariants.{Choices, Order}
 use Rattle.tso_rec.specs.declared.record.Record.{Record}
@@ -37,7 +39,7 @@ use Rattle.tso_state.specs.declared.actor.Actor.{Actor}
 use Rattle.tso_state.specs.declared.state.State.{State}
 use Rattle.tso_store.specs.Orders.{IsOrderOf}
 use Rattle.tso_parts.specs.Numbers.{IsNowhere}
-use Rattle.tso_store.specs.Sheets.{CanStep, IsSuccessorNowhere}
+use Rattle.tso_store.specs.Sheets.{CanStep, IsSuccessorNowhere, Sheet}
 
 pub at_place : {X : Type 0} (xs : List X) (k : ℕ) → k < length xs → (x : X) × (slice_get xs k ≡ Some x)
 at_place [] k lt = absurd (omega (arith, lt))
@@ -128,17 +130,37 @@ module _ (c : Client) (states : List State) (n : ℕ) where
 -- ---- many records
 
 -- the record with a number, and what is found of it
-pub record JudgedRecord (c : Client) (t : Table) (states : List State) (records : List Record) (k : ℕ) (e : End) (code : Option Code) : Type 0 where
+pub record JudgedRecord (c : Client) (t : Table) (states : List State) (records : List Record) (k : ℕ) (code : Option Code) : Type 0 where
   pub state : State
+  pub its_end : End
   pub at : slice_get (states_of records) k ≡ Some state
-  pub judged : IsJudgedAmong c t states state e code
+  pub end_at : slice_get (ends_of records) k ≡ Some its_end
+  pub judged : IsJudgedAmong c t states state its_end code
 
-pub judged_record : (c : Client) (t : Table) (states : List State) (records : List Record) (start k n : ℕ) (e : End) (code : Option Code) → AreNumbered states start records → k < length records → n ≡ start + k
-    → IsJudgedAt c t states n e code → JudgedRecord c t states records k e code
-judged_record c t states records start k n e code numbered within same judged =
-    let long = length-map records (λ (r : Record). r.state) in
-    let (s, at) = at_place (states_of records) k (omega (arith, within, long)) in
-    record { state = s; at = at; judged = judged s (ap (slice_get states) same ∙ numbered.each k s at) }
+module _ (o : Opened) (records : List Record) where
+  pub judged_record : (start k n : ℕ) (code : Option Code) → AreNumbered (tree_states (tree_of o.tree)) start records → k < length records → n ≡ start + k → IsRecordJudged o records k n code
+      → JudgedRecord o.checked.now.client o.table (tree_states (tree_of o.tree)) records k code
+  judged_record start k n code numbered within same judged =
+      let long = length-map records (λ (r : Record). r.state) in
+      let longer = length-map records (λ (r : Record). r.end) in
+      let (s, at) = at_place (states_of records) k (omega (arith, within, long)) in
+      let (e, is) = at_place (ends_of records) k (omega (arith, within, longer)) in
+      record { state = s; its_end = e; at = at; end_at = is; judged = judged s e at is (ap (slice_get (tree_states (tree_of o.tree))) same ∙ numbered.each k s at) }
+
+  module _ (k n : ℕ) (e : End) (code : Option Code) (is : slice_get (ends_of records) k ≡ Some e) where
+    -- by the store
+    pub by_number : (store : Sheet) → AreKeptIn (Some store) o.checked.now.client (tree_states (tree_of o.tree)) → IsJudgedAt o.checked.now.client o.table store.states n e code → IsRecordJudged o records k n code
+    by_number store kept judged s d at there known =
+        let c = o.checked.now.client in
+        let found : IsJudgedAmong c o.table store.states s e code = judged s (ap (λ (l : List State). slice_get l n) kept.1 ∙ known) in
+        subst (λ x. IsJudgedAmong c o.table (tree_states (tree_of o.tree)) s x code) (same_Some e d (sym is ∙ there)) (subst (λ l. IsJudgedAmong c o.table l s e code) kept.1 found)
+
+    -- in the tree
+    pub by_halves : (s : State) → slice_get (states_of records) k ≡ Some s → IsJudgedAmong o.checked.now.client o.table (tree_states (tree_of o.tree)) s e code → IsRecordJudged o records k n code
+    by_halves s at judged x d at' there known =
+        let c = o.checked.now.client in
+        let states = tree_states (tree_of o.tree) in
+        subst (λ y. IsJudgedAmong c o.table states x y code) (same_Some e d (sym is ∙ there)) (subst (λ y. IsJudgedAmong c o.table states y e code) (same_Some s x (sym at ∙ at')) judged)
 
 module _ (states : List State) (start : ℕ) (left right : List Record) (numbered : AreNumbered states start (left ++ right)) where
   pub left_numbered : AreNumbered states start left
@@ -169,18 +191,17 @@ module _ (c : Client) (t : Table) (states : List State) where
 
 -- ---- a whole tree
 
-pub all_numbered : (states : List State) (records : List Record) → states ≡ states_of records → AreNumbered states 0 records
-all_numbered states records is = record { each = λ k s at. ap (λ l. slice_get l (0 + k)) is ∙ ap (slice_get (states_of records)) (let e : 0 + k ≡ k = omega arith in e) ∙ at }
+pub all_numbered : (records : List Record) → AreNumbered (states_of records) 0 records
+all_numbered records = record { each = λ k s at. ap (slice_get (states_of records)) (let e : 0 + k ≡ k = omega arith in e) ∙ at }
 
-module _ (c : Client) (t : Table) (tree : Tree) (states : List State) where
-  judged_all : (found : Option Bad) → states ≡ tree_states tree → AreJudgedFrom c t states (records_of tree) 0 found → AreJudged c t (tree_states tree) (records_of tree) 0 found
-  judged_all found same judged = subst (λ l. AreJudged c t l (records_of tree) 0 found) same (judged (all_numbered states (records_of tree) same))
+module _ (o : Opened) (opened : IsOpened o) where
+  pub rejected_if_judged : (bad : Bad) → AreJudgedIn o (records_of (tree_of o.tree)) 0 (Some bad) → IsTreeFault o.checked.now.client o.table (tree_of o.tree) bad.code (Some bad.place)
+  rejected_if_judged bad judged =
+      bad_is o.checked.now.client o.table (tree_of o.tree) bad opened.whole.ordered opened.whole.closed opened.whole.initial (judged (all_numbered (records_of (tree_of o.tree))))
 
-  pub rejected_if_judged : (bad : Bad) → states ≡ tree_states tree → IsOrdered tree → IsClosed c t → HasInitial c (tree_states tree) → AreJudgedFrom c t states (records_of tree) 0 (Some bad) → IsTreeFault c t tree bad.code (Some bad.place)
-  rejected_if_judged bad same ordered closed initial judged = bad_is c t tree bad ordered closed initial (judged_all (Some bad) same judged)
-
-  pub accepted_if_judged : states ≡ tree_states tree → IsOrdered tree → IsClosed c t → HasInitial c (tree_states tree) → AreJudgedFrom c t states (records_of tree) 0 None → IsValidTree c t tree
-  accepted_if_judged same ordered closed initial judged = record { ordered = ordered; closed = closed; initial = initial; records = judged_all None same judged }
+  pub accepted_if_judged : AreJudgedIn o (records_of (tree_of o.tree)) 0 None → IsValidTree o.checked.now.client o.table (tree_of o.tree)
+  accepted_if_judged judged =
+      record { ordered = opened.whole.ordered; closed = opened.whole.closed; initial = opened.whole.initial; records = judged (all_numbered (records_of (tree_of o.tree))) }
 
 module _ (tree : Tree) (states : List State) where
   pub few_states : (n : ℕ) → states ≡ tree_states tree → record_count tree ≤ n → length states ≤ n

@@ -6,13 +6,14 @@ mod filling;
 mod halves;
 mod laws;
 mod numbered;
+mod opening;
 mod program;
 mod rising;
-mod stored;
+mod threads;
 mod verdict;
 mod walk;
 
-pub use deciding::{check, check_client};
+pub use deciding::{check, check_client, check_with};
 pub use laws::{accepted_runs_are_good, answers_are_unique, verdicts_are_unique};
 pub use program::checked_of;
 pub use verdict::{CheckError, Verdict};

@@ -1,24 +1,21 @@
 //! Records whose states lie in a store under the records' numbers.
 
-ghost use Rattle.std.specs.Prelude.{◌≡◌, ◌↔◌, ◌+◌, ◌<◌, ◌≤◌, All, IfOk, IsTrue, length};
+ghost use Rattle.std.specs.Prelude.{◌≡◌, ◌↔◌, ◌≤◌, All, IfOk, IsTrue, length};
 ghost use Rattle.std.specs.declared.cmp.Ordering.TheVariants.{Less};
 ghost use Rattle.tso_cert.specs.Lookup.{IsRising};
-ghost use Rattle.tso_cert.specs.Trees.{record_count, records_of, tree_of};
-ghost use Rattle.tso_check.specs.Numbered.{AreJudgedFrom, AreKeptFrom, IsJudgedAt, IsKeptFrom};
+ghost use Rattle.tso_check.specs.Numbered.{AreKeptFrom, IsJudgedAt, IsKeptFrom};
 ghost use Rattle.tso_choose.specs.declared.choice.Choice.{Choice as AChoice};
 ghost use Rattle.tso_judge.specs.Judging.{IsJudgedAlone};
 ghost use Rattle.tso_judge.specs.Valid.{HasInitial};
 ghost use Rattle.tso_store.specs.Orders.{IsOrderOf};
 
 use crate::rising::is_less;
-use crate::walk::Bad;
 use std::alloc::{AllocError, Global};
-use tso_cert::Cert;
 use tso_choose::Choice;
 use tso_flow::Checked;
 use tso_foot::Table;
 use tso_judge::{Code, judge_alone};
-use tso_rec::{End, Packed};
+use tso_rec::End;
 use tso_state::{Actor, initial_state};
 use tso_store::{Found, Store, View};
 
@@ -101,8 +98,10 @@ fn judge_view(
     judge_alone(alloc, checked, table, view, view.history(), end)
 }
 
-// The first condition that the state of this number fails with an end, if there is such a state.
-fn judge_number(
+/// The first condition that the state of this number fails with an end, if there is such a state.
+///
+/// Errors: where a growth was refused.
+pub fn judge_number(
     alloc: Global,
     checked: &Checked,
     table: &Table,
@@ -123,56 +122,6 @@ fn judge_number(
                 return Ok(None);
             }
             Ok(Some(Code::K08))
-        }
-    }
-}
-
-// The first record of a leaf that is not valid, where its records have their numbers from `start` on.
-fn judge_leaf(
-    alloc: Global,
-    checked: &Checked,
-    table: &Table,
-    store: &Store<'_>,
-    records: &Packed,
-    start: u64,
-) -> Result<Option<Bad>, AllocError>
-    requires client { store.now.client ≡ checked.now.client }
-    requires few { start + length records.now ≤ 4194304 }
-    ensures { IfOk result (AreJudgedFrom checked.now.client table.now store.now.states records.now start) }
-{
-    for k in 0..records.len() {
-        let place = start + k as u64;
-        match judge_number(alloc, checked, table, store, place as u32, records.end(k))? {
-            Some(code) => return Ok(Some(Bad { place, code })),
-            None => {}
-        }
-    }
-    Ok(None)
-}
-
-/// The first record of a part of a tree that is not valid, where the part's records have their numbers from `start` on, and
-/// these are the numbers of their states.
-///
-/// Errors: where a growth was refused.
-pub fn judge_numbered(
-    alloc: Global,
-    checked: &Checked,
-    table: &Table,
-    store: &Store<'_>,
-    part: &Cert,
-    start: u64,
-) -> Result<Option<Bad>, AllocError>
-    requires client { store.now.client ≡ checked.now.client }
-    requires few { start + record_count (tree_of part.now) ≤ 4194304 }
-    ensures { IfOk result (AreJudgedFrom checked.now.client table.now store.now.states (records_of (tree_of part.now)) start) }
-{
-    match part {
-        Cert::Leaf(records) => judge_leaf(alloc, checked, table, store, records, start),
-        Cert::Fork(left, _, right) => {
-            match judge_numbered(alloc, checked, table, store, left, start)? {
-                Some(bad) => Ok(Some(bad)),
-                None => judge_numbered(alloc, checked, table, store, right, start + left.len()),
-            }
         }
     }
 }

@@ -4,8 +4,10 @@ ghost use Rattle.std.specs.Prelude.{◌≡◌, ◌<◌, ◌≤◌, IfOk, Some, l
 ghost use Rattle.tso_cert.specs.Trees as trees;
 ghost use Rattle.tso_explore.specs.Cutting.{AreNumbers, AreRecordsOf, AreRising, IsCut, IsEndOf, IsExplainedAtEnd, IsRecordOf};
 ghost use Rattle.tso_explore.specs.Searched.{AreSearched};
+ghost use Rattle.tso_rec.specs.Keeping as keeping;
 ghost use Rattle.tso_state.specs.WellFormed.{IsWellFormed};
 
+use crate::shelves::Shelves;
 use std::alloc::{AllocError, Global};
 use std::boxed::Box;
 use tso_cert::Cert;
@@ -13,15 +15,20 @@ use tso_choose::choose;
 use tso_fifo::linearize;
 use tso_flow::Checked;
 use tso_foot::Table;
-use tso_rec::{End, Packed, Record};
+use tso_rec::{End, Kept, Packed};
 use tso_state::State;
-use tso_store::Store;
+use tso_store::{Store, View};
 
 // The most records of a leaf.
 const LEAF: usize = 64;
 
 // The end of a worked state.
-fn end_of(alloc: Global, checked: &Checked, table: &Table, state: &State) -> Result<End, AllocError>
+fn end_of(
+    alloc: Global,
+    checked: &Checked,
+    table: &Table,
+    state: &View<'_>,
+) -> Result<End, AllocError>
     requires well_formed { IsWellFormed checked.now.client state.now }
     requires explained { IsExplainedAtEnd checked.now.client state.now }
     ensures { IfOk result (IsEndOf checked.now.client table.now state.now) }
@@ -31,7 +38,12 @@ fn end_of(alloc: Global, checked: &Checked, table: &Table, state: &State) -> Res
         return Ok(End::Choices(choices));
     }
     let client = &checked.client;
-    match linearize(alloc, &state.history, client.mode, client.capacity as usize)? {
+    match linearize(
+        alloc,
+        state.history(),
+        client.mode,
+        client.capacity as usize,
+    )? {
         Some(order) => Ok(End::Order(order)),
         None => unreachable!(),
     }
@@ -43,16 +55,18 @@ fn record_of(
     checked: &Checked,
     table: &Table,
     store: &Store<'_>,
+    shelves: &mut Shelves,
     number: u32,
-) -> Result<Record, AllocError>
+) -> Result<Kept, AllocError>
     requires searched { AreSearched checked.now.client table.now store.now.states }
     requires there { number < length store.now.states }
-    ensures { IfOk result (IsRecordOf checked.now.client table.now store.now.states number) }
+    ensures { IfOk result (λ k. IsRecordOf checked.now.client table.now store.now.states number (keeping.record_of k)) }
 {
-    match store.state(alloc, number)? {
-        Some(state) => {
-            let end = end_of(alloc, checked, table, &state)?;
-            Ok(Record { state, end })
+    match store.view(number) {
+        Some(view) => {
+            let end = end_of(alloc, checked, table, &view)?;
+            let kept = shelves.record(alloc, &view, end)?;
+            Ok(kept)
         }
         None => unreachable!(),
     }
@@ -64,6 +78,7 @@ fn leaf_of(
     checked: &Checked,
     table: &Table,
     store: &Store<'_>,
+    shelves: &mut Shelves,
     numbers: &[u32],
 ) -> Result<Packed, AllocError>
     requires searched { AreSearched checked.now.client table.now store.now.states }
@@ -72,8 +87,8 @@ fn leaf_of(
 {
     let mut records = Packed::new(alloc);
     for number in numbers {
-        let added = record_of(alloc, checked, table, store, *number)?;
-        records.push(&added)?;
+        let added = record_of(alloc, checked, table, store, shelves, *number)?;
+        records.append(added)?;
     }
     Ok(records)
 }
@@ -96,6 +111,7 @@ pub fn tree_of(
     checked: &Checked,
     table: &Table,
     store: &Store<'_>,
+    shelves: &mut Shelves,
     numbers: &[u32],
 ) -> Result<Cert, AllocError>
     requires searched { AreSearched checked.now.client table.now store.now.states }
@@ -104,12 +120,12 @@ pub fn tree_of(
     ensures { IfOk result (λ cert. IsCut checked.now.client table.now store.now.states numbers.now (trees.tree_of cert)) }
 {
     if numbers.len() <= LEAF {
-        let records = leaf_of(alloc, checked, table, store, numbers)?;
+        let records = leaf_of(alloc, checked, table, store, shelves, numbers)?;
         return Ok(Cert::Leaf(records));
     }
     let (low, high) = numbers.split_at(numbers.len() / 2);
-    let left = tree_of(alloc, checked, table, store, low)?;
+    let left = tree_of(alloc, checked, table, store, shelves, low)?;
     let middle = state_at(alloc, store, high[0])?;
-    let right = tree_of(alloc, checked, table, store, high)?;
+    let right = tree_of(alloc, checked, table, store, shelves, high)?;
     Ok(Cert::Fork(Box::new(alloc, left)?, middle, Box::new(alloc, right)?))
 }

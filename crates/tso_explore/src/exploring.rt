@@ -9,9 +9,12 @@ use crate::cutting::tree_of;
 use crate::origin::Origin;
 use crate::outcome::Outcome;
 use crate::searching::search;
+use crate::shelves::Shelves;
 use crate::stop::Stop;
 use crate::way::trace_to;
 use std::alloc::{AllocError, Global};
+use std::sync::Wait;
+use std::thread::Threads;
 use tso_cert::{Watch, Workers};
 use tso_flow::Checked;
 use tso_foot::{Table, build};
@@ -52,7 +55,15 @@ fn certificate_of(
 {
     store.states_differ();
     let numbers = store.rising(alloc)?;
-    let cert = tree_of(alloc, checked, &table, store, numbers.as_slice())?;
+    let mut shelves = Shelves::new(alloc);
+    let cert = tree_of(
+        alloc,
+        checked,
+        &table,
+        store,
+        &mut shelves,
+        numbers.as_slice(),
+    )?;
     Ok(Outcome::Certificate(table, cert))
 }
 
@@ -80,7 +91,8 @@ fn stopped(
 }
 
 // What is found from the initial state on.
-fn found_from<W: Watch>(
+fn found_from<R: Wait, W: Watch>(
+    rt: &R,
     alloc: Global,
     checked: &Checked,
     table: Table,
@@ -100,6 +112,7 @@ fn found_from<W: Watch>(
     let mut store = store;
     let mut origins = Vec::new(alloc);
     match search(
+        rt,
         alloc,
         checked,
         &table,
@@ -114,7 +127,8 @@ fn found_from<W: Watch>(
 }
 
 // What is found, where there is memory.
-fn explored<W: Watch>(
+fn explored<R: Wait, W: Watch>(
+    rt: &R,
     alloc: Global,
     checked: &Checked,
     limit: u32,
@@ -129,12 +143,13 @@ fn explored<W: Watch>(
         store.states_differ();
         return Ok(Outcome::LimitReached);
     }
-    found_from(alloc, checked, table, store, limit, watch)
+    found_from(rt, alloc, checked, table, store, limit, watch)
 }
 
 /// Searches the client's compact states from the initial one, by breadth, following chosen actors alone (Godefroid 1996), with
 /// the least closed table of footprints.
-pub fn explore<W: Watch>(
+pub fn explore<R: Threads + Wait + Sync, W: Watch>(
+    rt: &R,
     alloc: Global,
     checked: &Checked,
     _workers: Workers,
@@ -144,7 +159,7 @@ pub fn explore<W: Watch>(
     requires { state_limit ≤ 4194304 }
     ensures { IsOutcome checked.now.client state_limit result }
 {
-    match explored(alloc, checked, state_limit, watch) {
+    match explored(rt, alloc, checked, state_limit, watch) {
         Ok(outcome) => outcome,
         Err(_) => Outcome::NoMemory,
     }

@@ -8,6 +8,7 @@ mod following;
 mod origin;
 mod outcome;
 mod searching;
+mod shelves;
 mod stop;
 mod way;
 

@@ -8,6 +8,7 @@ use crate::following::follow_all;
 use crate::origin::Origin;
 use crate::stop::Stop;
 use std::alloc::Global;
+use std::sync::Wait;
 use tso_cert::Watch;
 use tso_choose::chosen;
 use tso_flow::Checked;
@@ -62,7 +63,8 @@ fn work(
 }
 
 /// Works the states in the order of their numbers until all that were met are worked.
-pub fn search<W: Watch>(
+pub fn search<R: Wait, W: Watch>(
+    rt: &R,
     alloc: Global,
     checked: &Checked,
     table: &Table,
@@ -83,7 +85,8 @@ pub fn search<W: Watch>(
 {
     let mut number = 0;
     'states: while (number as usize) < store.len() {
-        watch.at(0);
+        watch.at(rt, 0);
+        watch.met(store.len() as u64, store.len() as u64 - number as u64);
         work(alloc, checked, table, store, origins, number, limit)?;
         number += 1;
     }

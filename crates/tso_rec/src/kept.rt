@@ -18,7 +18,7 @@ use tso_hist::{Call, History};
 use tso_list::{Exact, Seq};
 use tso_state::{State, Thread};
 
-/// A record, whose parts may be shared with others.
+/// A record, whose parts may be shared with others: its state's memory, threads and lists of calls, and its end.
 #[derive(Debug, Drop)]
 pub struct Kept {
     pub memory: Shared<Seq<u64>>,

@@ -3,7 +3,7 @@ ghost use Rattle.std.specs.Prelude.{◌≡◌, ◌<◌, [], Err, IfOk, IfSome};
 ghost use Rattle.tso_code.specs.Fields.{Gives};
 
 use crate::record::End;
-use crate::shared::{Part, Shared};
+use crate::shared::{Part, Shared, copy_of};
 use crate::told::Reader;
 use std::alloc::{AllocError, Global};
 use std::hash::{FoldHasher, Hasher};
@@ -92,8 +92,9 @@ impl<T: Part> Shelf<T> {
         Ok(())
     }
 
-    // The part, shared with an equal one that lies here.
-    fn share(&mut self, alloc: Global, mark: u64, part: T) -> Result<Shared<T>, AllocError>
+    /// The part, shared with an equal one that lies at the place of its mark; else it lies there from now on. Parts that are
+    /// the same should have one mark, or are kept more than once: marks change no answer.
+    pub fn share(&mut self, alloc: Global, mark: u64, part: T) -> Result<Shared<T>, AllocError>
         ensures { IfOk result (λ s. s ≡ part) }
     {
         if let Some(shared) = self.find(mark, &part) {
@@ -103,6 +104,18 @@ impl<T: Part> Shelf<T> {
         let again = shared.again()?;
         self.put(alloc, mark, again)?;
         Ok(shared)
+    }
+
+    /// A part that is kept elsewhere, shared with an equal one that lies at the place of its mark; else it is copied, and the
+    /// copy lies there from now on.
+    pub fn keep(&mut self, alloc: Global, mark: u64, part: &T) -> Result<Shared<T>, AllocError>
+        ensures { IfOk result (λ s. s ≡ part.now) }
+    {
+        if let Some(shared) = self.find(mark, part) {
+            return shared.again();
+        }
+        let copy = copy_of(part)?;
+        self.share(alloc, mark, copy)
     }
 }
 

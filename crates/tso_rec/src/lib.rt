@@ -9,6 +9,8 @@ mod shared;
 mod spelling;
 mod told;
 
-pub use known::Known;
+pub use kept::Kept;
+pub use known::{Known, Shelf};
 pub use packed::Packed;
 pub use record::{End, Record};
+pub use shared::{Part, Shared};

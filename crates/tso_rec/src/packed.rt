@@ -65,8 +65,8 @@ impl Packed {
         self.append(kept)
     }
 
-    // Adds a record that is kept at the end.
-    fn append(&mut self, kept: Kept) -> Result<(), AllocError>
+    /// Adds a record that is kept by parts at the end, with what it shares. Want of memory leaves the records as they were.
+    pub fn append(&mut self, kept: Kept) -> Result<(), AllocError>
         ensures ok { OnOk result (self.new ≡ self.old ++ record_of kept ∷ []) }
         ensures err { OnErr result (self.new ≡ self.old) }
     {

@@ -1,7 +1,11 @@
 //! The certificate of a client with one push that is refused: whole, damaged and forged.
 
 use std::alloc::Global;
-use tso_check::{Verdict, check};
+use std::process::Abort;
+use std::sync::Wait;
+use std::thread::Threads;
+use tso_cert::{NoWatch, Workers};
+use tso_check::{CheckError, Verdict, check, check_with};
 use tso_judge::Code;
 use tso_samples::{BAD_ANSWER, ONE_REFUSAL, ONE_REFUSAL_STRICT};
 
@@ -10,13 +14,40 @@ use tso_samples::{BAD_ANSWER, ONE_REFUSAL, ONE_REFUSAL_STRICT};
 pub const WHOLE: &[u8] =
     b"TSOC\x01\x02\0\0\0\0\x03\0\0\0\0\0\0\0\x04\0\x01\0\0\x01\0\0\x01\0\0\0\x01\0\0\x01\x01\0\x07\x01\0\x01\x01\x01\0\0\x01\0\x01\x01\0\0\0\0\0\0\x07\0\0\0\0\0\0\0\0\0\0\0\0\x01\x01\0\x07\x01\0\0\0\x01\0\0\0\x01\x01\x01\0\0\0\0\0\x07\0\0\0\0\0\0\0\0\0\0\0\0\x01\x01\0\x07\x01\0\0\0\x01\0\0";
 
-// What is answered of bytes as a certificate for the program.
-fn verdict_on(alloc: Global, program: &str, bytes: &[u8]) -> Option<Verdict> {
-    check(alloc, program.as_bytes(), bytes).ok()
+// What so many workers answer of bytes as a certificate for the program.
+fn answer_of<R: Threads + Wait + Sync>(
+    rt: &R,
+    alloc: Global,
+    program: &str,
+    bytes: &[u8],
+    count: u64,
+) -> Option<Result<Verdict, CheckError>> {
+    let workers = Workers::new(count)?;
+    let program = program.as_bytes();
+    Some(check_with(rt, alloc, program, bytes, workers, &NoWatch))
 }
 
-fn verdict(alloc: Global, bytes: &[u8]) -> Option<Verdict> {
-    verdict_on(alloc, ONE_REFUSAL, bytes)
+// The verdict on bytes as a certificate for the program, which is the same for every number of workers.
+fn verdict_on<R: Abort + Threads + Wait + Sync>(
+    rt: &R,
+    alloc: Global,
+    program: &str,
+    bytes: &[u8],
+) -> Option<Verdict> {
+    let alone = check(alloc, program.as_bytes(), bytes);
+    for count in [1, 2, 64] {
+        let together = answer_of(rt, alloc, program, bytes, count);
+        assert_eq!(rt; together, Some(alone));
+    }
+    alone.ok()
+}
+
+fn verdict<R: Abort + Threads + Wait + Sync>(
+    rt: &R,
+    alloc: Global,
+    bytes: &[u8],
+) -> Option<Verdict> {
+    verdict_on(rt, alloc, ONE_REFUSAL, bytes)
 }
 
 fn rejected(code: Code) -> Option<Verdict> {
@@ -33,13 +64,13 @@ fn rejected_at(code: Code, place: u64) -> Option<Verdict> {
 #[test]
 fn accepted_whole(rt: HostRuntime) {
     assert_eq!(rt; WHOLE.len(), 111);
-    assert_eq!(rt; verdict(rt.alloc(), WHOLE), Some(Verdict::Accepted));
+    assert_eq!(rt; verdict(&rt, rt.alloc(), WHOLE), Some(Verdict::Accepted));
 }
 
 #[test]
 fn beginnings_are_none(rt: HostRuntime) {
     for length in 0..WHOLE.len() {
-        let answer = verdict(rt.alloc(), &WHOLE[..length]);
+        let answer = verdict(&rt, rt.alloc(), &WHOLE[..length]);
         assert_eq!(rt; answer, rejected(Code::K01));
     }
 }
@@ -55,9 +86,9 @@ const VERSION_3: &[u8] =
 
 #[test]
 fn other_heads(rt: HostRuntime) {
-    assert_eq!(rt; verdict(rt.alloc(), OTHER_LETTER), rejected(Code::K01));
-    assert_eq!(rt; verdict(rt.alloc(), VERSION_2), rejected(Code::K01));
-    assert_eq!(rt; verdict(rt.alloc(), VERSION_3), rejected(Code::K01));
+    assert_eq!(rt; verdict(&rt, rt.alloc(), OTHER_LETTER), rejected(Code::K01));
+    assert_eq!(rt; verdict(&rt, rt.alloc(), VERSION_2), rejected(Code::K01));
+    assert_eq!(rt; verdict(&rt, rt.alloc(), VERSION_3), rejected(Code::K01));
 }
 
 const LONGER: &[u8] =
@@ -71,9 +102,9 @@ const OF_FIVE: &[u8] =
 
 #[test]
 fn other_counts(rt: HostRuntime) {
-    assert_eq!(rt; verdict(rt.alloc(), LONGER), rejected(Code::K01));
-    assert_eq!(rt; verdict(rt.alloc(), OF_THREE), rejected(Code::K01));
-    assert_eq!(rt; verdict(rt.alloc(), OF_FIVE), rejected(Code::K01));
+    assert_eq!(rt; verdict(&rt, rt.alloc(), LONGER), rejected(Code::K01));
+    assert_eq!(rt; verdict(&rt, rt.alloc(), OF_THREE), rejected(Code::K01));
+    assert_eq!(rt; verdict(&rt, rt.alloc(), OF_FIVE), rejected(Code::K01));
 }
 
 // The count 4 in two bytes, and a count of words beyond all.
@@ -85,8 +116,8 @@ const MANY_WORDS: &[u8] =
 
 #[test]
 fn other_numbers(rt: HostRuntime) {
-    assert_eq!(rt; verdict(rt.alloc(), TWO_BYTES), rejected(Code::K01));
-    assert_eq!(rt; verdict(rt.alloc(), MANY_WORDS), rejected(Code::K01));
+    assert_eq!(rt; verdict(&rt, rt.alloc(), TWO_BYTES), rejected(Code::K01));
+    assert_eq!(rt; verdict(&rt, rt.alloc(), MANY_WORDS), rejected(Code::K01));
 }
 
 const OF_65: &[u8] =
@@ -102,10 +133,10 @@ const FORKS_65: &[u8] =
 
 #[test]
 fn limits(rt: HostRuntime) {
-    assert_eq!(rt; verdict(rt.alloc(), OF_65), rejected(Code::K02));
-    assert_eq!(rt; verdict(rt.alloc(), OF_65_CUT), rejected(Code::K02));
-    assert_eq!(rt; verdict(rt.alloc(), FORKS_64), rejected(Code::K01));
-    assert_eq!(rt; verdict(rt.alloc(), FORKS_65), rejected(Code::K02));
+    assert_eq!(rt; verdict(&rt, rt.alloc(), OF_65), rejected(Code::K02));
+    assert_eq!(rt; verdict(&rt, rt.alloc(), OF_65_CUT), rejected(Code::K02));
+    assert_eq!(rt; verdict(&rt, rt.alloc(), FORKS_64), rejected(Code::K01));
+    assert_eq!(rt; verdict(&rt, rt.alloc(), FORKS_65), rejected(Code::K02));
 }
 
 const PAST_THE_ARRAYS: &[u8] =
@@ -116,8 +147,11 @@ const THREE_ITEMS: &[u8] =
 
 #[test]
 fn other_tables(rt: HostRuntime) {
-    assert_eq!(rt; verdict(rt.alloc(), PAST_THE_ARRAYS), rejected(Code::K04));
-    assert_eq!(rt; verdict(rt.alloc(), THREE_ITEMS), rejected(Code::K04));
+    assert_eq!(rt;
+        verdict(&rt, rt.alloc(), PAST_THE_ARRAYS),
+        rejected(Code::K04)
+    );
+    assert_eq!(rt; verdict(&rt, rt.alloc(), THREE_ITEMS), rejected(Code::K04));
 }
 
 const NO_FIRST: &[u8] =
@@ -131,9 +165,12 @@ const EXCHANGED: &[u8] =
 
 #[test]
 fn records_taken_out_or_exchanged(rt: HostRuntime) {
-    assert_eq!(rt; verdict(rt.alloc(), NO_FIRST), rejected(Code::K09));
-    assert_eq!(rt; verdict(rt.alloc(), NO_LAST), rejected_at(Code::K08, 2));
-    assert_eq!(rt; verdict(rt.alloc(), EXCHANGED), rejected(Code::K03));
+    assert_eq!(rt; verdict(&rt, rt.alloc(), NO_FIRST), rejected(Code::K09));
+    assert_eq!(rt;
+        verdict(&rt, rt.alloc(), NO_LAST),
+        rejected_at(Code::K08, 2)
+    );
+    assert_eq!(rt; verdict(&rt, rt.alloc(), EXCHANGED), rejected(Code::K03));
 }
 
 const DRAINS: &[u8] =
@@ -150,10 +187,16 @@ const NO_ORDER: &[u8] =
 
 #[test]
 fn other_ends(rt: HostRuntime) {
-    assert_eq!(rt; verdict(rt.alloc(), DRAINS), rejected_at(Code::K06, 0));
-    assert_eq!(rt; verdict(rt.alloc(), REASONED), rejected_at(Code::K07, 0));
-    assert_eq!(rt; verdict(rt.alloc(), CHOSEN), rejected_at(Code::K06, 1));
-    assert_eq!(rt; verdict(rt.alloc(), NO_ORDER), rejected_at(Code::K11, 1));
+    assert_eq!(rt; verdict(&rt, rt.alloc(), DRAINS), rejected_at(Code::K06, 0));
+    assert_eq!(rt;
+        verdict(&rt, rt.alloc(), REASONED),
+        rejected_at(Code::K07, 0)
+    );
+    assert_eq!(rt; verdict(&rt, rt.alloc(), CHOSEN), rejected_at(Code::K06, 1));
+    assert_eq!(rt;
+        verdict(&rt, rt.alloc(), NO_ORDER),
+        rejected_at(Code::K11, 1)
+    );
 }
 
 // The push of the last state is of another word.
@@ -162,14 +205,17 @@ const OTHER_CALL: &[u8] =
 
 #[test]
 fn states_of_other_clients(rt: HostRuntime) {
-    assert_eq!(rt; verdict(rt.alloc(), OTHER_CALL), rejected_at(Code::K05, 1));
-    let strict = verdict_on(rt.alloc(), ONE_REFUSAL_STRICT, WHOLE);
+    assert_eq!(rt;
+        verdict(&rt, rt.alloc(), OTHER_CALL),
+        rejected_at(Code::K05, 1)
+    );
+    let strict = verdict_on(&rt, rt.alloc(), ONE_REFUSAL_STRICT, WHOLE);
     assert_eq!(rt; strict, rejected_at(Code::K11, 1));
-    assert_eq!(rt; verdict_on(rt.alloc(), "", WHOLE), None);
+    assert_eq!(rt; verdict_on(&rt, rt.alloc(), "", WHOLE), None);
 }
 
-// A fork of the first two records and the last two.
-const FORK_AT_2: &[u8] =
+/// A fork of the first two records and the last two.
+pub const FORK_AT_2: &[u8] =
     b"TSOC\x01\x02\0\0\0\0\x03\0\0\0\0\0\0\x01\0\x02\0\x01\0\0\x01\0\0\x01\0\0\0\x01\0\0\x01\x01\0\x07\x01\0\x01\x01\x01\0\0\x01\0\x01\x01\0\0\0\0\0\0\x07\0\0\0\0\0\0\0\0\0\0\0\0\x01\x01\0\x07\x01\0\0\0\x02\0\x01\x01\0\0\0\0\0\0\x07\0\0\0\0\0\0\0\0\0\0\0\0\x01\x01\0\x07\x01\0\0\0\x01\0\0\0\x01\x01\x01\0\0\0\0\0\x07\0\0\0\0\0\0\0\0\0\0\0\0\x01\x01\0\x07\x01\0\0\0\x01\0\0";
 
 const FORK_AT_1: &[u8] =
@@ -183,13 +229,31 @@ const FORK_BEFORE_ALL: &[u8] =
 
 #[test]
 fn forks(rt: HostRuntime) {
-    assert_eq!(rt; verdict(rt.alloc(), FORK_AT_2), Some(Verdict::Accepted));
-    assert_eq!(rt; verdict(rt.alloc(), FORK_AT_1), rejected(Code::K03));
-    assert_eq!(rt; verdict(rt.alloc(), FORK_AT_3), rejected(Code::K03));
     assert_eq!(rt;
-        verdict(rt.alloc(), FORK_BEFORE_ALL),
+        verdict(&rt, rt.alloc(), FORK_AT_2),
         Some(Verdict::Accepted)
     );
+    assert_eq!(rt; verdict(&rt, rt.alloc(), FORK_AT_1), rejected(Code::K03));
+    assert_eq!(rt; verdict(&rt, rt.alloc(), FORK_AT_3), rejected(Code::K03));
+    assert_eq!(rt;
+        verdict(&rt, rt.alloc(), FORK_BEFORE_ALL),
+        Some(Verdict::Accepted)
+    );
+}
+
+// The fork with a reason too many in the first record of each leaf, and of the second leaf alone.
+const BOTH_REASONED: &[u8] =
+    b"TSOC\x01\x02\0\0\0\0\x03\0\0\0\0\0\0\x01\0\x02\0\x01\0\0\x01\0\0\x01\0\x01\0\0\x01\0\0\x01\x01\0\x07\x01\0\x01\x01\x01\0\0\x01\0\x01\x01\0\0\0\0\0\0\x07\0\0\0\0\0\0\0\0\0\0\0\0\x01\x01\0\x07\x01\0\0\0\x02\0\x01\x01\0\0\0\0\0\0\x07\0\0\0\0\0\0\0\0\0\0\0\0\x01\x01\0\x07\x01\0\0\0\x01\0\x01\0\0\x01\x01\x01\0\0\0\0\0\x07\0\0\0\0\0\0\0\0\0\0\0\0\x01\x01\0\x07\x01\0\0\0\x01\0\0";
+
+const RIGHT_REASONED: &[u8] =
+    b"TSOC\x01\x02\0\0\0\0\x03\0\0\0\0\0\0\x01\0\x02\0\x01\0\0\x01\0\0\x01\0\0\0\x01\0\0\x01\x01\0\x07\x01\0\x01\x01\x01\0\0\x01\0\x01\x01\0\0\0\0\0\0\x07\0\0\0\0\0\0\0\0\0\0\0\0\x01\x01\0\x07\x01\0\0\0\x02\0\x01\x01\0\0\0\0\0\0\x07\0\0\0\0\0\0\0\0\0\0\0\0\x01\x01\0\x07\x01\0\0\0\x01\0\x01\0\0\x01\x01\x01\0\0\0\0\0\x07\0\0\0\0\0\0\0\0\0\0\0\0\x01\x01\0\x07\x01\0\0\0\x01\0\0";
+
+#[test]
+fn the_first_leaf_decides(rt: HostRuntime) {
+    let both = verdict(&rt, rt.alloc(), BOTH_REASONED);
+    assert_eq!(rt; both, rejected_at(Code::K07, 0));
+    let right = verdict(&rt, rt.alloc(), RIGHT_REASONED);
+    assert_eq!(rt; right, rejected_at(Code::K07, 2));
 }
 
 // A push that answers 2 stops its thread.
@@ -199,6 +263,6 @@ const FORGED: &[u8] =
 #[test]
 fn a_stopped_thread_is_refused(rt: HostRuntime) {
     assert_eq!(rt; FORGED.len(), 108);
-    let stopped = verdict_on(rt.alloc(), BAD_ANSWER, FORGED);
+    let stopped = verdict_on(&rt, rt.alloc(), BAD_ANSWER, FORGED);
     assert_eq!(rt; stopped, rejected_at(Code::K10, 3));
 }

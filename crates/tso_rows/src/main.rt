@@ -9,6 +9,8 @@ mod choices;
 #[cfg(test)]
 mod limits;
 #[cfg(test)]
+mod meeting;
+#[cfg(test)]
 mod programs;
 #[cfg(test)]
 mod refusals;

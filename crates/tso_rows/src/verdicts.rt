@@ -5,7 +5,9 @@ ghost use Rattle.std.specs.Prelude.{◌≤◌};
 use crate::certificates::WHOLE;
 use std::alloc::Global;
 use std::process::Abort;
+use std::sync::Wait;
 use std::test::Fail;
+use std::thread::Threads;
 use tso_cert::{NoWatch, Workers, encode};
 use tso_check::{Verdict, check_client, checked_of};
 use tso_explore::{Outcome, explore};
@@ -49,11 +51,17 @@ enum Found {
 }
 
 // What is found of a client with so many workers and states.
-fn found_of(alloc: Global, checked: &Checked, count: u64, limit: u32) -> Result<Found, Fail>
+fn found_of<R: Abort + Threads + Wait + Sync>(
+    rt: &R,
+    alloc: Global,
+    checked: &Checked,
+    count: u64,
+    limit: u32,
+) -> Result<Found, Fail>
     requires { limit ≤ 4194304 }
 {
     let workers = Workers::new(count).ok_or("no workers")?;
-    match explore(alloc, checked, workers, limit, &NoWatch) {
+    match explore(rt, alloc, checked, workers, limit, &NoWatch) {
         Outcome::Certificate(table, cert) => {
             Ok(Found::Certificate(encode(alloc, &table, &cert)?))
         }
@@ -74,9 +82,13 @@ fn client_of(alloc: Global, text: &str) -> Result<Checked, Fail> {
 }
 
 // Every number of workers ends with the same certificate, which is accepted.
-fn assert_good(rt: &impl Abort, alloc: Global, text: &str) -> Result<(), Fail> {
+fn assert_good<R: Abort + Threads + Wait + Sync>(
+    rt: &R,
+    alloc: Global,
+    text: &str,
+) -> Result<(), Fail> {
     let checked = client_of(alloc, text)?;
-    let first = found_of(alloc, &checked, 1, MOST)?;
+    let first = found_of(rt, alloc, &checked, 1, MOST)?;
     match &first {
         Found::Certificate(bytes) => {
             let verdict = check_client(alloc, &checked, bytes.as_slice())?;
@@ -85,14 +97,14 @@ fn assert_good(rt: &impl Abort, alloc: Global, text: &str) -> Result<(), Fail> {
         _ => return Err("no certificate".into()),
     }
     for count in [2, 8] {
-        assert_eq!(rt; found_of(alloc, &checked, count, MOST)?, first);
+        assert_eq!(rt; found_of(rt, alloc, &checked, count, MOST)?, first);
     }
     Ok(())
 }
 
 // Every number of workers ends with a trace of this violation; the last one's text.
-fn bad_trace(
-    rt: &impl Abort,
+fn bad_trace<R: Abort + Threads + Wait + Sync>(
+    rt: &R,
     alloc: Global,
     text: &str,
     wanted: &[Violation],
@@ -100,7 +112,7 @@ fn bad_trace(
     let checked = client_of(alloc, text)?;
     let mut last = Vec::new(alloc);
     for count in [1, 2, 8] {
-        match found_of(alloc, &checked, count, MOST)? {
+        match found_of(rt, alloc, &checked, count, MOST)? {
             Found::Trace(violation, text) => {
                 assert!(rt; wanted.contains(&violation));
                 last = text;
@@ -115,7 +127,11 @@ fn bad_trace(
 }
 
 // Every number of workers ends with a run whose calls no order explains.
-fn no_order(rt: &impl Abort, alloc: Global, text: &str) -> Result<String, Fail> {
+fn no_order<R: Abort + Threads + Wait + Sync>(
+    rt: &R,
+    alloc: Global,
+    text: &str,
+) -> Result<String, Fail> {
     bad_trace(rt, alloc, text, &[Violation::NoOrder])
 }
 
@@ -132,7 +148,7 @@ fn limits_count_states(rt: HostRuntime) -> Result<(), Fail> {
     let alloc = rt.alloc();
     let checked = client_of(alloc, ONE_REFUSAL)?;
     for count in [1, 2, 8] {
-        assert_eq!(rt; found_of(alloc, &checked, count, 3)?, Found::Limit);
+        assert_eq!(rt; found_of(&rt, alloc, &checked, count, 3)?, Found::Limit);
     }
     Ok(())
 }
@@ -142,7 +158,7 @@ fn one_refusal_is_good(rt: HostRuntime) -> Result<(), Fail> {
     let alloc = rt.alloc();
     let checked = client_of(alloc, ONE_REFUSAL)?;
     for count in [1, 2, 8] {
-        match found_of(alloc, &checked, count, 4)? {
+        match found_of(&rt, alloc, &checked, count, 4)? {
             Found::Certificate(bytes) => assert_eq!(rt; bytes.as_slice(), WHOLE),
             _ => return Err("no certificate".into()),
         }

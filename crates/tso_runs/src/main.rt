@@ -7,6 +7,8 @@ use failure::{Failure, ensure};
 use std::alloc::Global;
 use std::io;
 use std::process::ExitCode;
+use std::sync::Wait;
+use std::thread::Threads;
 use tso_cert::{NoWatch, Workers};
 use tso_explore::{Outcome, explore};
 use tso_flow::Checked;
@@ -34,11 +36,15 @@ fn checked_of(alloc: Global, text: &str) -> Option<Checked> {
 }
 
 // Whether a search finds a violation, and not a certificate.
-fn is_violated(alloc: Global, checked: &Checked) -> Result<bool, Failure> {
+fn is_violated<R: Threads + Wait + Sync>(
+    rt: &R,
+    alloc: Global,
+    checked: &Checked,
+) -> Result<bool, Failure> {
     let Some(workers) = Workers::new(1) else {
         return Err(Failure::Memory);
     };
-    match explore(alloc, checked, workers, 4_194_304, &NoWatch) {
+    match explore(rt, alloc, checked, workers, 4_194_304, &NoWatch) {
         Outcome::Certificate(..) => Ok(false),
         Outcome::Trace(_) => Ok(true),
         Outcome::LimitReached => Err(Failure::Difference),
@@ -47,18 +53,18 @@ fn is_violated(alloc: Global, checked: &Checked) -> Result<bool, Failure> {
 }
 
 // The runs of the client of a text, where a search agrees with them.
-fn runs_of(alloc: Global, text: &str) -> Result<Met, Failure> {
+fn runs_of<R: Threads + Wait + Sync>(rt: &R, alloc: Global, text: &str) -> Result<Met, Failure> {
     let Some(checked) = checked_of(alloc, text) else {
         return Err(Failure::Memory);
     };
     let met = all_runs(alloc, &checked)?;
-    ensure(met.is_bad == is_violated(alloc, &checked)?)?;
+    ensure(met.is_bad == is_violated(rt, alloc, &checked)?)?;
     Ok(met)
 }
 
-// All clients, one after another.
-fn report(rt: &HostRuntime, alloc: Global, name: &str, text: &str) -> io::Result<ExitCode> {
-    match runs_of(alloc, text) {
+// A line for a client, and the status that it asks for.
+fn report(rt: &HostRuntime, name: &str, found: Result<Met, Failure>) -> io::Result<ExitCode> {
+    match found {
         Ok(Met { states, is_bad }) => {
             let verdict = if is_bad {
                 "a run is not good"
@@ -91,10 +97,10 @@ fn main(rt: HostRuntime) -> io::Result<ExitCode> {
         ("dekker", DEKKER),
     ];
     for (name, text) in clients {
-        let code = report(&rt, alloc, name, text)?;
+        let code = report(&rt, name, runs_of(&rt, alloc, text))?;
         if code != ExitCode::SUCCESS {
             return Ok(code);
         }
     }
-    report(&rt, alloc, "dekker without fences", &unfenced)
+    report(&rt, "dekker without fences", runs_of(&rt, alloc, &unfenced))
 }

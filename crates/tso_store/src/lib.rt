@@ -21,4 +21,4 @@ pub use fault::AddError;
 pub use numbered::Store;
 pub use sought::Found;
 pub use tso_parts::Refused;
-pub use view::View;
+pub use view::{Marks, View};

@@ -4,7 +4,7 @@ ghost use Rattle.std.specs.Prelude.{◌≤◌, vec_len, IfOk};
 
 use std::alloc::{AllocError, Global};
 use std::io;
-use std::io::{Read, Write};
+use std::io::{ErrorKind, Read, Write};
 
 /// Opens files. Tests give one that keeps its files in memory.
 pub trait Files {
@@ -34,7 +34,7 @@ impl From<AllocError> for FileFailure {
     }
 }
 
-/// The first `limit` bytes of a file, all of it where it has fewer.
+/// The first `limit` bytes of a file, all of it where it has fewer. A read that is interrupted is tried again.
 pub fn read_up_to<F: Files>(
     alloc: Global,
     files: &mut F,
@@ -54,8 +54,10 @@ pub fn read_up_to<F: Files>(
         if room == 0 {
             break;
         }
-        let Ok(count) = reader.read(&mut buffer[..room]) else {
-            return Err(FileFailure::Unreadable);
+        let count = match reader.read(&mut buffer[..room]) {
+            Ok(count) => count,
+            Err(error) if error.kind() == ErrorKind::Interrupted => continue,
+            Err(_) => return Err(FileFailure::Unreadable),
         };
         if count == 0 {
             break;

@@ -7,8 +7,12 @@ pub const PROGRAM: &str = "A first verdict, from the top of the repository:
   tsoq verify queues/lamport_fenced.tso --out fenced.cert --trace fenced.trace
   tsoq check queues/lamport_fenced.tso fenced.cert
 
+`--verbose` says why, on standard error behind the promised lines: the source line with a mark, and the reason.
 `tsoq COMMAND --help` says of each command what it reads and writes, and with which status it ends.
-docs/TUTORIAL.md leads from a queue of your own to its first verdict.";
+docs/TUTORIAL.md leads from a queue of your own to its first verdict; docs/LANGUAGE.md has all that may stand in a text.";
+
+/// What `--version` prints behind the program's name.
+pub const VERSION: &str = "0.1.0";
 
 /// Help for `verify`.
 pub const VERIFY: &str =
@@ -25,7 +29,7 @@ Status:
                                    trace: N labels
   2   FILE is refused              E04 line 7
   4   more states than --states    limit reached
-  5   memory ran out
+  5   out of memory
   6   a file failed                cannot read PATH, or cannot write PATH
   64  the words are none of these";
 
@@ -40,22 +44,53 @@ Status:
   0   every run is good            accepted
   2   FILE is refused              E04 line 7
   3   CERT is refused              rejected K01, or rejected K08 at record 2
-  5   memory ran out
+  5   out of memory
   6   a file failed                cannot read PATH
   64  the words are none of these";
 
 /// Help for `replay`.
 pub const REPLAY: &str =
-    "Reads FILE, a program text, and TRACE, the trace of an error. Writes no file. It prints the labels, one a
+    "Reads FILE, a program text, and TRACE, the trace of an error. It prints the labels, one a
 line, then each word of memory, each thread with what is in its store buffer, and what is wrong.
+With --html it writes OUT, one file that a browser shows, and nothing else.
 
 Example:
   tsoq replay queues/vyukov.tso vyukov.trace --to 40
+  tsoq replay queues/vyukov.tso vyukov.trace --source --buffers --history
+  tsoq replay queues/vyukov.tso vyukov.trace --html vyukov.html
 
 Status:
   0   replayed
   2   FILE is refused              E04 line 7
   3   TRACE is refused             T01 label 5, T02, or T03 line 4
-  5   memory ran out
+  5   out of memory
+  6   a file failed                cannot read PATH, or cannot write PATH
+  64  the words are none of these";
+
+/// Help for `parse`.
+pub const PARSE: &str = "Reads FILE, a program text. Writes no file.
+
+Example:
+  tsoq parse queues/lamport.tso --verbose
+
+Status:
+  0   FILE is accepted             accepted
+                                   step_limit: N, how many labels a run has at most
+                                   with --print its canonical text
+  2   FILE is refused              E04 line 7
+  5   out of memory
   6   a file failed                cannot read PATH
+  64  the words are none of these";
+
+/// Help for `explain`.
+pub const EXPLAIN: &str =
+    "CODE is what the program answers: E01 to E14 of a program, K01 to K11 of a certificate, T01 to T03 of a trace.
+Reads no file.
+
+Example:
+  tsoq explain E14
+
+Status:
+  0   CODE is explained
+  5   out of memory
   64  the words are none of these";

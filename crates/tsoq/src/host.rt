@@ -1,8 +1,11 @@
-//! The files of the system.
+//! The files of the system, and its standard error.
 
 use crate::files::Files;
-use std::io::{Read, Write};
+use crate::progress::{Distance, Listener};
+use std::io::{Eprint, Read, Write};
 use std::rt::Files as FileRuntime;
+use std::sync::atomic::{AtomicU64, Ordering};
+use std::time::{Clock, Duration};
 use std::{fs, io};
 
 /// Opens the system's files.
@@ -22,5 +25,47 @@ impl<'a, R: FileRuntime> Files for HostFiles<'a, R> {
 
     fn create(&mut self, path: &str) -> io::Result<R::File> {
         fs::create(self.rt, path)
+    }
+}
+
+/// Says on standard error how far a search has come, at most twice a second, by a clock that started when the program did.
+#[derive(Drop)]
+pub struct HostListener<'a, R: Clock + Eprint> {
+    rt: &'a R,
+    started: Duration,
+    // The last half second in which something was said.
+    said: AtomicU64,
+}
+
+impl<'a, R: Clock + Eprint> HostListener<'a, R> {
+    /// One that has said nothing.
+    pub fn new(rt: &'a R) -> HostListener<'a, R> {
+        HostListener {
+            rt,
+            started: rt.monotonic().unwrap_or(Duration::ZERO),
+            said: AtomicU64::new(0),
+        }
+    }
+}
+
+impl<'a, R: Clock + Eprint> Listener for HostListener<'a, R> {
+    fn hear(&self, found: u64, left: u64) {
+        let Ok(now) = self.rt.monotonic() else {
+            return;
+        };
+        let since = now.saturating_sub(self.started);
+        let second_half = u64::from(since.subsec_millis() >= 500);
+        let half = since
+            .as_secs()
+            .saturating_mul(2)
+            .saturating_add(second_half);
+        if half > self.said.swap(half, Ordering::SeqCst) {
+            let seconds = since.as_secs();
+            let _ = self.rt.eprintln(Distance {
+                found,
+                left,
+                seconds,
+            });
+        }
     }
 }

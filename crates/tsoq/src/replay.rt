@@ -12,8 +12,8 @@ use tso_machine::{Core, Machine, Running, Stage, Thread};
 use tso_prog::Array;
 use tso_trace::{Cursor, Trace, cell_name};
 
-// Writes a text and a newline.
-fn put_line<W: Write>(out: &mut W, text: &str) -> Result<(), Failure> {
+/// Writes a text and a newline.
+pub fn put_line<W: Write>(out: &mut W, text: &str) -> Result<(), Failure> {
     out.write_all(text.as_bytes())
         .map_err(|_| Failure::CannotPrint)?;
     out.write_all(b"\n").map_err(|_| Failure::CannotPrint)
@@ -83,7 +83,8 @@ fn put_thread<W: Write>(
     Ok(())
 }
 
-fn put_state<W: Write>(
+/// Writes each word of memory, and each thread with its store buffer.
+pub fn put_state<W: Write>(
     alloc: Global,
     out: &mut W,
     arrays: &[Array],

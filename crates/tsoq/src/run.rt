@@ -3,23 +3,33 @@
 ghost use Rattle.std.specs.Prelude.{◌≡◌};
 ghost use Rattle.tsoq.specs.Statuses.{status_of, status_of_verdict};
 
-use crate::command::{Misuse, Request, Search, request_of};
+use crate::asked::Replay;
+use crate::command::{Check, Misuse, Request, Search, request_of};
 use crate::failure::Failure;
 use crate::files::{FileFailure, Files, read_up_to};
-use crate::length::trace_within;
-use crate::replay::print_replay;
+use crate::page::{write_page, wrong_words};
+use crate::parse::{Parsing, parse};
+use crate::people::{tell, tell_verdict};
+use crate::progress::{Listener, Progress};
+use crate::show::{print_run, run_of};
 use crate::verify::verify;
 use crate::words::words_of;
 use std::alloc::{Alloc, Global};
 use std::env::Env;
 use std::io::{BufWriter, Write};
-use tso_check::Verdict;
+use std::sync::Wait;
+use std::thread::Threads;
+use tso_cert::NoWatch;
+use tso_check::{Verdict, check_with};
+use tso_explain::Topic;
+use tso_page::Run;
+use tso_say::explanation;
 
 /// A program text has at most 65,536 bytes, so one more shows that it is too long.
-const PROGRAM_BYTES: usize = 65_537;
+pub const PROGRAM_BYTES: usize = 65_537;
 
 /// A trace text has at most 64 MiB, so one byte more shows that it is too long.
-const TRACE_BYTES: usize = 64 * 1024 * 1024;
+pub const TRACE_BYTES: usize = 64 * 1024 * 1024;
 
 // A file's bytes, or the failure that names it.
 fn read_file<F: Files>(
@@ -54,43 +64,81 @@ fn replay<F: Files, O: Write>(
     alloc: Global,
     files: &mut F,
     out: &mut O,
-    program: &str,
-    trace: &str,
-    to: Option<u64>,
+    asked: &Replay<'_>,
 ) -> Result<(), Failure> {
-    let program = read_file(alloc, files, program, PROGRAM_BYTES)?;
-    let text = read_file(alloc, files, trace, TRACE_BYTES + 1)?;
+    let program = read_file(alloc, files, asked.program, PROGRAM_BYTES)?;
+    let text = read_file(alloc, files, asked.trace, TRACE_BYTES + 1)?;
     let client = tso_prog::read(alloc, &program)?;
     let checked = tso_flow::check(alloc, client)?;
-    let trace = trace_within(alloc, &checked, &text, TRACE_BYTES)?;
-    print_replay(alloc, out, &trace, to)
+    let run = run_of(alloc, &checked, &text, TRACE_BYTES, asked.partial)?;
+    print_run(alloc, out, &checked, &program, &run, asked)?;
+    let Some(path) = asked.html else {
+        return Ok(());
+    };
+    let name = String::from_str(alloc, asked.program)?;
+    let words = wrong_words(alloc, &run)?;
+    let wrong = words.as_deref();
+    let shown = Run {
+        checked: &checked,
+        labels: run.labels(),
+        source: program.as_slice(),
+        name: name.as_str(),
+        wrong,
+    };
+    write_page(alloc, files, &shown, path)
 }
 
-fn check<F: Files, O: Write>(
+fn check<R: Threads + Wait + Sync, F: Files, O: Write, E: Write>(
+    rt: &R,
     alloc: Global,
+    words: &[String],
     files: &mut F,
     out: &mut O,
-    program: &str,
-    cert: &str,
+    err: &mut E,
+    check: &Check<'_>,
 ) -> Result<u8, Failure> {
-    let program = read_file(alloc, files, program, PROGRAM_BYTES)?;
-    let cert = read_file(alloc, files, cert, usize::MAX)?;
-    let verdict = tso_check::check(alloc, &program, &cert)?;
+    let program = read_file(alloc, files, check.program, PROGRAM_BYTES)?;
+    let cert = read_file(alloc, files, check.cert, usize::MAX)?;
+    let verdict = check_with(rt, alloc, &program, &cert, check.workers, &NoWatch)?;
     let line = verdict.to_string(alloc)?;
     print(out, &line)?;
     print(out, "\n")?;
+    out.flush().map_err(|_| Failure::CannotPrint)?;
+    tell_verdict(alloc, words, err, verdict);
     Ok(verdict_status(verdict))
 }
 
-fn search<F: Files, O: Write, E: Write>(
+fn parse_file<F: Files, O: Write>(
     alloc: Global,
     files: &mut F,
+    out: &mut O,
+    asked: Parsing<'_>,
+) -> Result<(), Failure> {
+    let program = read_file(alloc, files, asked.program, PROGRAM_BYTES)?;
+    let text = parse(alloc, &program, asked.print)?;
+    print(out, &text)
+}
+
+fn explain<O: Write>(alloc: Global, out: &mut O, topic: Topic) -> Result<(), Failure> {
+    let page = explanation(alloc, topic)?;
+    out.write_all(&page.bytes).map_err(|_| Failure::CannotPrint)
+}
+
+fn search<R: Threads + Wait + Sync, F: Files, L: Listener, O: Write, E: Write>(
+    rt: &R,
+    alloc: Global,
+    files: &mut F,
+    listener: &L,
     out: &mut O,
     err: &mut E,
     search: &Search<'_>,
 ) -> Result<u8, Failure> {
     let program = read_file(alloc, files, search.program, PROGRAM_BYTES)?;
-    let report = verify(alloc, files, &program, search)?;
+    let watch = Progress {
+        listener,
+        is_wanted: search.progress,
+    };
+    let report = verify(rt, alloc, files, &program, search, &watch)?;
     print(out, &report.to_string(alloc)?)?;
     if search.stats {
         out.flush().map_err(|_| Failure::CannotPrint)?;
@@ -101,10 +149,12 @@ fn search<F: Files, O: Write, E: Write>(
 }
 
 // Does what the words ask for, and gives the status.
-fn perform<F: Files, O: Write, E: Write>(
+fn perform<R: Threads + Wait + Sync, F: Files, L: Listener, O: Write, E: Write>(
+    rt: &R,
     alloc: Global,
     words: &[String],
     files: &mut F,
+    listener: &L,
     out: &mut O,
     err: &mut E,
 ) -> Result<u8, Failure> {
@@ -113,10 +163,18 @@ fn perform<F: Files, O: Write, E: Write>(
             print(out, &text)?;
             Ok(0)
         }
-        Ok(Request::Verify(asked)) => search(alloc, files, out, err, &asked),
-        Ok(Request::Check { program, cert }) => check(alloc, files, out, program, cert),
-        Ok(Request::Replay { program, trace, to }) => {
-            replay(alloc, files, out, program, trace, to)?;
+        Ok(Request::Verify(asked)) => search(rt, alloc, files, listener, out, err, &asked),
+        Ok(Request::Check(asked)) => check(rt, alloc, words, files, out, err, &asked),
+        Ok(Request::Replay(asked)) => {
+            replay(alloc, files, out, &asked)?;
+            Ok(0)
+        }
+        Ok(Request::Parse(asked)) => {
+            parse_file(alloc, files, out, asked)?;
+            Ok(0)
+        }
+        Ok(Request::Explain(topic)) => {
+            explain(alloc, out, topic)?;
             Ok(0)
         }
         Err(Misuse::Usage(text)) => Err(Failure::Usage(text)),
@@ -125,14 +183,16 @@ fn perform<F: Files, O: Write, E: Write>(
 }
 
 // The same, with all that was printed written out.
-fn perform_all<F: Files, O: Write, E: Write>(
+fn perform_all<R: Threads + Wait + Sync, F: Files, L: Listener, O: Write, E: Write>(
+    rt: &R,
     alloc: Global,
     words: &[String],
     files: &mut F,
+    listener: &L,
     out: &mut O,
     err: &mut E,
 ) -> Result<u8, Failure> {
-    let status = perform(alloc, words, files, out, err)?;
+    let status = perform(rt, alloc, words, files, listener, out, err)?;
     out.flush().map_err(|_| Failure::CannotPrint)?;
     Ok(status)
 }
@@ -148,18 +208,24 @@ fn reported<E: Write>(alloc: Global, err: &mut E, failure: &Failure) -> u8
     failure.status()
 }
 
-/// Runs the program: its words, with its own name first; what opens its files; its standard output and error. It answers
-/// the status with which the process is to end.
-pub fn run<F: Files, O: Write, E: Write>(
+/// Runs the program: its words, with its own name first; what opens its files; what hears of a search; its standard output and
+/// error. It answers the status with which the process is to end.
+pub fn run<R: Threads + Wait + Sync, F: Files, L: Listener, O: Write, E: Write>(
+    rt: &R,
     alloc: Global,
     words: &[String],
     files: &mut F,
+    listener: &L,
     out: &mut O,
     err: &mut E,
 ) -> u8 {
-    match perform_all(alloc, words, files, out, err) {
+    match perform_all(rt, alloc, words, files, listener, out, err) {
         Ok(status) => status,
-        Err(failure) => reported(alloc, err, &failure),
+        Err(failure) => {
+            let status = reported(alloc, err, &failure);
+            tell(alloc, words, files, err, &failure);
+            status
+        }
     }
 }
 
@@ -177,15 +243,17 @@ fn started<R: Env + Alloc<A = Global>, O: Write + Drop>(
 
 /// Runs the program with the words of the command line, and answers the status with which the process is to end: also where
 /// a word is not UTF-8, and where memory for the words is wanting.
-pub fn run_process<R: Env + Alloc<A = Global>, F: Files, O: Write + Drop, E: Write>(
-    rt: &R,
-    files: &mut F,
-    out: O,
-    err: &mut E,
-) -> u8 {
-    let alloc = rt.alloc();
-    match started(rt, out) {
-        Ok((words, mut out)) => run(alloc, words.as_slice(), files, &mut out, err),
+pub fn run_process<
+    R: Threads + Wait + Sync,
+    S: Env + Alloc<A = Global>,
+    F: Files,
+    L: Listener,
+    O: Write + Drop,
+    E: Write,
+>(rt: &R, system: &S, files: &mut F, listener: &L, out: O, err: &mut E) -> u8 {
+    let alloc = system.alloc();
+    match started(system, out) {
+        Ok((words, mut out)) => { run(rt, alloc, words.as_slice(), files, listener, &mut out, err) }
         Err(failure) => reported(alloc, err, &failure),
     }
 }

@@ -2,14 +2,18 @@
 
 use crate::length::trace_within;
 use crate::memory::MemoryFiles;
+use crate::progress::{Listener, Progress};
 use crate::run::{run, run_process};
 use std::alloc::{Alloc, Global};
-use std::cell::RefCell;
+use std::cell::{Cell, RefCell};
 use std::env::{Env, FillError};
 use std::io;
 use std::io::{Error, ErrorKind, Write};
 use std::process::Abort;
+use std::sync::Wait;
 use std::test::Fail;
+use std::thread::Threads;
+use tso_cert::Watch;
 use tso_samples::{
     EXCHANGE, EXCHANGE_TRACE, LAMPORT, LAMPORT_TRACE, ONE_REFUSAL, ONE_REFUSAL_STRICT, OWN_STORE,
     OWN_STORE_TRACE,
@@ -55,6 +59,14 @@ violation: no order
 const ONE_REFUSAL_CERT: &[u8] =
     b"TSOC\x01\x02\0\0\0\0\x03\0\0\0\0\0\0\0\x04\0\x01\0\0\x01\0\0\x01\0\0\0\x01\0\0\x01\x01\0\x07\x01\0\x01\x01\x01\0\0\x01\0\x01\x01\0\0\0\0\0\0\x07\0\0\0\0\0\0\0\0\0\0\0\0\x01\x01\0\x07\x01\0\0\0\x01\0\0\0\x01\x01\x01\0\0\0\0\0\x07\0\0\0\0\0\0\0\0\0\0\0\0\x01\x01\0\x07\x01\0\0\0\x01\0\0";
 
+// Hears nothing of a search.
+#[derive(Drop)]
+pub struct Deaf;
+
+impl Listener for Deaf {
+    fn hear(&self, _found: u64, _left: u64) {}
+}
+
 // A stream that takes nothing.
 struct Closed;
 
@@ -77,7 +89,8 @@ struct Outcome {
     written: Vec<u8>,
 }
 
-fn outcome_of(
+fn outcome_of<R: Abort + Threads + Wait + Sync>(
+    rt: &R,
     alloc: Global,
     words: &[&str],
     program: &[u8],
@@ -98,7 +111,15 @@ fn outcome_of(
     };
     let mut out = Vec::new(alloc);
     let mut err = Vec::new(alloc);
-    let status = run(alloc, owned.as_slice(), &mut files, &mut out, &mut err);
+    let status = run(
+        rt,
+        alloc,
+        owned.as_slice(),
+        &mut files,
+        &Deaf,
+        &mut out,
+        &mut err,
+    );
     drop(files);
     Ok(Outcome {
         status,
@@ -109,8 +130,14 @@ fn outcome_of(
     })
 }
 
-fn replayed(alloc: Global, program: &str, trace: &str) -> Result<Outcome, Fail> {
+fn replayed<R: Abort + Threads + Wait + Sync>(
+    rt: &R,
+    alloc: Global,
+    program: &str,
+    trace: &str,
+) -> Result<Outcome, Fail> {
     outcome_of(
+        rt,
         alloc,
         &["replay", "program", "trace"],
         program.as_bytes(),
@@ -119,15 +146,15 @@ fn replayed(alloc: Global, program: &str, trace: &str) -> Result<Outcome, Fail> 
 }
 
 // The replay prints nothing but this line of standard error, with this status.
-fn refuses(
-    rt: &impl Abort,
+fn refuses<R: Abort + Threads + Wait + Sync>(
+    rt: &R,
     alloc: Global,
     program: &str,
     trace: &str,
     status: u8,
     line: &str,
 ) -> Result<(), Fail> {
-    let outcome = replayed(alloc, program, trace)?;
+    let outcome = replayed(rt, alloc, program, trace)?;
     assert_eq!(rt; outcome.err.as_slice(), line.as_bytes());
     assert_eq!(rt; outcome.status, status);
     assert!(rt; outcome.out.is_empty());
@@ -149,22 +176,20 @@ fn changed(alloc: Global, text: &str, part: &str, other: &str) -> Result<String,
 }
 
 // The check of these bytes for a program prints this, with this status.
-fn checks(
-    rt: &impl Abort,
+fn checks<R: Abort + Threads + Wait + Sync>(
+    rt: &R,
     alloc: Global,
     program: &str,
     cert: &[u8],
     status: u8,
     line: &str,
 ) -> Result<(), Fail> {
-    let outcome = outcome_of(
-        alloc,
-        &["check", "program", "trace"],
-        program.as_bytes(),
-        cert,
-    )?;
-    assert_eq!(rt; outcome.out.as_slice(), line.as_bytes());
-    assert_eq!(rt; outcome.status, status);
+    for count in ["1", "3"] {
+        let words = ["check", "program", "trace", "--workers", count];
+        let outcome = outcome_of(rt, alloc, &words, program.as_bytes(), cert)?;
+        assert_eq!(rt; outcome.out.as_slice(), line.as_bytes());
+        assert_eq!(rt; outcome.status, status);
+    }
     Ok(())
 }
 
@@ -183,6 +208,7 @@ fn certificates(rt: HostRuntime) -> Result<(), Fail> {
 fn replays_go_back(rt: HostRuntime) -> Result<(), Fail> {
     let alloc = rt.alloc();
     let to_2 = outcome_of(
+        &rt,
         alloc,
         &["replay", "program", "trace", "--to", "2"],
         OWN_STORE.as_bytes(),
@@ -191,13 +217,14 @@ fn replays_go_back(rt: HostRuntime) -> Result<(), Fail> {
     assert_eq!(rt; to_2.out.as_slice(), OWN_STORE_TO_2.as_bytes());
     assert_eq!(rt; to_2.status, 0);
     let past = outcome_of(
+        &rt,
         alloc,
         &["replay", "program", "trace", "--to", "18446744073709551615"],
         OWN_STORE.as_bytes(),
         OWN_STORE_TRACE.as_bytes(),
     )?;
     assert!(rt; past.out.ends_with(OWN_STORE_END.as_bytes()));
-    let whole = replayed(alloc, OWN_STORE, OWN_STORE_TRACE)?;
+    let whole = replayed(&rt, alloc, OWN_STORE, OWN_STORE_TRACE)?;
     assert_eq!(rt; past.out.as_slice(), whole.out.as_slice());
     Ok(())
 }
@@ -205,7 +232,7 @@ fn replays_go_back(rt: HostRuntime) -> Result<(), Fail> {
 #[test]
 fn late_stores_leave_no_order(rt: HostRuntime) -> Result<(), Fail> {
     let alloc = rt.alloc();
-    let whole = replayed(alloc, LAMPORT, LAMPORT_TRACE)?;
+    let whole = replayed(&rt, alloc, LAMPORT, LAMPORT_TRACE)?;
     assert_eq!(rt; whole.status, 0);
     assert!(rt; whole.out.ends_with(LAMPORT_END.as_bytes()));
     let weak = changed(alloc, LAMPORT, ".mode strict", ".mode weak")?;
@@ -223,7 +250,7 @@ fn late_stores_leave_no_order(rt: HostRuntime) -> Result<(), Fail> {
 #[test]
 fn locked_instructions_are_five_labels(rt: HostRuntime) -> Result<(), Fail> {
     let alloc = rt.alloc();
-    let whole = replayed(alloc, EXCHANGE, EXCHANGE_TRACE)?;
+    let whole = replayed(&rt, alloc, EXCHANGE, EXCHANGE_TRACE)?;
     assert_eq!(rt; whole.status, 0);
     assert!(rt;
         whole
@@ -231,6 +258,7 @@ fn locked_instructions_are_five_labels(rt: HostRuntime) -> Result<(), Fail> {
             .ends_with(b"thread 1 idle\nviolation: fault in thread 0\n")
     );
     let within = outcome_of(
+        &rt,
         alloc,
         &["replay", "program", "trace", "--to", "4"],
         EXCHANGE.as_bytes(),
@@ -246,7 +274,7 @@ fn programs_are_refused(rt: HostRuntime) -> Result<(), Fail> {
     let alloc = rt.alloc();
     refuses(&rt, alloc, "", OWN_STORE_TRACE, 2, "E08 line 0\n")?;
     let spaces = vec![in alloc; b' '; 65_537]?;
-    let long = outcome_of(alloc, &["replay", "program", "trace"], &spaces, b"")?;
+    let long = outcome_of(&rt, alloc, &["replay", "program", "trace"], &spaces, b"")?;
     assert_eq!(rt; long.err.as_slice(), b"E01 line 0\n".as_slice());
     assert_eq!(rt; long.status, 2);
     refuses(&rt, alloc, ".mode strict\n", "", 2, "E03 line 1\n")?;
@@ -306,7 +334,7 @@ fn indexes_never_wrap(rt: HostRuntime) -> Result<(), Fail> {
     for (index, offset, trace) in rows {
         let program = indexed(alloc, index, offset)?;
         assert_eq!(rt;
-            replayed(alloc, program.as_str(), trace)?.status,
+            replayed(&rt, alloc, program.as_str(), trace)?.status,
             0,
             "{index}{offset}"
         );
@@ -316,22 +344,26 @@ fn indexes_never_wrap(rt: HostRuntime) -> Result<(), Fail> {
 }
 
 // The status for the words of a line, over empty files.
-fn status_of(alloc: Global, line: &str) -> Result<u8, Fail> {
+fn status_of<R: Abort + Threads + Wait + Sync>(
+    rt: &R,
+    alloc: Global,
+    line: &str,
+) -> Result<u8, Fail> {
     let mut words = Vec::new(alloc);
     for word in line.split_whitespace() {
         words.push(word)?;
     }
-    let outcome = outcome_of(alloc, words.as_slice(), b"", b"")?;
+    let outcome = outcome_of(rt, alloc, words.as_slice(), b"", b"")?;
     Ok(outcome.status)
 }
 
 #[test]
 fn words_files_and_streams_fail(rt: HostRuntime) -> Result<(), Fail> {
     let alloc = rt.alloc();
-    let missing = outcome_of(alloc, &["replay", "nothing", "trace"], b"", b"")?;
+    let missing = outcome_of(&rt, alloc, &["replay", "nothing", "trace"], b"", b"")?;
     assert_eq!(rt; missing.err.as_slice(), b"cannot read nothing\n".as_slice());
     assert_eq!(rt; missing.status, 6);
-    let untraced = outcome_of(alloc, &["replay", "program", "nothing"], b"", b"")?;
+    let untraced = outcome_of(&rt, alloc, &["replay", "program", "nothing"], b"", b"")?;
     assert_eq!(rt;
         untraced.err.as_slice(),
         b"cannot read nothing\n".as_slice()
@@ -346,12 +378,13 @@ fn words_files_and_streams_fail(rt: HostRuntime) -> Result<(), Fail> {
         "verify program --out cert --trace found --states x",
         "check program",
         "check program cert --to 1",
+        "check program cert --workers 0",
         "replay program",
         "replay program trace --to -1",
         "replay program trace --to x",
         "",
     ] {
-        assert_eq!(rt; status_of(alloc, line)?, 64, "{line}");
+        assert_eq!(rt; status_of(&rt, alloc, line)?, 64, "{line}");
     }
     Ok(())
 }
@@ -360,19 +393,26 @@ fn words_files_and_streams_fail(rt: HostRuntime) -> Result<(), Fail> {
 fn help_teaches(rt: HostRuntime) -> Result<(), Fail> {
     let alloc = rt.alloc();
     for command in ["verify", "check", "replay"] {
-        let help = outcome_of(alloc, &[command, "--help"], b"", b"")?;
+        let help = outcome_of(&rt, alloc, &[command, "--help"], b"", b"")?;
         assert_eq!(rt; help.status, 0);
         assert!(rt; help.out.ends_with(b"  64  the words are none of these\n"));
     }
-    let all = outcome_of(alloc, &["--help"], b"", b"")?;
+    let all = outcome_of(&rt, alloc, &["--help"], b"", b"")?;
     assert_eq!(rt; all.status, 0);
     assert!(rt; all.out.len() > 500);
     Ok(())
 }
 
 // The search of a program's runs, of at most so many states.
-fn verified(alloc: Global, program: &str, states: &str, out: &str) -> Result<Outcome, Fail> {
+fn verified<R: Abort + Threads + Wait + Sync>(
+    rt: &R,
+    alloc: Global,
+    program: &str,
+    states: &str,
+    out: &str,
+) -> Result<Outcome, Fail> {
     outcome_of(
+        rt,
         alloc,
         &[
             "verify", "program", "--out", out, "--trace", "found", "--states", states,
@@ -384,7 +424,7 @@ fn verified(alloc: Global, program: &str, states: &str, out: &str) -> Result<Out
 
 #[test]
 fn certificates_are_written(rt: HostRuntime) -> Result<(), Fail> {
-    let found = verified(rt.alloc(), ONE_REFUSAL, "4", "cert")?;
+    let found = verified(&rt, rt.alloc(), ONE_REFUSAL, "4", "cert")?;
     assert_eq!(rt;
         found.out.as_slice(),
         b"certificate: 4 records\n".as_slice()
@@ -397,7 +437,7 @@ fn certificates_are_written(rt: HostRuntime) -> Result<(), Fail> {
 
 #[test]
 fn searches_stop_at_their_limit(rt: HostRuntime) -> Result<(), Fail> {
-    let found = verified(rt.alloc(), ONE_REFUSAL, "3", "cert")?;
+    let found = verified(&rt, rt.alloc(), ONE_REFUSAL, "3", "cert")?;
     assert_eq!(rt; found.err.as_slice(), b"limit reached\n".as_slice());
     assert_eq!(rt; found.status, 4);
     assert!(rt; found.out.is_empty());
@@ -408,7 +448,7 @@ fn searches_stop_at_their_limit(rt: HostRuntime) -> Result<(), Fail> {
 #[test]
 fn traces_are_written(rt: HostRuntime) -> Result<(), Fail> {
     let alloc = rt.alloc();
-    let found = verified(alloc, OWN_STORE, "4194304", "cert")?;
+    let found = verified(&rt, alloc, OWN_STORE, "4194304", "cert")?;
     assert!(rt;
         found
             .out
@@ -417,7 +457,7 @@ fn traces_are_written(rt: HostRuntime) -> Result<(), Fail> {
     assert_eq!(rt; found.status, 1);
     assert_eq!(rt; found.paths.as_slice(), b"found:".as_slice());
     let words = ["replay", "program", "trace"];
-    let again = outcome_of(alloc, &words, OWN_STORE.as_bytes(), &found.written)?;
+    let again = outcome_of(&rt, alloc, &words, OWN_STORE.as_bytes(), &found.written)?;
     assert!(rt; again.out.ends_with(b"violation: fault in thread 0\n"));
     Ok(())
 }
@@ -430,7 +470,7 @@ fn files_that_are_not_written_are_named(rt: HostRuntime) -> Result<(), Fail> {
         ("nowhere", "cannot write nowhere\n"),
     ];
     for (path, line) in lines {
-        let found = verified(alloc, ONE_REFUSAL, "4", path)?;
+        let found = verified(&rt, alloc, ONE_REFUSAL, "4", path)?;
         assert_eq!(rt; found.err.as_slice(), line.as_bytes());
         assert_eq!(rt; found.status, 6);
         assert!(rt; found.out.is_empty());
@@ -440,7 +480,7 @@ fn files_that_are_not_written_are_named(rt: HostRuntime) -> Result<(), Fail> {
 
 #[test]
 fn searches_want_a_program(rt: HostRuntime) -> Result<(), Fail> {
-    let found = verified(rt.alloc(), ".mode strict\n", "4", "cert")?;
+    let found = verified(&rt, rt.alloc(), ".mode strict\n", "4", "cert")?;
     assert_eq!(rt; found.err.as_slice(), b"E03 line 1\n".as_slice());
     assert_eq!(rt; found.status, 2);
     assert!(rt; found.paths.is_empty());
@@ -452,13 +492,47 @@ fn sizes_are_told(rt: HostRuntime) -> Result<(), Fail> {
     let words = [
         "verify", "program", "--out", "cert", "--trace", "found", "--stats",
     ];
-    let found = outcome_of(rt.alloc(), &words, ONE_REFUSAL.as_bytes(), b"")?;
+    let found = outcome_of(&rt, rt.alloc(), &words, ONE_REFUSAL.as_bytes(), b"")?;
     assert_eq!(rt;
         found.err.as_slice(),
         b"records: 4\nbytes: 111\n".as_slice()
     );
     assert_eq!(rt; found.status, 0);
     Ok(())
+}
+
+// Notes the last that was heard.
+#[derive(Drop)]
+struct Heard {
+    found: Cell<u64>,
+    left: Cell<u64>,
+}
+
+impl Listener for Heard {
+    fn hear(&self, found: u64, left: u64) {
+        self.found.set(found);
+        self.left.set(left);
+    }
+}
+
+#[test]
+fn listeners_hear_now_and_then(rt: HostRuntime) {
+    let heard = Heard {
+        found: Cell::new(0),
+        left: Cell::new(0),
+    };
+    let mut watch = Progress {
+        listener: &heard,
+        is_wanted: false,
+    };
+    watch.met(10_000, 10_000 - 8192);
+    assert_eq!(rt; heard.found.get(), 0);
+    watch.is_wanted = true;
+    watch.met(10_000, 10_000 - 8191);
+    assert_eq!(rt; heard.found.get(), 0);
+    watch.met(10_000, 10_000 - 8192);
+    assert_eq!(rt; heard.found.get(), 10_000);
+    assert_eq!(rt; heard.left.get(), 1_808);
 }
 
 #[test]
@@ -478,7 +552,15 @@ fn closed_output_is_a_failure(rt: HostRuntime) -> Result<(), Fail> {
     };
     let mut out = Closed;
     let mut err = Vec::new(alloc);
-    let status = run(alloc, words.as_slice(), &mut files, &mut out, &mut err);
+    let status = run(
+        &rt,
+        alloc,
+        words.as_slice(),
+        &mut files,
+        &Deaf,
+        &mut out,
+        &mut err,
+    );
     assert_eq!(rt; status, 6);
     let Closed = out;
     Ok(())
@@ -521,7 +603,7 @@ impl<'a> Env for System<'a> {
 }
 
 // The status of a process with these words.
-fn process_status(alloc: Global, words: &[&[u8]]) -> u8 {
+fn process_status<R: Threads + Wait + Sync>(rt: &R, alloc: Global, words: &[&[u8]]) -> u8 {
     let system = System { alloc, words };
     let paths = RefCell::new(Vec::new(alloc));
     let written = RefCell::new(Vec::new(alloc));
@@ -532,7 +614,8 @@ fn process_status(alloc: Global, words: &[&[u8]]) -> u8 {
         written: &written,
     };
     let mut err = Vec::new(alloc);
-    let status = run_process(&system, &mut files, Vec::new(alloc), &mut err);
+    let out = Vec::new(alloc);
+    let status = run_process(rt, &system, &mut files, &Deaf, out, &mut err);
     status
 }
 
@@ -540,9 +623,9 @@ fn process_status(alloc: Global, words: &[&[u8]]) -> u8 {
 fn words_are_text(rt: HostRuntime) -> Result<(), Fail> {
     let alloc = rt.alloc();
     let right: [&[u8]; 4] = [b"tsoq", b"replay", b"program", b"trace"];
-    assert_eq!(rt; process_status(alloc, &right), 0);
+    assert_eq!(rt; process_status(&rt, alloc, &right), 0);
     let wrong: [&[u8]; 2] = [b"tsoq", b"\xff"];
-    assert_eq!(rt; process_status(alloc, &wrong), 64);
+    assert_eq!(rt; process_status(&rt, alloc, &wrong), 64);
     Ok(())
 }
 

@@ -13,7 +13,9 @@ use crate::report::Report;
 use std::alloc::Global;
 use std::io;
 use std::io::{BufWriter, ErrorKind, Write};
-use tso_cert::{Cert, NoWatch, WriteError};
+use std::sync::Wait;
+use std::thread::Threads;
+use tso_cert::{Cert, Watch, WriteError};
 use tso_check::checked_of;
 use tso_explore::{Outcome, explore};
 use tso_foot::Table;
@@ -109,21 +111,24 @@ fn violated<F: Files>(
 ///
 /// Errors: `Program` with the first fault of the text; `Limit` where more states can be reached than the search may meet;
 /// `CannotWrite` where the file failed; `Memory`.
-pub fn verify<F: Files>(
+pub fn verify<R: Threads + Wait + Sync, F: Files, W: Watch>(
+    rt: &R,
     alloc: Global,
     files: &mut F,
     program: &[u8],
     search: &Search<'_>,
+    watch: &W,
 ) -> Result<Report, Failure>
     ensures { IfOk result (IsReport program.now) }
 {
     let checked = checked_of(alloc, program)?;
     match explore(
+        rt,
         alloc,
         &checked,
         search.workers,
         search.limit.count(),
-        &NoWatch,
+        watch,
     ) {
         Outcome::Certificate(table, cert) => certified(alloc, files, search.cert, &table, &cert),
         Outcome::Trace(trace) => violated(alloc, files, search.trace, &trace),

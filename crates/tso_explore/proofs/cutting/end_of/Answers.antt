@@ -6,9 +6,9 @@ use Rattle.tso_explore.proofs.cutting.end_of.Goals as goal
 pub unreachable-requires : goal.unreachable-requires
 unreachable-requires c =
     let over = none_over c.args.checked.now.client c.args.table.now c.args.state.now c.in_ok-choices.choices c.requires.well_formed c.in_ok-choices.ensures (grind (arith, nat_tests)) in
-    (rw c.in-None.is at c.in_ok-order.ensures.none) (c.requires.explained over)
+    (rw (c.in-None.is, c.history.ensures) at c.in_ok-order.ensures.none) (c.requires.explained over)
 
 pub returns : goal.returns
 returns c =
     let over = none_over c.args.checked.now.client c.args.table.now c.args.state.now c.in_ok-choices.choices c.requires.well_formed c.in_ok-choices.ensures (grind (arith, nat_tests)) in
-    (over, rw c.in-Some.is at c.in_ok-order.ensures.found)
+    (over, rw (c.in-Some.is, c.history.ensures) at c.in_ok-order.ensures.found)

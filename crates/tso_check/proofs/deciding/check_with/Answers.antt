@@ -1,0 +1,14 @@
+use Rattle.tso_check.proofs.OneAnswer.{accepted_if_valid, one_answer, refused_for, verified}
+use Rattle.tso_check.proofs.deciding.check_with.Goals as goal
+
+pub returns-clause-headline : goal.returns-clause-headline
+returns-clause-headline g c = verified c.args.program.now c.args.cert.now c.answer_with.result c.answer_with.ensures
+
+pub returns-clause-exact : goal.returns-clause-exact
+returns-clause-exact g c = λ other is. one_answer c.args.program.now c.args.cert.now c.answer_with.result other c.answer_with.ensures is
+
+pub returns-clause-refused : goal.returns-clause-refused
+returns-clause-refused g c = λ fault is. refused_for c.args.program.now c.args.cert.now c.answer_with.result fault c.answer_with.ensures is
+
+pub returns-clause-valid : goal.returns-clause-valid
+returns-clause-valid g c = λ client denotes valid. accepted_if_valid c.args.program.now c.args.cert.now c.answer_with.result client c.answer_with.ensures denotes valid

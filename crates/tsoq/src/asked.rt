@@ -1,0 +1,94 @@
+//! What a replay is asked to show.
+
+use clap::{Arg, ArgAction, ArgMatches, Command};
+use std::alloc::{AllocError, Global};
+use tso_show::Show;
+
+/// Which trace is replayed, and what is shown of it.
+#[derive(Clone, Copy, Debug)]
+pub struct Replay<'a> {
+    pub program: &'a str,
+    pub trace: &'a str,
+    /// After which label the state is shown; after the last where there is none.
+    pub to: Option<u64>,
+    /// What is shown beside each label.
+    pub show: Show,
+    /// Whether the calls are shown with their answers, and how far they have an order.
+    pub history: bool,
+    /// Whether a run is also shown that is good.
+    pub partial: bool,
+    /// Where the run is written as a page.
+    pub html: Option<&'a str>,
+}
+
+impl Replay<'_> {
+    /// Whether nothing is printed beyond labels, the state and what is wrong.
+    pub fn is_plain(&self) -> bool {
+        let Show {
+            source,
+            registers,
+            buffers,
+        } = self.show;
+        !(source || registers || buffers || self.history)
+    }
+}
+
+fn flag<'a>(alloc: Global, name: &'a str, help: &'a str) -> Arg<'a> {
+    Arg::new(alloc, name)
+        .long(name)
+        .action(ArgAction::SetTrue)
+        .help(help)
+}
+
+/// The command with the options for what is shown.
+pub fn with_flags<'a>(alloc: Global, command: Command<'a>) -> Result<Command<'a>, AllocError> {
+    let html = Arg::new(alloc, "html")
+        .long("html")
+        .value_name("OUT")
+        .action(ArgAction::Set)
+        .help("writes the run as a page that a browser shows");
+    command
+        .arg(flag(
+            alloc,
+            "source",
+            "prints the instruction beside each label, with its line",
+        ))?
+        .arg(flag(
+            alloc,
+            "registers",
+            "prints registers and flags after each label",
+        ))?
+        .arg(flag(
+            alloc,
+            "buffers",
+            "prints memory and store buffers after each label",
+        ))?
+        .arg(flag(
+            alloc,
+            "history",
+            "prints the calls with their answers, and how far they have an order",
+        ))?
+        .arg(flag(
+            alloc,
+            "partial",
+            "shows also a run in which nothing is wrong",
+        ))?
+        .arg(html)
+}
+
+/// What the words of the command ask for.
+pub fn replay_of<'a>(replay: &ArgMatches<'a>) -> Replay<'a> {
+    Replay {
+        program: replay.get_str("FILE").unwrap_or(""),
+        trace: replay.get_str("TRACE").unwrap_or(""),
+        to: replay.get_one::<u64>("to"),
+        show: Show {
+            source: replay.get_flag("source"),
+            registers: replay.get_flag("registers"),
+            buffers: replay.get_flag("buffers"),
+        },
+        history: replay.get_flag("history"),
+        partial: replay.get_flag("partial"),
+        html: replay.get_str("html"),
+    }
+}

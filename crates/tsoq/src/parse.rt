@@ -1,0 +1,49 @@
+//! What `parse` prints.
+
+ghost use Rattle.std.specs.Prelude.{IfOk};
+ghost use Rattle.std.specs.String.{string_bytes};
+ghost use Rattle.tsoq.specs.Parsed.{IsParsed};
+
+use crate::failure::Failure;
+use crate::help;
+use clap::{Arg, ArgAction, Command};
+use std::alloc::{AllocError, Global};
+use tso_check::checked_of;
+use tso_say::parsed;
+
+/// A program text that is to be parsed, and whether its canonical text is printed.
+#[derive(Clone, Copy, Debug)]
+pub struct Parsing<'a> {
+    pub program: &'a str,
+    pub print: bool,
+}
+
+/// What `parse` prints of a program text.
+///
+/// Errors: `Program` with the first fault of the text; `Memory`.
+pub fn parse(alloc: Global, program: &[u8], prints: bool) -> Result<String, Failure>
+    ensures { IfOk result (λ text. IsParsed program.now prints (string_bytes text)) }
+{
+    let checked = checked_of(alloc, program)?;
+    Ok(parsed(alloc, &checked, prints)?)
+}
+
+/// The words of `parse`.
+///
+/// Errors: where a growth was refused.
+pub fn parse_command<'a>(alloc: Global) -> Result<Command<'a>, AllocError> {
+    let program = Arg::new(alloc, "FILE")
+        .required(true)
+        .help("the program text");
+    let print = Arg::new(alloc, "print")
+        .long("print")
+        .action(ArgAction::SetTrue)
+        .help("prints the canonical text of the program");
+    Command::new(alloc, "parse")
+        .about(
+            "reads a program, and says whether it is accepted and how many labels its runs have at most",
+        )
+        .after_help(help::PARSE)
+        .arg(program)?
+        .arg(print)
+}
