@@ -3,20 +3,20 @@
 ghost use Rattle.std.specs.Prelude.{◌≡◌, ◌++◌, ◌∷◌, [], IfOk, IsTrue};
 ghost use Rattle.tso_cert.specs.Lookup.{tree_states};
 ghost use Rattle.tso_cert.specs.Trees.{tree_of};
+ghost use Rattle.tso_rec.specs.Keeping.{record_of};
 ghost use Rattle.tso_rec.specs.Records.{states_of};
 
-use std::alloc::AllocError;
+use std::alloc::{AllocError, Global};
 use tso_cert::Cert;
-use tso_rec::Packed;
-use tso_state::State;
+use tso_rec::{Kept, Packed};
 use tso_store::{AddError, Store};
 
-// Puts a state behind those of the store, unless it is one of them or does not fit the client.
-fn append(store: &mut Store<'_>, state: &State) -> Result<bool, AllocError>
-    ensures states { IfOk result (λ r. IsTrue r → store.new.states ≡ store.old.states ++ state.now ∷ []) }
+// Puts a record's state behind those of the store, unless it is one of them or does not fit the client.
+fn append(alloc: Global, store: &mut Store<'_>, kept: &Kept) -> Result<bool, AllocError>
+    ensures states { IfOk result (λ r. IsTrue r → store.new.states ≡ store.old.states ++ (record_of kept.now).state ∷ []) }
     ensures client { store.new.client ≡ store.old.client }
 {
-    match store.add(state) {
+    match store.add_kept(alloc, kept) {
         Ok((_, is_new)) => Ok(is_new),
         Err(AddError::Memory) => Err(AllocError),
         Err(AddError::Misfit) => Ok(false),
@@ -25,13 +25,12 @@ fn append(store: &mut Store<'_>, state: &State) -> Result<bool, AllocError>
 }
 
 // The same for the states of a leaf, in their order.
-fn append_leaf(store: &mut Store<'_>, records: &Packed) -> Result<bool, AllocError>
+fn append_leaf(alloc: Global, store: &mut Store<'_>, records: &Packed) -> Result<bool, AllocError>
     ensures states { IfOk result (λ r. IsTrue r → store.new.states ≡ store.old.states ++ states_of records.now) }
     ensures client { store.new.client ≡ store.old.client }
 {
     for k in 0..records.len() {
-        let state = records.state(k)?;
-        if !append(store, &state)? {
+        if !append(alloc, store, records.kept(k))? {
             return Ok(false);
         }
     }
@@ -42,17 +41,17 @@ fn append_leaf(store: &mut Store<'_>, records: &Packed) -> Result<bool, AllocErr
 /// are the same.
 ///
 /// Errors: where a growth was refused.
-pub fn append_tree(store: &mut Store<'_>, cert: &Cert) -> Result<bool, AllocError>
+pub fn append_tree(alloc: Global, store: &mut Store<'_>, cert: &Cert) -> Result<bool, AllocError>
     ensures states { IfOk result (λ r. IsTrue r → store.new.states ≡ store.old.states ++ tree_states (tree_of cert.now)) }
     ensures client { store.new.client ≡ store.old.client }
 {
     match cert {
-        Cert::Leaf(records) => append_leaf(store, records),
+        Cert::Leaf(records) => append_leaf(alloc, store, records),
         Cert::Fork(left, _, right) => {
-            if !append_tree(store, left)? {
+            if !append_tree(alloc, store, left)? {
                 return Ok(false);
             }
-            append_tree(store, right)
+            append_tree(alloc, store, right)
         }
     }
 }

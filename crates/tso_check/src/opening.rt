@@ -71,7 +71,7 @@ fn filled<'a>(
     ensures { IfOk result (λ s. AreKeptIn s checked.now.client (tree_states (tree_of tree.now))) }
 {
     let mut store = Store::new(alloc, checked, SEED);
-    if append_tree(&mut store, tree)? {
+    if append_tree(alloc, &mut store, tree)? {
         return Ok(Some(store));
     }
     Ok(None)

@@ -13,4 +13,4 @@ pub use kept::Kept;
 pub use known::{Known, Shelf};
 pub use packed::Packed;
 pub use record::{End, Record};
-pub use shared::{Part, Shared};
+pub use shared::{Part, Shared, copy_all};

@@ -7,10 +7,11 @@ ghost use Rattle.tso_store.specs.Numbers.{AreNumbersOf, HasNoRow};
 
 use crate::key::{Key, NONE};
 use crate::parts::Parts;
+use std::hash::Hash;
 use tso_hist::History;
-use tso_list::Seq;
+use tso_list::{Exact, Seq};
 use tso_machine::thread_count;
-use tso_parts::{Catalog, Refused};
+use tso_parts::{Catalog, Like, Refused};
 use tso_prog::Client;
 use tso_state::{State, Thread};
 
@@ -23,15 +24,31 @@ pub fn fits_client(client: &Client, state: &State) -> bool
     state.threads.len() == count && state.history.threads().len() == count
 }
 
-// The number of a memory, which is kept if it is new.
-fn add_memory(memories: &mut Catalog<Seq<u64>>, memory: &Seq<u64>) -> Result<u32, Refused>
+// The number of a value, if it is kept. It is looked for at the number `near` first, which need not be that of a value.
+fn find_near<T: Exact + Hash, L: Like<T>>(catalog: &Catalog<T>, near: u32, like: &L) -> Option<u32>
+    ensures { MatchOption result (IsNowhere catalog.now (L.value like.now)) (λ n. slice_get catalog.now n ≡ Some (L.value like.now)) }
+{
+    if let Some(item) = catalog.get(near) {
+        if like.is(item) {
+            return Some(near);
+        }
+    }
+    catalog.find(like)
+}
+
+/// The number of a memory, which is kept if it is new. It is looked for at the number `near` first.
+pub fn add_memory(
+    memories: &mut Catalog<Seq<u64>>,
+    near: u32,
+    memory: &Seq<u64>,
+) -> Result<u32, Refused>
     ensures number { IfOk result (λ n. slice_get memories.new n ≡ Some memory.now) }
     ensures extends { Extends memories.old memories.new }
     ensures more { length memories.new ≤ length memories.old + 1 }
     ensures full { result ≡ Err reasons.Full → 4294967295 ≤ length memories.new }
     ensures absent { OnErr result (IsNowhere memories.old memory.now) }
 {
-    if let Some(number) = memories.find(memory) {
+    if let Some(number) = find_near(memories, near, memory) {
         return Ok(number);
     }
     let copy = memory.clone()?;
@@ -55,8 +72,8 @@ fn add_history(histories: &mut Catalog<History>, history: &History) -> Result<u3
     Ok(number)
 }
 
-// The number of a thread, which is kept if it is new.
-fn add_thread(threads: &mut Catalog<Thread>, thread: &Thread) -> Result<u32, Refused>
+/// The number of a thread, which is kept if it is new. It is looked for at the number `near` first.
+pub fn add_thread(threads: &mut Catalog<Thread>, near: u32, thread: &Thread) -> Result<u32, Refused>
     ensures number { IfOk result (λ n. slice_get threads.new n ≡ Some thread.now) }
     ensures extends { Extends threads.old threads.new }
     ensures small { length threads.old < 2 ^ 32 → length threads.new < 2 ^ 32 }
@@ -64,7 +81,7 @@ fn add_thread(threads: &mut Catalog<Thread>, thread: &Thread) -> Result<u32, Ref
     ensures full { result ≡ Err reasons.Full → 4294967295 ≤ length threads.new }
     ensures absent { OnErr result (IsNowhere threads.old thread.now) }
 {
-    if let Some(number) = threads.find(thread) {
+    if let Some(number) = find_near(threads, near, thread) {
         return Ok(number);
     }
     let copy = thread.clone()?;
@@ -85,7 +102,7 @@ fn add_threads(threads: &mut Catalog<Thread>, all: &[Thread]) -> Result<[u32; 5]
 {
     let mut numbers = [NONE; 5];
     for i in 0..all.len() {
-        let number = add_thread(threads, &all[i])?;
+        let number = add_thread(threads, NONE, &all[i])?;
         numbers[i] = number;
     }
     Ok(numbers)
@@ -100,7 +117,7 @@ pub fn key_of(parts: &mut Parts, state: &State) -> Result<Key, Refused>
     ensures full { result ≡ Err reasons.Full → 4294967295 ≤ part_count parts.new }
     ensures absent { OnErr result (HasNoKey parts.old state.now) }
 {
-    let memory = add_memory(&mut parts.memories, &state.memory)?;
+    let memory = add_memory(&mut parts.memories, NONE, &state.memory)?;
     let history = add_history(&mut parts.histories, &state.history)?;
     let threads = add_threads(&mut parts.threads, state.threads.as_slice())?;
     Ok(Key {

@@ -16,6 +16,13 @@ pub struct Key {
     pub threads: [u32; 5],
 }
 
+/// The numbers of nothing.
+pub const NO_KEY: Key = Key {
+    memory: NONE,
+    history: NONE,
+    threads: [NONE; 5],
+};
+
 impl Exact for Key {
     ghost use Rattle.std.proofs.lemmas.Bool.Decides.{Decides-eqb};
     ghost use Rattle.tso_list.specs.Same.{same_three};

@@ -9,6 +9,7 @@ mod known;
 mod lookup;
 mod numbered;
 mod orders;
+mod packed;
 mod parts;
 mod ranking;
 mod ranks;
