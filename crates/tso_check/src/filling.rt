@@ -37,11 +37,9 @@ fn append_leaf(alloc: Global, store: &mut Store<'_>, records: &Packed) -> Result
     Ok(true)
 }
 
-/// Puts the states of a tree's records behind those of a store, in the order of the records, if all fit the client and no two
-/// are the same.
-///
-/// Errors: where a growth was refused.
-pub fn append_tree(alloc: Global, store: &mut Store<'_>, cert: &Cert) -> Result<bool, AllocError>
+// Puts the states of a tree's records behind those of a store, in the order of the records, if all fit the client and no two are
+// the same.
+fn append_tree(alloc: Global, store: &mut Store<'_>, cert: &Cert) -> Result<bool, AllocError>
     ensures states { IfOk result (λ r. IsTrue r → store.new.states ≡ store.old.states ++ tree_states (tree_of cert.now)) }
     ensures client { store.new.client ≡ store.old.client }
 {
@@ -54,4 +52,19 @@ pub fn append_tree(alloc: Global, store: &mut Store<'_>, cert: &Cert) -> Result<
             append_tree(alloc, store, right)
         }
     }
+}
+
+/// Puts the states of a tree's records behind those of a store, in the order of the records, if all fit the client and no two
+/// are the same. The store then knows where the next steps of its threads lead.
+///
+/// Errors: where a growth was refused.
+pub fn fill(alloc: Global, store: &mut Store<'_>, cert: &Cert) -> Result<bool, AllocError>
+    ensures states { IfOk result (λ r. IsTrue r → store.new.states ≡ store.old.states ++ tree_states (tree_of cert.now)) }
+    ensures client { store.new.client ≡ store.old.client }
+{
+    if !append_tree(alloc, store, cert)? {
+        return Ok(false);
+    }
+    store.learn()?;
+    Ok(true)
 }

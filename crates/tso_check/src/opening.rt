@@ -7,7 +7,7 @@ ghost use Rattle.tso_check.specs.Opened.{AreKeptIn, IsBegun, IsFilled, IsTreeBeg
 ghost use Rattle.tso_check.specs.Verdicts.{IsOfFault, code_of};
 ghost use Rattle.tso_judge.specs.Valid.{HasInitial};
 
-use crate::filling::append_tree;
+use crate::filling::fill;
 use crate::numbered::is_rising;
 use crate::rising::{forks_look, is_ordered};
 use crate::verdict::{Verdict, rejected};
@@ -71,7 +71,7 @@ fn filled<'a>(
     ensures { IfOk result (λ s. AreKeptIn s checked.now.client (tree_states (tree_of tree.now))) }
 {
     let mut store = Store::new(alloc, checked, SEED);
-    if append_tree(alloc, &mut store, tree)? {
+    if fill(alloc, &mut store, tree)? {
         return Ok(Some(store));
     }
     Ok(None)

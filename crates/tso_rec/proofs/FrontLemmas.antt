@@ -12,8 +12,8 @@ use Rattle.tso_rec.specs.Fronts.{ReadsFronts}
 use Rattle.tso_rec.specs.Spelling.{record_at}
 use lib.Pointwise.{pointwise_decides}
 
-pub reads_behind : {X : Type 0} {r : Reading X} → ReadsFronts r → (spelled bytes rest : List ℕ) (x : X) → r spelled ≡ Some (x, []) → pointwise eqb (take (length spelled) bytes) spelled ≡ true → rest ≡ drop (length spelled) bytes → r bytes ≡ Some (x, rest)
-reads_behind {X} {r} reads spelled bytes rest x e same is =
+pub reads_behind : {X : Type 0} {s : X → List ℕ} {r : Reading X} → ReadsFronts s r → (spelled bytes rest : List ℕ) (x : X) → r spelled ≡ Some (x, []) → pointwise eqb (take (length spelled) bytes) spelled ≡ true → rest ≡ drop (length spelled) bytes → r bytes ≡ Some (x, rest)
+reads_behind {X} {s} {r} reads spelled bytes rest x e same is =
     let front : take (length spelled) bytes ≡ spelled = (pointwise_decides Decides-eqb (take (length spelled) bytes) spelled).0 same in
     let whole : spelled ++ rest ≡ bytes = ap (λ (l : List ℕ). l ++ rest) (sym front) ∙ ap (λ (l : List ℕ). take (length spelled) bytes ++ l) is ∙ take-append-drop (length spelled) bytes in
     ap r (sym whole) ∙ reads.more spelled rest x e

@@ -18,7 +18,8 @@ use tso_hist::{Call, History};
 use tso_list::{Exact, Seq};
 use tso_state::{State, Thread};
 
-/// A record, whose parts may be shared with others: its state's memory, threads and lists of calls, and its end.
+/// A record, whose parts may be shared with others: its state's memory, threads and lists of calls, and its end. Each part lies
+/// beside its spelling.
 #[derive(Debug, Drop)]
 pub struct Kept {
     pub memory: Shared<Seq<u64>>,
@@ -192,9 +193,10 @@ impl Kept {
     pub fn write(&self, out: &mut Vec<u8>) -> Result<(), AllocError>
         ensures { OnOk result (out.new.items ≡ out.old.items ++ a_record (record_of self.now)) }
     {
-        self.memory.get().write(out)?;
+        self.memory.write(out)?;
         write_all(self.threads.as_slice(), out)?;
         write_all(self.history.as_slice(), out)?;
-        self.end.get().write(out)
+        self.end.write(out)?;
+        Ok(())
     }
 }

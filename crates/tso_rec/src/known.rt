@@ -1,63 +1,29 @@
 //! Parts that were read before.
-ghost use Rattle.std.specs.Prelude.{◌≡◌, ◌<◌, [], Err, IfOk, IfSome};
+ghost use Rattle.std.specs.Prelude.{◌≡◌, [], Err, IfOk, IfSome};
 ghost use Rattle.tso_code.specs.Fields.{Gives};
 
+use crate::places::{Places, mark_of};
 use crate::record::End;
 use crate::shared::{Part, Shared, copy_of};
 use crate::told::Reader;
 use std::alloc::{AllocError, Global};
-use std::hash::{FoldHasher, Hasher};
-use tso_code::{Code, ReadError};
+use tso_code::ReadError;
 use tso_hist::Call;
 use tso_list::Seq;
 use tso_state::Thread;
-
-/// A shelf has at most so many places.
-const MOST_PLACES: usize = 65_536;
-
-// A number that equal spellings have in common.
-fn mark_of(spelled: &[u8]) -> u64 {
-    let mut hasher = FoldHasher::default();
-    hasher.write(spelled);
-    hasher.finish()
-}
-
-// The place among so many that goes with a mark.
-fn place_of(mark: u64, count: usize) -> Option<usize>
-    ensures { IfSome result (λ place. place < count) }
-{
-    if count == 0 {
-        return None;
-    }
-    Some((mark % count as u64) as usize)
-}
-
-// So many empty places.
-fn empty_places<T: Part>(
-    alloc: Global,
-    count: usize,
-) -> Result<Vec<Option<Shared<T>>>, AllocError> {
-    let mut places = Vec::new(alloc);
-    for _ in 0..count {
-        places.push(None)?;
-    }
-    Ok(places)
-}
 
 /// Parts of one kind that were read before, at most one at each place. A part that comes to a place drives out the one before,
 /// so that a look-up takes as long whatever was read, and what lies here changes no answer.
 #[derive(Drop)]
 pub struct Shelf<T: Part> {
-    places: Vec<Option<Shared<T>>>,
-    added: usize,
+    places: Places<Shared<T>>,
 }
 
 impl<T: Part> Shelf<T> {
     /// A shelf without places. Places come with parts.
     pub fn new(alloc: Global) -> Shelf<T> {
         Shelf {
-            places: Vec::new(alloc),
-            added: 0,
+            places: Places::new(alloc),
         }
     }
 
@@ -65,31 +31,12 @@ impl<T: Part> Shelf<T> {
     fn find(&self, mark: u64, part: &T) -> Option<&Shared<T>>
         ensures { IfSome result (λ s. s.now ≡ part.now) }
     {
-        let place = place_of(mark, self.places.len())?;
-        match &self.places[place] {
-            Some(shared) => {
-                if shared.get() == part {
-                    Some(shared)
-                } else {
-                    None
-                }
-            }
-            None => None,
+        let shared = self.places.at(mark)?;
+        if shared.get() == part {
+            Some(shared)
+        } else {
+            None
         }
-    }
-
-    // Puts a part to its place. Where as many were put here as there are places, there are twice as many from now on, all empty.
-    fn put(&mut self, alloc: Global, mark: u64, shared: Shared<T>) -> Result<(), AllocError> {
-        let count = self.places.len();
-        if self.added >= count && count < MOST_PLACES {
-            self.places = empty_places(alloc, count.saturating_mul(2).max(16))?;
-            self.added = 0;
-        }
-        self.added = self.added.saturating_add(1);
-        if let Some(place) = place_of(mark, self.places.len()) {
-            self.places[place] = Some(shared);
-        }
-        Ok(())
     }
 
     /// The part, shared with an equal one that lies at the place of its mark; else it lies there from now on. Parts that are
@@ -102,7 +49,7 @@ impl<T: Part> Shelf<T> {
         }
         let shared = Shared::new(alloc, part)?;
         let again = shared.again()?;
-        self.put(alloc, mark, again)?;
+        self.places.put(alloc, mark, again)?;
         Ok(shared)
     }
 
@@ -117,9 +64,7 @@ impl<T: Part> Shelf<T> {
         let copy = copy_of(part)?;
         self.share(alloc, mark, copy)
     }
-}
 
-impl<T: Part + Code> Shelf<T> {
     /// The part at the front of the bytes, shared with an equal one that was read before, and the bytes after it.
     pub fn read<'a>(
         &mut self,

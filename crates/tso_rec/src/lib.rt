@@ -4,6 +4,7 @@
 mod kept;
 mod known;
 mod packed;
+mod places;
 mod record;
 mod shared;
 mod spelling;

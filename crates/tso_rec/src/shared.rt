@@ -12,24 +12,45 @@ use std::sync::Arc;
 use tso_code::{Code, write_number};
 use tso_list::{Exact, Seq};
 
-/// A value that is held in several places and lies in memory once. Contracts see the value.
+// A value with its spelling.
 #[derive(Drop)]
-pub struct Shared<T> {
-    held: Arc<T>,
+struct Held<T: Code> {
+    value: T,
+    spelled: Seq<u8>,
+    ghost is_spelled: { spelled ≡ T.spell value },
 }
 
-impl<T> Model for Shared<T> {
+impl<T: Code> Held<T> {
+    // The value, with its spelling.
+    fn new(alloc: Global, value: T) -> Result<Held<T>, AllocError>
+        ensures { IfOk result (λ h. h.value ≡ value) }
+    {
+        let mut bytes = Vec::new(alloc);
+        value.write(&mut bytes)?;
+        let spelled = Seq::from_slice(alloc, bytes.as_slice())?;
+        Ok(Held { value, spelled })
+    }
+}
+
+/// A value that is held in several places and lies in memory once, beside its spelling. Contracts see the value.
+#[derive(Drop)]
+pub struct Shared<T: Code> {
+    held: Arc<Held<T>>,
+}
+
+impl<T: Code> Model for Shared<T> {
     ghost Value = { T };
 
-    ghost view = { λ s. s.held.value };
+    ghost view = { λ s. s.held.value.value };
 }
 
-impl<T: Drop> Shared<T> {
+impl<T: Code> Shared<T> {
     /// A value that is held once.
     pub fn new(alloc: Global, value: T) -> Result<Shared<T>, AllocError>
         ensures { IfOk result (λ s. s ≡ value) }
     {
-        let held = Arc::new(alloc, value)?;
+        let held = Held::new(alloc, value)?;
+        let held = Arc::new(alloc, held)?;
         Ok(Shared { held })
     }
 
@@ -37,7 +58,22 @@ impl<T: Drop> Shared<T> {
     pub fn get(&self) -> &T
         ensures { result.now ≡ self.now }
     {
-        &self.held
+        &self.held.value
+    }
+
+    /// Its spelling, which is not made anew.
+    pub fn spelled(&self) -> &[u8]
+        ensures { result.now ≡ T.spell self.now }
+    {
+        self.held.spelled.as_slice()
+    }
+
+    /// Puts its spelling at the end.
+    pub fn write(&self, out: &mut Vec<u8>) -> Result<(), AllocError>
+        ensures { OnOk result (out.new.items ≡ out.old.items ++ T.spell self.now) }
+    {
+        out.extend_from_slice(self.spelled())?;
+        Ok(())
     }
 
     /// The same value, held once more.
@@ -49,14 +85,14 @@ impl<T: Drop> Shared<T> {
     }
 }
 
-impl<T: fmt::Debug + Drop> fmt::Debug for Shared<T> {
+impl<T: fmt::Debug + Code> fmt::Debug for Shared<T> {
     fn fmt<W: fmt::Write>(&self, f: &mut fmt::Formatter<W>) -> fmt::Result {
         self.get().fmt(f)
     }
 }
 
-/// What may be shared: its copies and its `==` are exact.
-pub trait Part: Exact + Clone + Drop {
+/// What may be shared: its copies and its `==` are exact, and it is spelled.
+pub trait Part: Exact + Clone + Code {
     ghost copied: { CopiesAre Self.is_clone };
 }
 
@@ -125,9 +161,7 @@ pub fn copy_of<T: Part>(part: &T) -> Result<T, AllocError>
 }
 
 /// How the parts are ordered against other values, as lists are.
-pub fn compare_all<T: Ord>(parts: &[Shared<T>], values: &[T]) -> Ordering
-where
-    T: Drop,
+pub fn compare_all<T: Ord + Code>(parts: &[Shared<T>], values: &[T]) -> Ordering
     ensures { result ≡ slice_cmp T.cmp parts.now values.now }
 {
     for i in 0..parts.len().min(values.len()) {
@@ -140,9 +174,7 @@ where
 }
 
 /// How many parts differ from those at the same places.
-pub fn differing<T: PartialEq>(before: &[Shared<T>], parts: &[Shared<T>]) -> usize
-where
-    T: Drop,
+pub fn differing<T: PartialEq + Code>(before: &[Shared<T>], parts: &[Shared<T>]) -> usize
     ensures count { result ≡ differing T.eq before.now parts.now }
     ensures bound { result ≤ length parts.now }
 {
@@ -161,7 +193,7 @@ pub fn write_all<T: Code>(parts: &[Shared<T>], out: &mut Vec<u8>) -> Result<(), 
 {
     write_number(parts.len() as u64, out)?;
     for part in parts {
-        part.get().write(out)?;
+        part.write(out)?;
     }
     Ok(())
 }

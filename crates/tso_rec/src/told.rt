@@ -3,6 +3,7 @@ ghost use Rattle.std.specs.Prelude.{◌≡◌, [], IfOk, IfSome, Some};
 ghost use Rattle.tso_code.specs.Fields.{Gives, items_at, list_at};
 
 use crate::known::Shelf;
+use crate::places::{Places, mark_of};
 use crate::shared::{Part, Shared};
 use std::alloc::{AllocError, Global};
 use tso_code::{Code, ReadError, read_number};
@@ -42,12 +43,11 @@ impl<T: Readable> Readable for Seq<T> {
     ghost one_spelling = { list_code word_code T.one_spelling };
 }
 
-// A part with the bytes that it was read from.
+// A part that is read from its spelling.
 #[derive(Drop)]
 struct Told<T: Readable> {
     part: Shared<T>,
-    spelled: Seq<u8>,
-    ghost reads: { T.read_at spelled ≡ Some (part, []) },
+    ghost reads: { T.read_at (T.spell part) ≡ Some (part, []) },
 }
 
 impl<T: Readable> Told<T> {
@@ -55,18 +55,37 @@ impl<T: Readable> Told<T> {
     fn behind<'a>(&self, bytes: &'a [u8]) -> Option<&'a [u8]>
         ensures { IfSome result (λ rest. T.read_at bytes.now ≡ Some (self.now.part, rest.now)) }
     {
-        match bytes.strip_prefix(self.spelled.as_slice()) {
+        match bytes.strip_prefix(self.part.spelled()) {
             Some(rest) => Some(rest),
             None => None,
         }
     }
+
+    // The same part.
+    fn again(&self) -> Result<Told<T>, AllocError>
+        ensures { IfOk result (λ told. told.part ≡ self.now.part) }
+    {
+        let part = self.part.again()?;
+        Ok(Told { part })
+    }
 }
 
-/// Parts of one kind: those that stood in the record that was read last, each with its spelling, so that a part which stands
-/// there again is told by its bytes, and is not read; and a shelf of those before.
+// So many bytes go into the mark of how bytes begin.
+const FRONT: usize = 16;
+
+// A number that bytes have in common which begin alike.
+fn mark_of_front(bytes: &[u8]) -> u64 {
+    let length = bytes.len().min(FRONT);
+    mark_of(&bytes[..length])
+}
+
+/// Parts of one kind that were read before, so that one which comes again is told by its bytes, and is not read: those that
+/// stood in the record that was read last, others at the place of how the bytes began that they were read from, and a shelf of
+/// those that were read.
 #[derive(Drop)]
 pub struct Reader<T: Readable> {
     shelf: Shelf<T>,
+    begun: Places<Told<T>>,
     told: Vec<Told<T>>,
 }
 
@@ -75,6 +94,7 @@ impl<T: Readable> Reader<T> {
     pub fn new(alloc: Global) -> Reader<T> {
         Reader {
             shelf: Shelf::new(alloc),
+            begun: Places::new(alloc),
             told: Vec::new(alloc),
         }
     }
@@ -110,6 +130,26 @@ impl<T: Readable> Reader<T> {
         Ok(())
     }
 
+    // A part that was read from bytes which began as these, if these begin with its spelling, and the bytes after it. It is noted.
+    fn read_begun<'a>(
+        &mut self,
+        index: usize,
+        bytes: &'a [u8],
+    ) -> Result<Option<(Shared<T>, &'a [u8])>, AllocError>
+        ensures { IfOk result (λ found. IfSome found (λ x. T.read_at bytes.now ≡ Some (x.0, x.1.now))) }
+    {
+        let Some(told) = self.begun.at(mark_of_front(bytes)) else {
+            return Ok(None);
+        };
+        let Some(rest) = told.behind(bytes) else {
+            return Ok(None);
+        };
+        let told = told.again()?;
+        let part = told.part.again()?;
+        self.note(index, told)?;
+        Ok(Some((part, rest)))
+    }
+
     // The part at the front of the bytes, which is noted, and the bytes after it.
     fn read_anew<'a>(
         &mut self,
@@ -120,13 +160,10 @@ impl<T: Readable> Reader<T> {
         ensures { Gives (λ x. (x.0, x.1.now)) result (T.read_at bytes.now) }
     {
         let (part, rest) = self.shelf.read(alloc, bytes)?;
-        let length = bytes.len().saturating_sub(rest.len());
-        let spelled = Seq::from_slice(alloc, &bytes[..length])?;
         let again = part.again()?;
-        let told = Told {
-            part: again,
-            spelled,
-        };
+        let told = Told { part: again };
+        let same = told.again()?;
+        self.begun.put(alloc, mark_of_front(bytes), same)?;
         self.note(index, told)?;
         Ok((part, rest))
     }
@@ -140,7 +177,10 @@ impl<T: Readable> Reader<T> {
     ) -> Result<(Shared<T>, &'a [u8]), ReadError>
         ensures { Gives (λ x. (x.0, x.1.now)) result (T.read_at bytes.now) }
     {
-        match self.read_again(index, bytes)? {
+        if let Some(read) = self.read_again(index, bytes)? {
+            return Ok(read);
+        }
+        match self.read_begun(index, bytes)? {
             Some(read) => Ok(read),
             None => self.read_anew(alloc, index, bytes),
         }

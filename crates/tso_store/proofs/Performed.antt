@@ -31,7 +31,7 @@ use Rattle.tso_state.specs.declared.state.Thread.{Thread}
 use Rattle.tso_store.specs.declared.key.Key.{Key}
 use Rattle.tso_store.specs.declared.parts.Parts.{Parts}
 use Rattle.tso_store.specs.Keys.{Grows, IsKeyOf, IsKept, state_at}
-use Rattle.tso_store.specs.Remembered.{FitsAt, IsDrained, IsLeft, IsOwnMotion, IsRun, CanRun}
+use Rattle.tso_store.specs.Remembered.{FitsAt, HasNext, IsDrained, IsLeft, IsNextMotion, IsRun, CanRun}
 use Rattle.tso_store.specs.Stepping.{IsLogged, IsPlanned, IsStepOf, with_thread}
 use Rattle.tso_store.proofs.Rows.{more_numbers, number_at, none_at, row_set}
 
@@ -173,25 +173,39 @@ stepped c old new k a m own nm nh nt kept small ext planned at mem log left =
 
 -- ---- the state after a step that changes only its thread
 
-own_move : (c : Client) (s : State) (i : ℕ) (t : Thread) (m : Motion) → slice_get s.threads i ≡ Some t → IsOwnMotion c (procedure_in s i) t m
+next_move : (c : Client) (s : State) (i : ℕ) (t : Thread) (m : Motion) → slice_get s.threads i ≡ Some t → IsNextMotion c (procedure_in s i) t m
     → move (program_of c) (state_of s) (actor_of (Exec i)) ≡ Some (move_of (procedure_in s i) t m)
-own_move c s i t m here own =
+next_move c s i t m here next =
     let p = program_of c in
     let there : slice_get (state_of s).threads i ≡ Some (thread_view (procedure_in s i) t) =
     slice_get-threads_view s.history s.threads i ∙ ap (option_map (thread_view (procedure_in s i))) here in
     ap (λ o. option_and_then (λ (u : CompactThread Activation). core_move p (next_call p (state_of s) i) u.core u.buffer) o) there
-    ∙ own.moves (next_call p (state_of s) i)
+    ∙ next.moves (next_call p (state_of s) i)
 
 thread_here : (s : State) (i : ℕ) (t : Thread) → slice_get s.threads i ≡ Some t → thread_in s i ≡ t
 thread_here s i t here = get_or_from_slice_get s.threads i t _ here
 
-own_planned : (c : Client) (s : State) (i : ℕ) (t : Thread) (m : Motion) → slice_get s.threads i ≡ Some t → IsOwnMotion c (procedure_in s i) t m
+next_planned : (c : Client) (s : State) (i : ℕ) (t : Thread) (m : Motion) → slice_get s.threads i ≡ Some t → IsNextMotion c (procedure_in s i) t m
     → move (program_of c) (state_of s) (actor_of (Exec i)) ≡ Some (motion_view s i m)
-own_planned c s i t m here own = own_move c s i t m here own ∙ ap (λ v. Some (move_of (procedure_in s i) v m)) (sym (thread_here s i t here))
+next_planned c s i t m here next = next_move c s i t m here next ∙ ap (λ v. Some (move_of (procedure_in s i) v m)) (sym (thread_here s i t here))
 
 pub can_run : (c : Client) (p : Parts) (k : Key) (i own : ℕ) → IsKept c p k → length p.threads < 2 ^ 32 → slice_get k.threads i ≡ Some own → CanRun c (procedure_in (state_at p k) i) p.threads own → HasStep c (state_at p k) (Exec i)
 can_run c p k i own kept small at (m, has) =
-    some_move c (state_at p k) (Exec i) _ (own_move c (state_at p k) i has.from m (number_at p.threads k.threads (state_at p k).threads i own small kept.key.threads at ∙ has.from_is) has.own)
+    some_move c (state_at p k) (Exec i) _ (next_move c (state_at p k) i has.from m (number_at p.threads k.threads (state_at p k).threads i own small kept.key.threads at ∙ has.from_is) has.next)
+
+-- what is known of a thread's next step is planned where the thread stands
+pub known_plans : (c : Client) (p : Parts) (k : Key) (i own : ℕ) (o : Option Motion) → IsKept c p k → length p.threads < 2 ^ 32 → slice_get k.threads i ≡ Some own
+    → IfSome o (HasNext c (procedure_in (state_at p k) i) p.threads own) → IfSome o (IsPlanned c (state_at p k) (Exec i))
+known_plans c p k i own None kept small at has = tt
+known_plans c p k i own (Some m) kept small at has =
+    let s : State = state_at p k in
+    let here : slice_get s.threads i ≡ Some has.from = number_at p.threads k.threads s.threads i own small kept.key.threads at ∙ has.from_is in
+    let Q : Thread → Type 0 = λ u. Fits u m in
+    record {
+      is = next_planned c s i has.from m here has.next;
+      there = slice_get_within s.threads i has.from here;
+      fits = subst Q (sym (thread_here s i has.from here)) has.next.fits;
+    }
 
 pub ran : (c : Client) (old new : Parts) (k : Key) (i own nt : ℕ) → IsKept c old k → Grows old new → length old.threads < 2 ^ 32 → slice_get k.threads i ≡ Some own → IsRun c (procedure_in (state_at old k) i) new.threads own nt
     → IsStepOf c old k (Exec i) new (with_thread k i nt)
@@ -214,7 +228,7 @@ ran c old new k i own nt kept grows small at run =
     let after : State = record { memory = s.memory; threads = slice_set s.threads i u; history = s.history } in
     record {
       state = after;
-      step = stepped_by c s after (Exec i) (motion_view s i m) (own_planned c s i t m here pure) (performed-view s i m t s.memory u _ s.history parts);
+      step = stepped_by c s after (Exec i) (motion_view s i m) (next_planned c s i t m here pure.next) (performed-view s i m t s.memory u _ s.history parts);
       key = record {
         memory = grows.memories k.memory s.memory kept.key.memory;
         history = grows.histories k.history s.history kept.key.history;

@@ -6,3 +6,4 @@ pub mod Stepping
 pub mod Seeking
 pub mod Orders
 pub mod Likes
+pub mod Marks

@@ -6,7 +6,7 @@ ghost use Rattle.tso_machine.specs.declared.buffer.Entry.{Entry as EntryValue};
 ghost use Rattle.tso_parts.specs.Numbers.{Extends};
 ghost use Rattle.tso_parts.specs.declared.refused.Refused.TheVariants as reasons;
 ghost use Rattle.tso_state.specs.declared.state.Thread.{Thread as ThreadValue};
-ghost use Rattle.tso_store.specs.Remembered.{AreKnown, CanRun, FitsAt, HasRun, IsRun, IsDrained, IsOwn, IsOwnMotion, IsLeft, with_run};
+ghost use Rattle.tso_store.specs.Remembered.{AreKnown, CanRun, FitsAt, HasNext, IsRun, IsRunKnown, IsDrained, IsNextMotion, IsOwn, IsLeft, with_run};
 
 use crate::key::NONE;
 use crate::lookup::find_thread;
@@ -19,12 +19,23 @@ use tso_parts::{Catalog, Refused};
 use tso_prog::Client;
 use tso_state::{Core, Thread};
 
-/// For a thread's number the numbers of the threads that its own next step leaves, in a push and in a pop, and that its drain
-/// leaves, where they are known.
+/// What is known of a thread's next step in a call of a procedure.
+#[derive(Clone, Copy, Debug)]
+pub enum Run {
+    /// Nothing.
+    Unknown,
+    /// It changes nothing but the thread, and leaves the thread of this number.
+    Leaves(u32),
+    /// It is this one, of which more than the thread is changed, or decides what is changed.
+    Does(Motion),
+}
+
+/// For a thread's number what is known of its next step, in a push and in a pop, and the number of the thread that its drain
+/// leaves, where it is known.
 #[derive(Clone, Copy, Debug)]
 pub struct Known {
-    pub push: Option<u32>,
-    pub pop: Option<u32>,
+    pub push: Run,
+    pub pop: Run,
     pub drained: Option<u32>,
 }
 
@@ -38,19 +49,17 @@ fn is_own(motion: Motion) -> bool
     )
 }
 
-// The next step of a call of this procedure, where it changes nothing but the thread.
-fn own_motion(client: &Client, procedure: ProcedureKind, thread: &Thread) -> Option<Motion>
-    ensures { IfSome result (IsOwnMotion client.now procedure thread.now) }
+// The next step of a call of this procedure.
+fn next_motion(client: &Client, procedure: ProcedureKind, thread: &Thread) -> Option<Motion>
+    ensures { IfSome result (IsNextMotion client.now procedure thread.now) }
 {
     let Core::Running(_) = &thread.core else {
         return None;
     };
-    let motion = core_motion(client, procedure, None, thread)?;
-    if is_own(motion) { Some(motion) } else { None }
+    core_motion(client, procedure, None, thread)
 }
 
 // Makes room for what is known of this number.
-#[tactic(auto, using(crate::proofs::Recalls::known_more))]
 fn make_room(
     client: &Client,
     threads: &Catalog<Thread>,
@@ -62,27 +71,21 @@ fn make_room(
 {
     for _ in known.len()..number as usize + 1 {
         known.push(Known {
-            push: None,
-            pop: None,
+            push: Run::Unknown,
+            pop: Run::Unknown,
             drained: None,
         })?;
     }
     Ok(())
 }
 
-// What is known where a step of a call of this procedure is known too.
-fn with_run(old: Known, procedure: ProcedureKind, next: u32) -> Known
-    ensures { result ≡ with_run old procedure next }
+// What is known where this is known too of a step of a call of this procedure.
+fn with_run(old: Known, procedure: ProcedureKind, run: Run) -> Known
+    ensures { result ≡ with_run old procedure run }
 {
     match procedure {
-        ProcedureKind::Push => Known {
-            push: Some(next),
-            ..old
-        },
-        ProcedureKind::Pop => Known {
-            pop: Some(next),
-            ..old
-        },
+        ProcedureKind::Push => Known { push: run, ..old },
+        ProcedureKind::Pop => Known { pop: run, ..old },
     }
 }
 
@@ -93,23 +96,22 @@ fn remember_run(
     known: &mut Seq<Known>,
     procedure: ProcedureKind,
     number: u32,
-    next: u32,
+    run: Run,
 ) -> Result<(), AllocError>
     requires known { AreKnown client.now threads.now known.old }
-    requires run { IsRun client.now procedure threads.now number next }
+    requires run { IsRunKnown client.now procedure threads.now number run }
     ensures { AreKnown client.now threads.now known.new }
 {
     make_room(client, threads, known, number)?;
     let place = number as usize;
     if place < known.len() {
         let old = known.as_slice()[place];
-        *known.at_mut(place) = with_run(old, procedure, next);
+        *known.at_mut(place) = with_run(old, procedure, run);
     }
     Ok(())
 }
 
 // Remembers a drain.
-#[tactic(auto, using(crate::proofs::Recalls::set_drained))]
 fn remember_drain(
     client: &Client,
     threads: &Catalog<Thread>,
@@ -159,7 +161,28 @@ pub fn next_thread(
     Ok(next)
 }
 
-/// What is known of the thread's next step in a call of this procedure.
+// What is known of the thread's next step in a call of this procedure.
+fn run_of(
+    client: &Client,
+    threads: &Catalog<Thread>,
+    known: &Seq<Known>,
+    procedure: ProcedureKind,
+    number: u32,
+) -> Run
+    requires { AreKnown client.now threads.now known.now }
+    ensures { IsRunKnown client.now procedure threads.now number result }
+{
+    match known.get(number as usize) {
+        Some(found) => match procedure {
+            ProcedureKind::Push => found.push,
+            ProcedureKind::Pop => found.pop,
+        },
+        None => Run::Unknown,
+    }
+}
+
+/// The number of the thread that the thread's next step in a call of this procedure leaves, where it is known and changes only
+/// the thread.
 pub fn known_run(
     client: &Client,
     threads: &Catalog<Thread>,
@@ -170,10 +193,26 @@ pub fn known_run(
     requires { AreKnown client.now threads.now known.now }
     ensures { IfSome result (IsRun client.now procedure threads.now number) }
 {
-    let found = known.get(number as usize)?;
-    match procedure {
-        ProcedureKind::Push => found.push,
-        ProcedureKind::Pop => found.pop,
+    match run_of(client, threads, known, procedure, number) {
+        Run::Leaves(next) => Some(next),
+        _ => None,
+    }
+}
+
+/// The thread's next step in a call of this procedure, where it is known and does not change only the thread.
+pub fn known_motion(
+    client: &Client,
+    threads: &Catalog<Thread>,
+    known: &Seq<Known>,
+    procedure: ProcedureKind,
+    number: u32,
+) -> Option<Motion>
+    requires { AreKnown client.now threads.now known.now }
+    ensures { IfSome result (HasNext client.now procedure threads.now number) }
+{
+    match run_of(client, threads, known, procedure, number) {
+        Run::Does(motion) => Some(motion),
+        _ => None,
     }
 }
 
@@ -190,19 +229,48 @@ pub fn known_drain(
     known.get(number as usize)?.drained
 }
 
-// The thread's next step in a call of this procedure, where it changes nothing else.
-fn own_motion_at(
+// The thread's next step in a call of this procedure, if it runs one.
+fn next_motion_at(
     client: &Client,
     threads: &Catalog<Thread>,
     procedure: ProcedureKind,
     number: u32,
 ) -> Option<Motion>
-    ensures { IfSome result (HasRun client.now procedure threads.now number) }
+    ensures { IfSome result (HasNext client.now procedure threads.now number) }
 {
     match threads.get(number) {
-        Some(thread) => own_motion(client, procedure, thread),
+        Some(thread) => next_motion(client, procedure, thread),
         None => None,
     }
+}
+
+// The number of the thread that this step leaves, if it changes only the thread. What is found is remembered.
+fn run_by_motion(
+    alloc: Global,
+    client: &Client,
+    threads: &mut Catalog<Thread>,
+    known: &mut Seq<Known>,
+    procedure: ProcedureKind,
+    number: u32,
+    motion: Motion,
+) -> Result<Option<u32>, Refused>
+    requires known { AreKnown client.now threads.old known.old }
+    requires next { HasNext client.now procedure threads.old number motion }
+    ensures run { IfOk result (λ o. IfSome o (IsRun client.now procedure threads.new number)) }
+    ensures none { IfOk result (λ o. MatchOption o (threads.new ≡ threads.old) (λ n. Unit {0})) }
+    ensures extends { Extends threads.old threads.new }
+    ensures small { length threads.old < 2 ^ 32 → length threads.new < 2 ^ 32 }
+    ensures more { length threads.new ≤ length threads.old + 1 }
+    ensures full { result ≡ Err reasons.Full → 4294967295 ≤ length threads.new }
+    ensures known { AreKnown client.now threads.new known.new }
+{
+    if !is_own(motion) {
+        remember_run(client, threads, known, procedure, number, Run::Does(motion))?;
+        return Ok(None);
+    }
+    let next = next_thread(alloc, threads, number, motion, 0)?;
+    remember_run(client, threads, known, procedure, number, Run::Leaves(next))?;
+    Ok(Some(next))
 }
 
 /// The number of the thread that a step leaves which changes only the thread.
@@ -224,15 +292,56 @@ pub fn run_thread(
     ensures full { result ≡ Err reasons.Full → 4294967295 ≤ length threads.new }
     ensures known { AreKnown client.now threads.new known.new }
 {
-    if let Some(next) = known_run(client, threads, known, procedure, number) {
-        return Ok(Some(next));
+    match run_of(client, threads, known, procedure, number) {
+        Run::Leaves(next) => return Ok(Some(next)),
+        Run::Does(_) => return Ok(None),
+        Run::Unknown => {}
     }
-    let Some(motion) = own_motion_at(client, threads, procedure, number) else {
+    let Some(motion) = next_motion_at(client, threads, procedure, number) else {
         return Ok(None);
     };
-    let next = next_thread(alloc, threads, number, motion, 0)?;
-    remember_run(client, threads, known, procedure, number, next)?;
-    Ok(Some(next))
+    run_by_motion(alloc, client, threads, known, procedure, number, motion)
+}
+
+// Remembers the thread's next step in a call of this procedure, where the thread that it leaves is kept or more than the thread
+// is changed.
+fn learn_run(
+    client: &Client,
+    threads: &Catalog<Thread>,
+    known: &mut Seq<Known>,
+    procedure: ProcedureKind,
+    number: u32,
+) -> Result<(), AllocError>
+    requires known { AreKnown client.now threads.now known.old }
+    ensures { AreKnown client.now threads.now known.new }
+{
+    let Some(motion) = next_motion_at(client, threads, procedure, number) else {
+        return Ok(());
+    };
+    if !is_own(motion) {
+        return remember_run(client, threads, known, procedure, number, Run::Does(motion));
+    }
+    match find_thread(threads, number, motion, 0) {
+        Some(next) => remember_run(client, threads, known, procedure, number, Run::Leaves(next)),
+        None => Ok(()),
+    }
+}
+
+/// Remembers the next steps of all threads, in a push and in a pop, where the thread that a step leaves is kept or more than the
+/// thread is changed.
+pub fn learn_runs(
+    client: &Client,
+    threads: &Catalog<Thread>,
+    known: &mut Seq<Known>,
+) -> Result<(), AllocError>
+    requires known { AreKnown client.now threads.now known.old }
+    ensures { AreKnown client.now threads.now known.new }
+{
+    for number in 0..threads.len() {
+        learn_run(client, threads, known, ProcedureKind::Push, number as u32)?;
+        learn_run(client, threads, known, ProcedureKind::Pop, number as u32)?;
+    }
+    Ok(())
 }
 
 /// The number of the thread that a drain of this entry leaves.

@@ -11,7 +11,7 @@ ghost use Rattle.tso_store.specs.declared.fault.AddError.TheVariants as errors;
 use crate::fault::AddError;
 use crate::kept::{find_key, fits_client, key_of};
 use crate::key::{Key, NO_KEY};
-use crate::known::Known;
+use crate::known::{Known, learn_runs};
 use crate::packed::{kept_fits_client, key_of_kept};
 use crate::parts::Parts;
 use crate::ranking::{Ranking, key_at};
@@ -212,6 +212,18 @@ impl<'a> Store<'a> {
         };
         let result = self.keys.add(next)?;
         Ok(Some(result))
+    }
+
+    /// Remembers where the next steps of kept threads lead, so that `find_successor` is fast in a store that no `successor`
+    /// filled. The states stay.
+    ///
+    /// Errors: where a growth was refused.
+    pub fn learn(&mut self) -> Result<(), AllocError>
+        ensures states { self.new.states ≡ self.old.states }
+        ensures kept { self.new.kept ≡ self.old.kept }
+        ensures client { self.new.client ≡ self.old.client }
+    {
+        learn_runs(&self.checked.client, &self.parts.threads, &mut self.known)
     }
 
     /// The number of the state after the actor's step from state `number`, if there is such a step and the state is kept. It

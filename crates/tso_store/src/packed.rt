@@ -13,11 +13,11 @@ use crate::parts::Parts;
 use std::alloc::Global;
 use std::hash::{Hash, Hasher};
 use tso_hist::{Call, History};
-use tso_list::{Exact, Seq};
+use tso_list::Seq;
 use tso_machine::thread_count;
 use tso_parts::{Catalog, Like, Refused};
 use tso_prog::Client;
-use tso_rec::{Kept, Shared, copy_all};
+use tso_rec::{Kept, Part, Shared, copy_all};
 use tso_state::Thread;
 
 /// The history of these lists of calls, which is not made.
@@ -27,7 +27,7 @@ pub struct CallLists<'a> {
 }
 
 // Feeds the hasher with each item.
-fn feed_all<T: Exact + Hash + Drop, H: Hasher>(items: &[Shared<T>], state: &mut H)
+fn feed_all<T: Part + Hash, H: Hasher>(items: &[Shared<T>], state: &mut H)
     ensures { state.new ≡ fold H.write state.old (flat_map T.hash_input items.now) }
 {
     match items {
@@ -40,7 +40,7 @@ fn feed_all<T: Exact + Hash + Drop, H: Hasher>(items: &[Shared<T>], state: &mut 
 }
 
 // Whether the items are these.
-fn are_all<T: Exact + Drop>(kept: &[Shared<T>], items: &[T]) -> bool
+fn are_all<T: Part>(kept: &[Shared<T>], items: &[T]) -> bool
     ensures { IsTrue result ↔ (kept.now ≡ items.now) }
 {
     match kept {

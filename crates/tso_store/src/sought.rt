@@ -107,7 +107,7 @@ fn find_by_plan(
     requires own { slice_get key.now.threads (thread_of actor) ≡ Some own }
     ensures { IsStepSought client.now parts.now key.now actor result }
 {
-    let Some(motion) = plan(client, parts, key, actor) else {
+    let Some(motion) = plan(client, parts, known, key, actor, own) else {
         return Sought::Disabled;
     };
     match find_by_motion(client, parts, known, key, actor, own, motion) {

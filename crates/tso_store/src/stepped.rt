@@ -16,7 +16,7 @@ ghost use Rattle.tso_store.specs.Remembered.{AreKnown, FitsAt, IsLeft};
 ghost use Rattle.tso_store.specs.Stepping.{IsLogged, IsPlanned, IsStepKey, IsStepOf, IsWritten, with_thread};
 
 use crate::key::Key;
-use crate::known::{Known, drain_thread, next_thread, run_thread};
+use crate::known::{Known, drain_thread, known_motion, next_thread, run_thread};
 use crate::lookup::{find_history, find_memory};
 use crate::parts::Parts;
 use crate::view::View;
@@ -102,18 +102,6 @@ pub fn own_number(key: &Key, thread: usize) -> Option<u32>
     key.threads.as_slice().get(thread).copied()
 }
 
-/// What the actor does in a kept state.
-pub fn plan(client: &Client, parts: &Parts, key: &Key, actor: Actor) -> Option<Motion>
-    requires kept { IsKept client.now parts.now key.now }
-    requires small { length parts.now.threads < 2 ^ 32 }
-    ensures { MatchOption result (HasStep client.now (state_at parts.now key.now) actor → ⊥) (IsPlanned client.now (state_at parts.now key.now) actor) }
-{
-    match View::of_key(parts, key) {
-        Some(view) => planned(client, &view, actor),
-        None => None,
-    }
-}
-
 /// The procedure that the last call of a thread runs in a kept history.
 pub fn procedure_at(histories: &Catalog<History>, number: u32, thread: usize) -> ProcedureKind
     requires { slice_get histories.now number ≡ Some (slice_index_or histories.now number []) }
@@ -125,6 +113,61 @@ pub fn procedure_at(histories: &Catalog<History>, number: u32, thread: usize) ->
             None => ProcedureKind::Pop,
         },
         None => ProcedureKind::Pop,
+    }
+}
+
+// What the actor does in a kept state, found from the state.
+fn planned_at(client: &Client, parts: &Parts, key: &Key, actor: Actor) -> Option<Motion>
+    requires kept { IsKept client.now parts.now key.now }
+    requires small { length parts.now.threads < 2 ^ 32 }
+    ensures { MatchOption result (HasStep client.now (state_at parts.now key.now) actor → ⊥) (IsPlanned client.now (state_at parts.now key.now) actor) }
+{
+    match View::of_key(parts, key) {
+        Some(view) => planned(client, &view, actor),
+        None => None,
+    }
+}
+
+// What the core of a thread does in a kept state, where it is known.
+fn known_plan(
+    client: &Client,
+    parts: &Parts,
+    known: &Seq<Known>,
+    key: &Key,
+    thread: usize,
+    own: u32,
+) -> Option<Motion>
+    requires kept { IsKept client.now parts.now key.now }
+    requires small { length parts.now.threads < 2 ^ 32 }
+    requires known { AreKnown client.now parts.now.threads known.now }
+    requires own { slice_get key.now.threads thread ≡ Some own }
+    ensures { IfSome result (IsPlanned client.now (state_at parts.now key.now) (actors.Exec thread)) }
+{
+    let procedure = procedure_at(&parts.histories, key.history, thread);
+    known_motion(client, &parts.threads, known, procedure, own)
+}
+
+/// What the actor does in a kept state.
+pub fn plan(
+    client: &Client,
+    parts: &Parts,
+    known: &Seq<Known>,
+    key: &Key,
+    actor: Actor,
+    own: u32,
+) -> Option<Motion>
+    requires kept { IsKept client.now parts.now key.now }
+    requires small { length parts.now.threads < 2 ^ 32 }
+    requires known { AreKnown client.now parts.now.threads known.now }
+    requires own { slice_get key.now.threads (thread_of actor) ≡ Some own }
+    ensures { MatchOption result (HasStep client.now (state_at parts.now key.now) actor → ⊥) (IsPlanned client.now (state_at parts.now key.now) actor) }
+{
+    match actor {
+        Actor::Exec(thread) => match known_plan(client, parts, known, key, thread, own) {
+            Some(motion) => Some(motion),
+            None => planned_at(client, parts, key, actor),
+        },
+        Actor::Drain(_) => planned_at(client, parts, key, actor),
     }
 }
 
@@ -266,7 +309,7 @@ fn step_by_plan(
     ensures full { result ≡ Err reasons.Full → 4294967295 ≤ part_count parts.new }
     ensures known { AreKnown client.now parts.new.threads known.new }
 {
-    let Some(motion) = plan(client, parts, key, actor) else {
+    let Some(motion) = plan(client, parts, known, key, actor, own) else {
         return Ok(None);
     };
     let next = step_by_motion(alloc, client, parts, known, key, actor, own, motion)?;
