@@ -117,10 +117,10 @@ valid_end c t states s (Choices choices) w worked (chosen, some) =
 valid_end c t states s (Order order) w worked (over, explained) = record { well_formed = w; fits = over; reasons = tt; successors = tt; unstopped = worked.unstopped over; explained = explained }
 
 pub searched_well_formed : (c : Client) (t : Table) (states : List State) (n : ℕ) (s : State) → AreSearched c t states → slice_get states n ≡ Some s → IsWellFormed c s
-searched_well_formed c t states n s (origins, searched) at = (searched.begun.met n s at).plausible.well_formed
+searched_well_formed c t states n s searched at = (searched.begun.met n s at).plausible.well_formed
 
 pub searched_worked : (c : Client) (t : Table) (states : List State) (n : ℕ) (s : State) → AreSearched c t states → slice_get states n ≡ Some s → IsWorked c t states s
-searched_worked c t states n s (origins, searched) at = searched.worked n s (slice_get_within states n s at) at
+searched_worked c t states n s searched at = searched.worked n s at
 
 pub worked_record : (c : Client) (t : Table) (states : List State) (n : ℕ) (s : State) (e : End) → AreSearched c t states → slice_get states n ≡ Some s → IsEndOf c t s e → IsRecordOf c t states n (record { state = s; end = e })
 worked_record c t states n s e searched at ends = record {
@@ -403,7 +403,7 @@ module _ (c : Client) (t : Table) (states : List State) (ns : List ℕ) (tree : 
       record { well_formed = met.well_formed; fits = met.fits; reasons = met.reasons; successors = kept_after r.state r.end met.successors; unstopped = met.unstopped; explained = met.explained })
 
   has_initial : AreSearched c t states → HasInitial c (tree_states tree)
-  has_initial (origins, searched) = record { initial = searched.begun.initial; first = searched.begun.initial_is; there = kept searched.begun.initial (is_there states searched.begun.initial 0 searched.begun.initial_at) }
+  has_initial searched = record { initial = searched.begun.initial; first = searched.begun.initial_is; there = kept searched.begun.initial (is_there states searched.begun.initial 0 searched.begun.initial_at) }
 
   few_records : record_count tree ≡ length states
   few_records = counted tree ∙ cut.records.count ∙ count_of states ns all

@@ -1,6 +1,6 @@
 -- States that are met, and those that are worked, as more of them are kept.
-use Rattle.std.proofs.Common.{◌≡◌, ◌∙◌, ℕ, zero, suc, ◌+◌, ◌*◌, ◌<◌, ◌≤◌, ◌++◌, ◌==◌, ◌⊎◌, inl, inr, Bool, true, false, not, List, [], ◌∷◌, length, length-append, get_or, Option, None, Some, slice_get, refl, sym, ap, subst, arith, if◌then◌else◌}
-use Rattle.std.specs.Prelude.{All, Err, IfErr, IfSome, IsTrue, is_some, Ok, OnOk, Result}
+use Rattle.std.proofs.Common.{◌≡◌, ◌∙◌, ℕ, zero, suc, ◌+◌, ◌*◌, ◌<◌, ◌≤◌, ◌++◌, ◌==◌, ◌⊎◌, inl, inr, Bool, true, false, not, List, [], ◌∷◌, length, length-append, map, get_or, Option, None, Some, slice_get, refl, sym, ap, subst, arith, if◌then◌else◌}
+use Rattle.std.specs.Prelude.{All, Err, IfErr, IfOk, IfSome, IsTrue, is_some, Ok, OnOk, Result}
 use Rattle.std.specs.Option.{option_map}
 use Rattle.std.proofs.lemmas.Option.{none-some, same_Some, slice_get_within, slice_get-get_or, slice_get-map}
 use Rattle.std.proofs.lemmas.Bool.{cases_lt}
@@ -19,7 +19,7 @@ use Rattle.tso_compact.specs.Laws.{initial_of}
 use Rattle.tso_compact.specs.declared.sort.StepKind.{StepKind}
 use Rattle.tso_compact.specs.Plans.{HasStep, IsStep, kind_of_move}
 use Rattle.tso_explore.specs.Reached.{IsMet, IsOrigin}
-use Rattle.tso_explore.specs.Searched.{AreFollowed, GoesOn, HasMore, IsBegun, IsFollowed, IsSearched, IsGoodAt, IsStarted, IsWorked}
+use Rattle.tso_explore.specs.Searched.{AreFollowed, AreSearched, GoesOn, HasBegun, HasMore, IsBegun, IsFollowed, IsSearched, IsGoodAt, IsStarted, IsWorked, IsWorkedAt}
 use Rattle.tso_explore.specs.declared.origin.Origin.{Origin}
 use Rattle.tso_fifo.specs.Orders.{HasOrder}
 use Rattle.tso_flow.specs.Calls.{as_thread}
@@ -31,7 +31,7 @@ use Rattle.tso_model.proofs.Reduce.{steps_append}
 use Rattle.tso_model.specs.Steps as model
 use Rattle.tso_parts.proofs.Distinct.{grown_extends}
 use Rattle.tso_parts.proofs.Marked.{new_item, of_longer, old_item}
-use Rattle.tso_parts.specs.Numbers.{Extends, IsNumbered}
+use Rattle.tso_parts.specs.Numbers.{Extends, IsNumbered, grown}
 use Rattle.tso_prog.specs.declared.client.Client.{Client}
 use Rattle.tso_state.specs.Actors.{actor_of}
 use Rattle.tso_state.specs.Views.{state_of}
@@ -39,12 +39,18 @@ use Rattle.tso_state.specs.WellFormed.{IsWellFormed, thread_total}
 use Rattle.tso_state.specs.declared.actor.Actor.{Actor}
 use Rattle.tso_state.specs.declared.state.State.{State}
 use Rattle.tso_store.specs.Sheets.{CanStep, IsSuccessor, IsSuccessorOrNone, Sheet}
+use Rattle.tso_table.specs.Leading.{IsKept, actors_of}
+use Rattle.tso_table.specs.declared.kept.Kept.{Kept}
 
 -- ---- results
 
 pub on_ok : {X E A B : Type 0} (r : Result X E) → OnOk r A → (A → B) → OnOk r B
 on_ok (Ok x) a f = f a
 on_ok (Err e) a f = tt
+
+pub ok_as : {X E : Type 0} {P Q : X → Type 0} (r : Result X E) → IfOk r P → ((x : X) → P x → Q x) → IfOk r Q
+ok_as (Ok x) p f = f x p
+ok_as (Err e) p f = tt
 
 pub on_both : {X E A B C : Type 0} (r : Result X E) → OnOk r A → OnOk r B → (A → B → C) → OnOk r C
 on_both (Ok x) a b f = f a b
@@ -415,3 +421,57 @@ searched_first c t states origins started none = record {
   begun = subst (IsBegun c states) (sym none) (begun_first c states started);
   worked = λ n s lt at. absurd (omega (arith, lt));
 }
+
+-- ---- all are worked
+
+pub has_begun : (c : Client) (states : List State) (origins : List Origin) → IsBegun c states origins → HasBegun c states
+has_begun c states origins begun = record { initial = begun.initial; initial_at = begun.initial_at; initial_is = begun.initial_is; met = begun.met }
+
+pub all_searched : (c : Client) (t : Table) (states : List State) (origins : List Origin) → IsSearched c t states origins (length states) → AreSearched c t states
+all_searched c t states origins searched = record {
+  begun = has_begun c states origins searched.begun;
+  worked = λ n s at. searched.worked n s (slice_get_within states n s at) at;
+}
+
+-- a state whose chosen steps all lead to kept states is worked
+pub closed_moves : (c : Client) (t : Table) (states : List State) (n set : ℕ) (s : State) → HasBegun c states → slice_get states n ≡ Some s → IsChoice c t s set → (set ≡ 0 → ⊥)
+    → AreFollowed c states states n set 10 → IsWorkedAt c t states n
+closed_moves c t states n set s begun here is some followed x at =
+    let well : IsWellFormed c s = (begun.met n s here).plausible.well_formed in
+    let this : IsWorked c t states s = record {
+      moves = chosen_followed c t s set states states n well is here followed;
+      unstopped = λ over. absurd (some (over_chooses_none c t s set is over));
+      explained = λ over. absurd (some (over_chooses_none c t s set is over));
+    } in
+    subst (IsWorked c t states) (same_Some s x (sym here ∙ at)) this
+
+-- so is one without a step that is good
+pub closed_end : (c : Client) (t : Table) (states : List State) (n : ℕ) (s : State) → slice_get states n ≡ Some s → IsChoice c t s 0 → IsGoodAt c states n → IsWorkedAt c t states n
+closed_end c t states n s here is good x at =
+    let one : good.state ≡ s = same_Some good.state s (sym good.at ∙ here) in
+    let this : IsWorked c t states s = record {
+      moves = nobody_followed c t s states is;
+      unstopped = λ over. subst HasNoStopped one good.unstopped;
+      explained = λ over. subst (λ (y : State). HasOrder c.mode c.capacity y.history) one good.explained;
+    } in
+    subst (IsWorked c t states) (same_Some s x (sym here ∙ at)) this
+
+-- the initial state alone
+pub started_begun : (c : Client) (states : List State) → IsStarted c states → HasBegun c states
+started_begun c states started = has_begun c states [] (begun_first c states started)
+
+-- with a state that is met
+pub begun_with : (c : Client) (old new : List State) (s : State) (b : Bool) → HasBegun c old → IsMet c s → new ≡ grown old s b → HasBegun c new
+begun_with c old new s false begun met is = subst (HasBegun c) (sym is) begun
+begun_with c old new s true begun met is = subst (HasBegun c) (sym is) (record {
+  initial = begun.initial;
+  initial_at = old_item old s begun.initial 0 begun.initial_at;
+  initial_is = begun.initial_is;
+  met = λ n x here. of_longer old s x n here (λ e. begun.met n x e) (λ last same. subst (IsMet c) same met);
+})
+
+pub kept_is_met : (c : Client) (k : Kept) → IsKept c k → IsMet c k.state
+kept_is_met c k kept = record { reached = (map actor_of (actors_of k.actors), kept.leads); plausible = kept.plausible }
+
+pub more_met : (c : Client) (limit : ℕ) (states : List State) → HasBegun c states → IsNumbered states → limit < length states → HasMore c limit
+more_met c limit states begun differ more = record { states = states; more = more; differ = differ; reached = λ n s at. (begun.met n s at).reached }

@@ -86,6 +86,18 @@ pub record IsStarted (c : Client) (states : List State) : Type 0 where
   pub only : states ≡ initial ∷ []
   pub initial_is : state_of initial ≡ initial_of c
 
--- all states are worked
-abbrev pub AreSearched : Client → Table → List State → Type 0
-AreSearched c t states = (origins : List Origin) × IsSearched c t states origins (length states)
+-- the first of the states is the initial one, and all are met
+pub record HasBegun (c : Client) (states : List State) : Type 0 where
+  pub initial : State
+  pub initial_at : slice_get states 0 ≡ Some initial
+  pub initial_is : state_of initial ≡ initial_of c
+  pub met : AllMet c states
+
+-- where there is a state with this number, it is worked
+abbrev pub IsWorkedAt : Client → Table → List State → ℕ → Type 0
+IsWorkedAt c t states n = (s : State) → slice_get states n ≡ Some s → IsWorked c t states s
+
+-- and all of them are worked
+pub record AreSearched (c : Client) (t : Table) (states : List State) : Type 0 where
+  pub begun : HasBegun c states
+  pub worked : (n : ℕ) → IsWorkedAt c t states n

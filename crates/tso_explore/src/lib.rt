@@ -1,14 +1,17 @@
 //! The search of a client's states: a certificate that all runs are good, or the trace of one that is not.
 #![tactic(auto)]
 
+mod closing;
 mod cutting;
 mod ending;
 mod exploring;
 mod following;
+mod merging;
 mod origin;
 mod outcome;
 mod searching;
 mod shelves;
+mod showing;
 mod stop;
 mod way;
 

@@ -1,5 +1,5 @@
 use Rattle.std.proofs.Common.{◌∙◌, subst, sym}
-use Rattle.tso_explore.proofs.SearchLemmas.{searched_first}
+use Rattle.tso_explore.proofs.SearchLemmas.{all_searched, searched_first}
 use Rattle.tso_explore.specs.Searched.{IsStop}
 use Rattle.tso_explore.proofs.exploring.found_from.Goals as goal
 
@@ -7,7 +7,7 @@ pub search-requires-clause-searched : goal.search-requires-clause-searched
 search-requires-clause-searched g c = searched_first c.args.checked.now.client c.args.table c.args.store.states c.new-origins.result.items c.requires.started c.new-origins.ensures.items
 
 pub certificate_of-requires-clause-searched : goal.certificate_of-requires-clause-searched
-certificate_of-requires-clause-searched g c = (c.search.new.origins.items, c.in-Ok.ensures.searched)
+certificate_of-requires-clause-searched g c = all_searched c.args.checked.now.client c.args.table c.search.new.store.states c.search.new.origins.items c.in-Ok.ensures.searched
 
 pub certificate_of-requires-clause-few : goal.certificate_of-requires-clause-few
 certificate_of-requires-clause-few g c = c.in-Ok.ensures.few

@@ -1,0 +1,5 @@
+use Rattle.tso_explore.specs.Searched.{AreFollowed}
+use Rattle.tso_explore.proofs.closing.are_followed.Given as goal
+
+abbrev pub invariant-loop-k : goal.invariant-loop-k
+invariant-loop-k l = AreFollowed l.store.client l.store.states l.store.states l.number l.set l.k

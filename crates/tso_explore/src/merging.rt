@@ -1,0 +1,89 @@
+//! The states of all shards in one store.
+
+ghost use Rattle.std.specs.Prelude.{◌≡◌, OnOk, IfOk};
+ghost use Rattle.tso_explore.specs.Searched.{HasBegun};
+ghost use Rattle.tso_table.specs.Leading.{IsKept};
+
+use crate::exploring::started;
+use std::alloc::{AllocError, Global};
+use tso_flow::Checked;
+use tso_foot::Table as Footprints;
+use tso_store::{AddError, Store};
+use tso_table::{Kept, Table};
+
+/// Adds a state that is reached. One that a store cannot keep is left out.
+///
+/// Errors: where a growth was refused.
+pub fn add_met(checked: &Checked, store: &mut Store<'_>, kept: &Kept) -> Result<(), AllocError>
+    requires client { store.old.client ≡ checked.now.client }
+    requires begun { HasBegun checked.now.client store.old.states }
+    requires kept { IsKept checked.now.client kept.now }
+    ensures begun { OnOk result (HasBegun checked.now.client store.new.states) }
+    ensures client { store.new.client ≡ store.old.client }
+{
+    match store.add(&kept.state) {
+        Ok(_) => Ok(()),
+        Err(AddError::Memory) => Err(AllocError),
+        Err(AddError::Misfit) => Ok(()),
+        Err(AddError::Full) => Ok(()),
+    }
+}
+
+// Adds the states of one table of this client.
+fn add_table(
+    alloc: Global,
+    checked: &Checked,
+    store: &mut Store<'_>,
+    table: &Table<'_>,
+) -> Result<(), AllocError>
+    requires client { store.old.client ≡ checked.now.client }
+    requires table { table.now.client ≡ checked.now.client }
+    requires begun { HasBegun checked.now.client store.old.states }
+    ensures begun { OnOk result (HasBegun checked.now.client store.new.states) }
+    ensures client { store.new.client ≡ store.old.client }
+{
+    for place in 0..table.len() {
+        if let Some(kept) = table.kept(alloc, place as u32)? {
+            add_met(checked, store, &kept)?;
+        }
+    }
+    Ok(())
+}
+
+// Adds the states of all tables that are of this client and this table of footprints.
+fn add_tables(
+    alloc: Global,
+    checked: &Checked,
+    footprints: &Footprints,
+    store: &mut Store<'_>,
+    tables: &[Table<'_>],
+) -> Result<(), AllocError>
+    requires client { store.old.client ≡ checked.now.client }
+    requires begun { HasBegun checked.now.client store.old.states }
+    ensures begun { OnOk result (HasBegun checked.now.client store.new.states) }
+    ensures client { store.new.client ≡ store.old.client }
+{
+    for table in tables {
+        if table.is_for(checked, footprints, table.number()) {
+            add_table(alloc, checked, store, table)?;
+        }
+    }
+    Ok(())
+}
+
+/// A store of the initial state and those of the tables.
+///
+/// Errors: where a growth was refused.
+pub fn merged<'a>(
+    alloc: Global,
+    checked: &'a Checked,
+    footprints: &Footprints,
+    tables: &[Table<'_>],
+) -> Result<Store<'a>, AllocError>
+    ensures client { IfOk result (λ store. store.client ≡ checked.now.client) }
+    ensures begun { IfOk result (λ store. HasBegun checked.now.client store.states) }
+{
+    let mut store = started(alloc, checked)?;
+    add_tables(alloc, checked, footprints, &mut store, tables)?;
+    Ok(store)
+}

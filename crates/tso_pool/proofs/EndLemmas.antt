@@ -1,0 +1,99 @@
+-- Ends of states that are worked.
+use Rattle.std.proofs.Common.{◌≡◌, ◌∙◌, ℕ, ◌<◌, Bool, true, false, List, [], length, get_or, Option, None, Some, slice_get, refl, sym, ap, subst, arith}
+use Rattle.std.specs.Prelude.{All, IfSome, IsTrue, is_some}
+use Rattle.std.specs.Option.{option_map}
+use Rattle.std.proofs.lemmas.Option.{none-some, slice_get-get_or}
+use Rattle.tso_choose.proofs.ChoiceLemmas.{chosen_are_valid}
+use Rattle.tso_choose.specs.Choices.{AreChosen, AreReasons, actors_of}
+use Rattle.tso_choose.specs.Needs.{is_enabled}
+use Rattle.tso_choose.specs.declared.choice.Choice.{Choice}
+use Rattle.tso_compact.specs.Plans.{HasStep, kind_of_move}
+use Rattle.tso_foot.specs.declared.table.Table.{Table}
+use Rattle.tso_judge.specs.Conditions.{HasNoStopped, IsExplained, IsOver}
+use Rattle.tso_judge.specs.Judging.{AreMet}
+use Rattle.tso_machine.specs.Programs.{program_of}
+use Rattle.tso_model.specs.Steps as model
+use Rattle.tso_pool.proofs.NumberLemmas.{all_named}
+use Rattle.tso_pool.specs.Numbering.{AreNumbered}
+use Rattle.tso_pool.specs.declared.moves.Moves.{Moves}
+use Rattle.tso_prog.specs.declared.client.Client.{Client}
+use Rattle.tso_rec.specs.declared.record.End.TheVariants.{Choices, Order}
+use Rattle.tso_state.specs.Actors.{actor_of}
+use Rattle.tso_state.specs.Views.{state_of}
+use Rattle.tso_state.specs.WellFormed.{IsWellFormed}
+use Rattle.tso_state.specs.declared.actor.Actor.{Actor}
+use Rattle.tso_state.specs.declared.state.State.{State}
+use Rattle.tso_table.specs.Ends.{AreNear, IsEnd}
+use Rattle.tso_table.specs.Leading.{IsKept}
+use Rattle.tso_table.specs.declared.kept.Kept.{Kept}
+use Rattle.tso_table.specs.declared.slot.Filed.{Filed}
+use Rattle.tso_fifo.specs.declared.order.Placed.{Placed}
+
+pub well_formed : (c : Client) (k : Kept) → IsKept c k → IsWellFormed c k.state
+well_formed c k kept = kept.plausible.well_formed
+
+enabled_by : {X Y Z : Type 0} (f : X → Y) (k : X → Z) (o : Option X) → is_some (option_map k o) ≡ true → is_some (option_map f o) ≡ true
+enabled_by f k None e = e
+enabled_by f k (Some m) e = refl
+
+pub enabled_has : (c : Client) (s : State) (a : Actor) → IsTrue (is_enabled c s a) → HasStep c s a
+enabled_has c s a e = enabled_by (model.perform (state_of s) (model.thread_of (actor_of a))) kind_of_move (model.move (program_of c) (state_of s) (actor_of a)) e
+
+pub item_at : {X : Type 0} (xs : List X) (i : ℕ) (x : X) → i < length xs → x ≡ get_or xs i x → slice_get xs i ≡ Some x
+item_at xs i x lt is = slice_get-get_or xs i x lt ∙ ap Some (sym is)
+
+-- a chosen actor has a step
+pub chosen_has : (c : Client) (t : Table) (k : Kept) (choices : List Choice) (i : ℕ) (x : Choice) → IsKept c k → AreChosen c t k.state choices → i < length choices → x ≡ get_or choices i x → HasStep c k.state x.actor
+chosen_has c t k choices i x kept chosen lt is = enabled_has c k.state x.actor ((chosen_are_valid c t k.state choices (well_formed c k kept) chosen).enabled i x (item_at choices i x lt is))
+
+-- what holds anyway
+pub both_some : {X A : Type 0} (Q : X → Type 0) (o : Option X) → A → IfSome o Q → IfSome o (λ x. A × Q x)
+both_some Q None a q = tt
+both_some Q (Some x) a q = (a, q)
+
+-- where nothing is chosen no actor has a step
+pub none_over : (c : Client) (t : Table) (s : State) (choices : List Choice) → IsWellFormed c s → AreChosen c t s choices → length choices ≡ 0 → IsOver c s
+none_over c t s choices w chosen none a = by_case (is_enabled c s a) refl
+  where
+    by_case : (b : Bool) → is_enabled c s a ≡ b → b ≡ false
+    by_case false e = refl
+    by_case true e = absurd (let some = (chosen_are_valid c t s choices w chosen).some a e in omega (arith, none, some))
+
+all_of : {X : Type 0} (P : X → Type 0) (xs : List X) → ((k : ℕ) (x : X) → slice_get xs k ≡ Some x → P x) → All P xs
+all_of P xs each k d lt = each k (get_or xs k d) (slice_get-get_or xs k d lt)
+
+chosen_met : (c : Client) (t : Table) (s : State) (choices : List Choice) → IsWellFormed c s → AreChosen c t s choices → 0 < length choices → AreMet c t (Unit {0}) s (Choices choices)
+chosen_met c t s choices w chosen some =
+    let valid = chosen_are_valid c t s choices w chosen in
+    record {
+      well_formed = w;
+      fits = record { some = some; rising = valid.rising; enabled = all_of (λ (x : Choice). IsTrue (is_enabled c s x.actor)) choices valid.enabled };
+      reasons = all_of (λ (x : Choice). AreReasons c t s (actors_of choices) x.actor x.reasons) choices valid.reasons;
+      successors = tt;
+      unstopped = tt;
+      explained = tt;
+    }
+
+-- chosen actors with the numbers of the states after their steps are an end
+pub chosen_end : (c : Client) (t : Table) (own : ℕ) (k : Kept) (choices : List Choice) (m : Moves) → IsKept c k → AreChosen c t k.state choices → 0 < length choices
+    → AreNumbered c own k.state choices m → length m.numbers ≡ length choices → IsEnd c t k.state (record { end = Choices choices; numbers = m.numbers })
+chosen_end c t own k choices m kept chosen some are all = record {
+  met = chosen_met c t k.state choices (well_formed c k kept) chosen some;
+  named = all_named c k.state choices m.numbers all are.named;
+}
+
+-- so is an order, where no actor has a step
+pub order_end : (c : Client) (t : Table) (k : Kept) (order : List Placed) (f : Filed) → IsKept c k → IsOver c k.state → HasNoStopped k.state × IsExplained c k.state (Order order)
+    → f ≡ record { end = Order order; numbers = [] } → IsEnd c t k.state f
+order_end c t k order f kept over (unstopped, explained) is =
+    let P : Filed → Type 0 = λ g. IsEnd c t k.state g in
+    subst P (sym is) (record {
+      met = record { well_formed = well_formed c k kept; fits = over; reasons = tt; successors = tt; unstopped = unstopped; explained = explained };
+      named = tt;
+    })
+
+-- which has no successors
+pub order_near : (c : Client) (own : ℕ) (s : State) (order : List Placed) (f : Filed) → f ≡ record { end = Order order; numbers = [] } → AreNear c own s f []
+order_near c own s order f is =
+    let P : Filed → Type 0 = λ g. AreNear c own s g [] in
+    subst P (sym is) (record { only = λ i d lt. absurd (omega (arith, lt)); every = λ i x n move. absurd (none-some x move.choice) })

@@ -1,0 +1,6 @@
+pub mod ClientLemmas
+pub mod KeptLemmas
+pub mod RowLemmas
+pub mod SoundLemmas
+pub mod StateLemmas
+pub mod SumLemmas

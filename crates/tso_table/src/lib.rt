@@ -1,0 +1,23 @@
+//! A table of numbered states in shards, each to be kept in a lock of its own, with one budget for all.
+#![tactic(auto)]
+
+mod budget;
+mod errors;
+mod kept;
+mod number;
+mod rows;
+mod same;
+mod settling;
+mod shard;
+mod slot;
+mod steps;
+mod table;
+
+pub use budget::{ALLOTMENT, Budget};
+pub use errors::{FinishError, InternError};
+pub use kept::Kept;
+pub use number::{Number, SHARDS, shard_of};
+pub use settling::{close_all, open_all, settle};
+pub use shard::{Rest, Shard};
+pub use slot::{Filed, Near, Slot};
+pub use table::Table;

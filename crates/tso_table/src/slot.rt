@@ -1,0 +1,31 @@
+//! What is kept with each state of a table.
+
+use crate::number::Number;
+use tso_list::Seq;
+use tso_rec::End;
+use tso_state::State;
+
+/// The end of a state's record, with the number of the state after each chosen step, in the order of the choices.
+#[derive(Debug, Drop)]
+pub struct Filed {
+    pub end: End,
+    pub numbers: Seq<Number>,
+}
+
+/// How far a state is worked.
+#[derive(Debug, Drop)]
+pub enum Slot {
+    /// No worker has it.
+    Waiting,
+    /// A worker has it.
+    Claimed,
+    /// Its end is filed.
+    Done(Filed),
+}
+
+/// A state that belongs to a shard, with its place there.
+#[derive(Debug, Drop)]
+pub struct Near {
+    pub place: u32,
+    pub state: State,
+}
