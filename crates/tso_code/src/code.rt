@@ -227,8 +227,20 @@ pub fn read_index(bytes: &[u8]) -> Result<(usize, &[u8]), ReadError>
     }
 }
 
+// Below so many items, the first makes room for all of them, and for no more: lists of states are short and many.
+const FEW: u64 = 4;
+
+fn make_room<T>(items: &mut Vec<T>, count: u64) -> Result<(), AllocError>
+    ensures { items.new.items ≡ items.old.items }
+{
+    if count < FEW && items.is_empty() {
+        items.reserve_exact(count as usize)?;
+    }
+    Ok(())
+}
+
 /// So many items, one after the other, and the bytes after them. However many are asked for, room is made only for items that
-/// were read.
+/// were read, and for two more at most.
 pub fn read_items<T: Code>(
     alloc: Global,
     count: u64,
@@ -242,6 +254,7 @@ pub fn read_items<T: Code>(
     let mut rest = bytes;
     for _ in 0..count {
         let (item, after) = T::read(alloc, rest)?;
+        make_room(&mut items, count)?;
         items.push(item)?;
         rest = after;
     }

@@ -4,7 +4,7 @@ use Rattle.std.proofs.lemmas.List.{append-nil, drop_all}
 use Rattle.std.specs.Prelude.{find}
 use Rattle.std.specs.Option.{option_map}
 use Rattle.std.specs.Str.{bytes_eq}
-use Rattle.tso_prog.specs.declared.draft.Target.{Target}
+use Rattle.tso_prog.specs.declared.named.Target.{Target}
 use Rattle.tso_prog.specs.declared.draft.Unresolved.{Unresolved}
 use Rattle.tso_line.specs.declared.instruction.Instruction.{Instruction}
 use Rattle.tso_line.specs.declared.instruction.Instruction.TheVariants as instructions

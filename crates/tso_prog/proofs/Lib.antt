@@ -2,6 +2,7 @@ pub mod Maps
 pub mod Lines
 pub mod Labels
 pub mod First
+pub mod Names
 pub mod Only
 pub mod Placing
 pub mod Keeping

@@ -3,7 +3,7 @@ use Rattle.std.specs.Prelude.{map}
 use Rattle.tso_line.specs.Instructions.{renamed}
 use Rattle.tso_prog.specs.declared.client.Array.{Array}
 use Rattle.tso_prog.specs.declared.draft.Declared.{Declared}
-use Rattle.tso_prog.specs.declared.draft.Target.{Target}
+use Rattle.tso_prog.specs.declared.named.Target.{Target}
 use Rattle.tso_prog.specs.declared.draft.Unresolved.{Unresolved}
 use Rattle.tso_prog.specs.declared.draft.Body.{Body}
 use Rattle.tso_prog.specs.declared.draft.Draft.{Draft}
@@ -19,7 +19,7 @@ abbrev pub step_view : Unresolved → StepOf
 step_view s = record { instruction = renamed (λ a. a) (λ l. l.now) s.instruction; line = s.line }
 
 abbrev pub body_view : Body → BodyOf
-body_view b = record { labels = map target_view b.labels.items; steps = map step_view b.steps.items }
+body_view b = record { labels = map target_view b.labels; steps = map step_view b.steps.items }
 
 -- what a draft has so far
 abbrev pub content : Draft → Content

@@ -9,6 +9,7 @@ pub mod Finish
 pub mod LexFaults
 pub mod Limited
 pub mod Limits
+pub mod Names
 pub mod Parts
 pub mod Program
 pub mod Refusals

@@ -3,13 +3,13 @@
 ghost use Rattle.std.specs.Prelude.{◌≡◌, ◌≤◌, position, OnOk, None};
 ghost use Rattle.tso_line.specs.Instructions.{renamed};
 ghost use Rattle.tso_prog.specs.After.{after, numbered, number_or_0, with_label, with_step};
-ghost use Rattle.std.specs.List.{list_any};
 ghost use Rattle.std.specs.Str.{bytes_eq};
 ghost use Rattle.tso_line.specs.Lines.{view};
 ghost use Rattle.tso_prog.specs.Contents.{opened};
 ghost use Rattle.tso_prog.specs.Faults.{may_stand, fault_at, is_in_part, repeats, lacks_array, passes_calls, passes_limit, array_number};
 
 use crate::fault::Code;
+use crate::named::{Labels, Target};
 use std::alloc::{AllocError, Global};
 use tso_line::{CallKind, Instruction, Kind, Line, Mode, Slip};
 use tso_list::Seq;
@@ -35,13 +35,6 @@ pub struct Declared<'a> {
     pub words: Seq<u64>,
 }
 
-/// A label, before the instruction of this number.
-#[derive(Clone, Copy, Debug)]
-pub struct Target<'a> {
-    pub name: &'a [u8],
-    pub at: usize,
-}
-
 /// An instruction whose label is a name, and its line.
 #[derive(Clone, Copy, Debug)]
 pub struct Unresolved<'a> {
@@ -52,7 +45,7 @@ pub struct Unresolved<'a> {
 /// A procedure so far.
 #[derive(Debug, Drop)]
 pub struct Body<'a> {
-    pub labels: Vec<Target<'a>>,
+    pub labels: Labels<'a>,
     pub steps: Vec<Unresolved<'a>>,
 }
 
@@ -128,12 +121,6 @@ fn find_array(arrays: &[Declared], name: &[u8]) -> Option<usize>
     arrays.iter().position(|array| array.name == name)
 }
 
-fn has_label(labels: &[Target], name: &[u8]) -> bool
-    ensures { result ≡ list_any (λ l. bytes_eq l.name.now name.now) labels.now }
-{
-    labels.iter().any(|label| label.name == name)
-}
-
 impl<'a> Draft<'a> {
     ghost use Rattle.tso_prog.specs.Content.{content, body_view};
     ghost use Rattle.tso_prog.specs.Start.{start};
@@ -148,11 +135,11 @@ impl<'a> Draft<'a> {
             arrays: Vec::new(alloc),
             word_count: 0,
             push: Body {
-                labels: Vec::new(alloc),
+                labels: Labels::new(alloc),
                 steps: Vec::new(alloc),
             },
             pop: Body {
-                labels: Vec::new(alloc),
+                labels: Labels::new(alloc),
                 steps: Vec::new(alloc),
             },
             prologue: Seq::new(alloc),
@@ -197,7 +184,7 @@ impl<'a> Draft<'a> {
     {
         match line {
             Line::Array { name, .. } => self.array_number(name).is_some(),
-            Line::Target(name) => has_label(&self.open().labels, name),
+            Line::Target(name) => self.open().labels.contains(name),
             _ => false,
         }
     }

@@ -12,8 +12,9 @@ ghost use Rattle.tso_prog.specs.Limited.{IsProcedure, IsLimited, IsPrintable, is
 ghost use Rattle.tso_prog.specs.Limits.{are_arrays_below};
 
 use crate::client::{Array, Client, Procedure, Step};
-use crate::draft::{Body, Declared, Draft, Part, Target, Unresolved};
+use crate::draft::{Body, Declared, Draft, Part, Unresolved};
 use crate::fault::{Code, Fault, ReadError};
+use crate::named::Target;
 use std::alloc::{AllocError, Global};
 use tso_list::Seq;
 
@@ -59,11 +60,11 @@ fn with_position(labels: &[Target], step: &Unresolved) -> Result<Step, ReadError
 
 // The instructions of a procedure with their labels as positions.
 fn with_positions(alloc: Global, body: &Body) -> Result<Vec<Step>, ReadError>
-    ensures { Gives (λ v. v.items) result (labelled (map target_view body.now.labels.items) (map step_view body.now.steps.items)) }
+    ensures { Gives (λ v. v.items) result (labelled (map target_view body.now.labels) (map step_view body.now.steps.items)) }
 {
     let mut steps = Vec::new(alloc);
     for step in &body.steps {
-        steps.push(with_position(&body.labels, step)?)?;
+        steps.push(with_position(body.labels.as_slice(), step)?)?;
     }
     Ok(steps)
 }

@@ -7,6 +7,7 @@ mod copy;
 mod draft;
 mod fault;
 mod finish;
+mod named;
 mod text;
 
 pub use answer::Answer;
@@ -16,6 +17,3 @@ pub use text::read;
 pub use tso_line::{
     Address, CallKind, Comparison, Instruction, LockedOperation, Mode, Operation, Register, Source,
 };
-
-#[cfg(test)]
-mod tests;

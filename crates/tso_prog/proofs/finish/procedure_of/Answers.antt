@@ -9,7 +9,7 @@ use Rattle.tso_prog.proofs.finish.procedure_of.Goals as goal
 pub invariant_of-result : goal.invariant_of-result
 invariant_of-result c =
     let body = c.args.body.now in
-    let labels = map target_view body.labels.items in
+    let labels = map target_view body.labels in
     let steps = map step_view body.steps.items in
     let made : labelled labels steps ≡ Ok c.in_ok-steps.steps.items = c.in_ok-steps.ensures in
     record {
@@ -26,4 +26,4 @@ returns-clause-lines c = rw (c.from_vec-2.ensures, c.in_ok-numbers.ensures, c.de
 pub returns-clause-arrays : goal.returns-clause-arrays
 returns-clause-arrays c = λ count h.
     let body = c.args.body.now in
-    rw c.from_vec.ensures (steps_below count (map target_view body.labels.items) (map step_view body.steps.items) c.in_ok-steps.steps.items h c.in_ok-steps.ensures)
+    rw c.from_vec.ensures (steps_below count (map target_view body.labels) (map step_view body.steps.items) c.in_ok-steps.steps.items h c.in_ok-steps.ensures)

@@ -6,4 +6,4 @@ use Rattle.tso_prog.proofs.finish.with_positions.Given as goal
 
 abbrev pub invariant-loop-step : goal.invariant-loop-step
 invariant-loop-step l =
-    with_front l.steps.items (labelled (map target_view l.body.labels.items) (map step_view (drop l.step-index l.step-items))) ≡ labelled (map target_view l.body.labels.items) (map step_view l.step-items)
+    with_front l.steps.items (labelled (map target_view l.body.labels) (map step_view (drop l.step-index l.step-items))) ≡ labelled (map target_view l.body.labels) (map step_view l.step-items)
