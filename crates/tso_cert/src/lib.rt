@@ -6,8 +6,6 @@ mod decoding;
 mod encoding;
 mod fault;
 mod lookup;
-#[cfg(test)]
-mod tests;
 mod workers;
 
 pub use cert::Cert;

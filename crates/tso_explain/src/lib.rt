@@ -5,8 +5,6 @@ mod certificates;
 mod meanings;
 mod pages;
 mod programs;
-#[cfg(test)]
-mod tests;
 mod topic;
 mod traces;
 

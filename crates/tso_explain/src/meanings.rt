@@ -13,7 +13,8 @@ pub const E03: &str =
     "The line is none of the lines that a program text can have here: a piece of it is missing or one too many, a
 number is misspelled (decimal without leading zeros, or 0x and lower case digits), it stands outside its part of the text
 (first .capacity and .mode, then .array lines, .push to .end, .pop to .end, perhaps .before, and .thread lines), or an array
-has not as many values as words.";
+has not as many values as words. Memory is written `qword ptr [tail]` or `qword ptr [buf + rdx*8]`, and a comment begins with
+`;`.";
 
 pub const E04: &str =
     "A word is no instruction, register or condition of the language, or the instruction does not take these operands:

@@ -3,16 +3,12 @@
 
 mod candidate;
 mod check;
-#[cfg(test)]
-mod compare;
 mod contents;
 mod laws;
 mod memory;
 mod order;
 mod queue;
 mod search;
-#[cfg(test)]
-mod tests;
 
 pub use check::is_linearization;
 pub use laws::{

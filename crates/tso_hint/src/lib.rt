@@ -8,8 +8,6 @@ mod place;
 mod reading;
 mod source;
 mod suspect;
-#[cfg(test)]
-mod tests;
 
 pub use ahead::{Next, buffer_next, core_next};
 pub use place::{Place, place_of_fault, place_of_location};

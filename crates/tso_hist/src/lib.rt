@@ -5,8 +5,6 @@ mod call;
 mod exact;
 mod history;
 mod laws;
-#[cfg(test)]
-mod tests;
 
 pub use call::Call;
 pub use history::History;

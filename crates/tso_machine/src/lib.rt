@@ -17,8 +17,6 @@ mod machine;
 mod offer;
 mod place;
 mod step;
-#[cfg(test)]
-mod tests;
 
 pub use access::{exchanged, latest, loaded, moved, new_word};
 pub use action::{Action, FaultKind, back_jumps, next_action, procedure_of};

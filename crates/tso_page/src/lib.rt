@@ -8,8 +8,6 @@ mod lanes;
 mod laws;
 mod page;
 mod parts;
-#[cfg(test)]
-mod tests;
 
 pub use data::push_state_data;
 pub use escape::{push_data, push_escaped};

@@ -10,6 +10,3 @@ mod words;
 
 pub use client::print;
 pub use laws::printed_is_read_back;
-
-#[cfg(test)]
-mod tests;

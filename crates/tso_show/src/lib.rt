@@ -11,8 +11,6 @@ mod print;
 mod replayed;
 mod site;
 mod state;
-#[cfg(test)]
-mod tests;
 mod unordered;
 mod walk;
 

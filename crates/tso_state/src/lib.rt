@@ -7,8 +7,6 @@ mod initial;
 mod laws;
 mod order;
 mod state;
-#[cfg(test)]
-mod tests;
 mod viewed;
 mod well_formed;
 

@@ -3,8 +3,6 @@
 
 mod cell;
 mod cursor;
-#[cfg(test)]
-mod damaged;
 mod fault;
 mod good;
 mod grammar;
@@ -14,8 +12,6 @@ mod parts;
 mod reading;
 mod run;
 mod spelling;
-#[cfg(test)]
-mod tests;
 mod trace;
 
 pub use cell::{Cell, cell_of};

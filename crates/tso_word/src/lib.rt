@@ -7,9 +7,6 @@
 ghost use Rattle.std.specs.Prelude.{◌≡◌, ◌==◌, ◌^◌, nat_le};
 ghost use Rattle.tso_word.specs.Word.{sum, difference, bitwise, sum_flags, difference_flags, bitwise_flags, with_carry, holds};
 
-#[cfg(test)]
-mod tests;
-
 /// What an instruction leaves for a condition to read. Flags are ordered as the number ZF + 2 CF + 4 SF + 8 OF.
 #[derive(Clone, Copy, Debug, PartialEq, Eq, PartialOrd, Ord, Hash)]
 pub struct Flags {

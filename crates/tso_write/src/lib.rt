@@ -8,9 +8,6 @@ ghost use Rattle.tso_write.specs.Beginnings.{AppendsBeginning};
 use std::io;
 use std::io::{Error, ErrorKind, Write};
 
-#[cfg(test)]
-mod tests;
-
 /// Writes all of the bytes. A write that was interrupted is tried again.
 ///
 /// Errors: the first other failure of a write, and `WriteZero` where the writer takes nothing. A beginning of the bytes
