@@ -20,7 +20,7 @@ pub struct Search<'a> {
     pub trace: &'a str,
     pub workers: Workers,
     pub limit: StateLimit,
-    /// Whether it is to be said how much was written.
+    /// Whether it is to be said how much was met and written.
     pub stats: bool,
     /// Whether it is to be said how far the search has come.
     pub progress: bool,
@@ -103,7 +103,7 @@ fn verify_command<'a>(alloc: Global) -> Result<Command<'a>, AllocError> {
     let stats = Arg::new(alloc, "stats")
         .long("stats")
         .action(ArgAction::SetTrue)
-        .help("says on standard error how much was written");
+        .help("says on standard error how much was met and written, and in what time");
     let progress = Arg::new(alloc, "progress")
         .long("progress")
         .action(ArgAction::SetTrue)

@@ -49,11 +49,17 @@ impl<'a, R: Clock + Eprint> HostListener<'a, R> {
 }
 
 impl<'a, R: Clock + Eprint> Listener for HostListener<'a, R> {
+    fn elapsed(&self) -> Option<Duration> {
+        match self.rt.monotonic() {
+            Ok(now) => Some(now.saturating_sub(self.started)),
+            Err(_) => None,
+        }
+    }
+
     fn hear(&self, found: u64, left: u64) {
-        let Ok(now) = self.rt.monotonic() else {
+        let Some(since) = self.elapsed() else {
             return;
         };
-        let since = now.saturating_sub(self.started);
         let second_half = u64::from(since.subsec_millis() >= 500);
         let half = since
             .as_secs()

@@ -6,7 +6,7 @@ use crate::report::Wrong;
 use std::alloc::Global;
 use std::io::{ErrorKind, Write};
 use tso_page::{Run, page_of};
-use tso_show::Replayed;
+use tso_show::{Replayed, ShowError};
 
 // Why the page is not written, where a write of it gave this kind of error.
 fn write_failure(alloc: Global, path: &str, kind: ErrorKind) -> Failure {
@@ -47,6 +47,14 @@ pub fn wrong_words(alloc: Global, run: &Replayed) -> Result<Option<String>, Fail
     }
 }
 
+// Why a page is not made. Its bytes are put together in memory, so that a write of them fails for want of memory alone.
+fn page_failure(error: ShowError) -> Failure {
+    match error {
+        ShowError::Write => Failure::Memory,
+        error => error.into(),
+    }
+}
+
 /// Writes a run as a page to a new file.
 ///
 /// Errors: `CannotWrite` where the file failed; `Memory`.
@@ -56,6 +64,6 @@ pub fn write_page<F: Files>(
     run: &Run<'_>,
     path: &str,
 ) -> Result<(), Failure> {
-    let page = page_of(alloc, run)?;
+    let page = page_of(alloc, run).map_err(page_failure)?;
     write_file(alloc, files, path, &page)
 }

@@ -46,9 +46,12 @@ impl Report {
         }
     }
 
-    /// How much was written.
-    pub fn sizes(&self) -> Sizes {
-        Sizes { report: *self }
+    /// How much was met and written, of a search that met so many states.
+    pub fn sizes(&self, states: u64) -> Sizes {
+        Sizes {
+            report: *self,
+            states,
+        }
     }
 }
 
@@ -68,14 +71,17 @@ impl fmt::Display for Report {
     }
 }
 
-/// How much was written, as it is printed.
+/// How much was met and written, as it is printed.
 #[derive(Clone, Copy, Debug)]
 pub struct Sizes {
     report: Report,
+    states: u64,
 }
 
 impl fmt::Display for Sizes {
     fn fmt<W: fmt::Write>(&self, f: &mut fmt::Formatter<W>) -> fmt::Result {
+        let states = self.states;
+        writeln!(f, "states: {states}")?;
         match self.report {
             Report::Certified { records, bytes } => {
                 writeln!(f, "records: {records}\nbytes: {bytes}")

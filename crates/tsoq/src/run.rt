@@ -60,6 +60,7 @@ fn verdict_status(verdict: Verdict) -> u8
     }
 }
 
+// The page is written first: where a file fails, nothing was printed.
 fn replay<F: Files, O: Write>(
     alloc: Global,
     files: &mut F,
@@ -71,10 +72,6 @@ fn replay<F: Files, O: Write>(
     let client = tso_prog::read(alloc, &program)?;
     let checked = tso_flow::check(alloc, client)?;
     let run = run_of(alloc, &checked, &text, TRACE_BYTES, asked.partial)?;
-    print_run(alloc, out, &checked, &program, &run, asked)?;
-    let Some(path) = asked.html else {
-        return Ok(());
-    };
     let name = String::from_str(alloc, asked.program)?;
     let words = wrong_words(alloc, &run)?;
     let wrong = words.as_deref();
@@ -85,7 +82,10 @@ fn replay<F: Files, O: Write>(
         name: name.as_str(),
         wrong,
     };
-    write_page(alloc, files, &shown, path)
+    if let Some(path) = asked.html {
+        write_page(alloc, files, &shown, path)?;
+    }
+    print_run(alloc, out, &checked, &program, &run, asked)
 }
 
 fn check<R: Threads + Wait + Sync, F: Files, O: Write, E: Write>(
@@ -124,7 +124,7 @@ fn explain<O: Write>(alloc: Global, out: &mut O, topic: Topic) -> Result<(), Fai
     out.write_all(&page.bytes).map_err(|_| Failure::CannotPrint)
 }
 
-fn search<R: Threads + Wait + Sync, F: Files, L: Listener, O: Write, E: Write>(
+fn search<R: Threads + Wait + Sync, F: Files, L: Listener + Sync, O: Write, E: Write>(
     rt: &R,
     alloc: Global,
     files: &mut F,
@@ -133,23 +133,25 @@ fn search<R: Threads + Wait + Sync, F: Files, L: Listener, O: Write, E: Write>(
     err: &mut E,
     search: &Search<'_>,
 ) -> Result<u8, Failure> {
+    let begun = listener.elapsed();
     let program = read_file(alloc, files, search.program, PROGRAM_BYTES)?;
-    let watch = Progress {
-        listener,
-        is_wanted: search.progress,
-    };
+    let watch = Progress::new(listener, search.progress);
     let report = verify(rt, alloc, files, &program, search, &watch)?;
+    let times = watch.times(begun);
     print(out, &report.to_string(alloc)?)?;
     if search.stats {
         out.flush().map_err(|_| Failure::CannotPrint)?;
-        let sizes = report.sizes().to_string(alloc)?;
+        let sizes = report.sizes(watch.states()).to_string(alloc)?;
         let _ = err.write_all(sizes.as_bytes());
+        if let Some(times) = times {
+            let _ = err.write_all(times.to_string(alloc)?.as_bytes());
+        }
     }
     Ok(report.status())
 }
 
 // Does what the words ask for, and gives the status.
-fn perform<R: Threads + Wait + Sync, F: Files, L: Listener, O: Write, E: Write>(
+fn perform<R: Threads + Wait + Sync, F: Files, L: Listener + Sync, O: Write, E: Write>(
     rt: &R,
     alloc: Global,
     words: &[String],
@@ -183,7 +185,7 @@ fn perform<R: Threads + Wait + Sync, F: Files, L: Listener, O: Write, E: Write>(
 }
 
 // The same, with all that was printed written out.
-fn perform_all<R: Threads + Wait + Sync, F: Files, L: Listener, O: Write, E: Write>(
+fn perform_all<R: Threads + Wait + Sync, F: Files, L: Listener + Sync, O: Write, E: Write>(
     rt: &R,
     alloc: Global,
     words: &[String],
@@ -210,7 +212,7 @@ fn reported<E: Write>(alloc: Global, err: &mut E, failure: &Failure) -> u8
 
 /// Runs the program: its words, with its own name first; what opens its files; what hears of a search; its standard output and
 /// error. It answers the status with which the process is to end.
-pub fn run<R: Threads + Wait + Sync, F: Files, L: Listener, O: Write, E: Write>(
+pub fn run<R: Threads + Wait + Sync, F: Files, L: Listener + Sync, O: Write, E: Write>(
     rt: &R,
     alloc: Global,
     words: &[String],
@@ -247,13 +249,18 @@ pub fn run_process<
     R: Threads + Wait + Sync,
     S: Env + Alloc<A = Global>,
     F: Files,
-    L: Listener,
+    L: Listener + Sync,
     O: Write + Drop,
     E: Write,
 >(rt: &R, system: &S, files: &mut F, listener: &L, out: O, err: &mut E) -> u8 {
     let alloc = system.alloc();
     match started(system, out) {
-        Ok((words, mut out)) => { run(rt, alloc, words.as_slice(), files, listener, &mut out, err) }
+        Ok((words, mut out)) => {
+            let status = run(rt, alloc, words.as_slice(), files, listener, &mut out, err);
+            // Where the run failed, nothing is written any more of what waits in the buffer.
+            let _waiting = out.into_parts();
+            status
+        }
         Err(failure) => reported(alloc, err, &failure),
     }
 }

@@ -13,6 +13,7 @@ use std::process::Abort;
 use std::sync::Wait;
 use std::test::Fail;
 use std::thread::Threads;
+use std::time::Duration;
 use tso_cert::Watch;
 use tso_samples::{
     EXCHANGE, EXCHANGE_TRACE, LAMPORT, LAMPORT_TRACE, ONE_REFUSAL, ONE_REFUSAL_STRICT, OWN_STORE,
@@ -65,6 +66,10 @@ pub struct Deaf;
 
 impl Listener for Deaf {
     fn hear(&self, _found: u64, _left: u64) {}
+
+    fn elapsed(&self) -> Option<Duration> {
+        None
+    }
 }
 
 // A stream that takes nothing.
@@ -495,7 +500,7 @@ fn sizes_are_told(rt: HostRuntime) -> Result<(), Fail> {
     let found = outcome_of(&rt, rt.alloc(), &words, ONE_REFUSAL.as_bytes(), b"")?;
     assert_eq!(rt;
         found.err.as_slice(),
-        b"records: 4\nbytes: 111\n".as_slice()
+        b"states: 4\nrecords: 4\nbytes: 111\n".as_slice()
     );
     assert_eq!(rt; found.status, 0);
     Ok(())
@@ -506,6 +511,8 @@ fn sizes_are_told(rt: HostRuntime) -> Result<(), Fail> {
 struct Heard {
     found: Cell<u64>,
     left: Cell<u64>,
+    // In milliseconds.
+    now: Cell<u64>,
 }
 
 impl Listener for Heard {
@@ -513,26 +520,56 @@ impl Listener for Heard {
         self.found.set(found);
         self.left.set(left);
     }
+
+    fn elapsed(&self) -> Option<Duration> {
+        Some(Duration::from_millis(self.now.get()))
+    }
+}
+
+// Has heard nothing.
+fn silent() -> Heard {
+    Heard {
+        found: Cell::new(0),
+        left: Cell::new(0),
+        now: Cell::new(0),
+    }
 }
 
 #[test]
 fn listeners_hear_now_and_then(rt: HostRuntime) {
-    let heard = Heard {
-        found: Cell::new(0),
-        left: Cell::new(0),
-    };
-    let mut watch = Progress {
-        listener: &heard,
-        is_wanted: false,
-    };
-    watch.met(10_000, 10_000 - 8192);
+    let heard = silent();
+    Progress::new(&heard, false).met(10_000, 10_000 - 8192);
     assert_eq!(rt; heard.found.get(), 0);
-    watch.is_wanted = true;
+    let watch = Progress::new(&heard, true);
     watch.met(10_000, 10_000 - 8191);
     assert_eq!(rt; heard.found.get(), 0);
     watch.met(10_000, 10_000 - 8192);
     assert_eq!(rt; heard.found.get(), 10_000);
     assert_eq!(rt; heard.left.get(), 1_808);
+    assert_eq!(rt; watch.states(), 10_000);
+}
+
+#[test]
+fn parts_of_the_time_are_told(rt: HostRuntime) -> Result<(), Fail> {
+    let heard = silent();
+    let watch = Progress::new(&heard, false);
+    for (now, left) in [(100, 4_096), (350, 1)] {
+        heard.now.set(now);
+        watch.met(8_192, left);
+    }
+    heard.now.set(1_400);
+    watch.answer();
+    heard.now.set(1_450);
+    assert!(rt; watch.times(None).is_none());
+    let times = watch.times(Some(Duration::from_millis(50)));
+    assert!(rt; times.is_some());
+    if let Some(times) = times {
+        assert_eq!(rt;
+            times.to_string(rt.alloc())?.as_str(),
+            "searched: 300 ms\ncomposed: 1050 ms\nwritten: 50 ms\n"
+        );
+    }
+    Ok(())
 }
 
 #[test]
@@ -602,8 +639,35 @@ impl<'a> Env for System<'a> {
     }
 }
 
-// The status of a process with these words.
-fn process_status<R: Threads + Wait + Sync>(rt: &R, alloc: Global, words: &[&[u8]]) -> u8 {
+// A stream whose first write fails, and that counts the bytes that it takes later.
+#[derive(Drop)]
+struct FailsOnce<'a> {
+    has_failed: &'a Cell<bool>,
+    taken: &'a Cell<usize>,
+}
+
+impl<'a> Write for FailsOnce<'a> {
+    fn write(&mut self, buf: &[u8]) -> io::Result<usize> {
+        if !self.has_failed.get() {
+            self.has_failed.set(true);
+            return Err(Error::from(ErrorKind::StorageFull));
+        }
+        self.taken.set(self.taken.get().saturating_add(buf.len()));
+        Ok(buf.len())
+    }
+
+    fn flush(&mut self) -> io::Result<()> {
+        Ok(())
+    }
+}
+
+// The status of a process with these words and this standard output.
+fn process_status<R: Threads + Wait + Sync, O: Write + Drop>(
+    rt: &R,
+    alloc: Global,
+    words: &[&[u8]],
+    out: O,
+) -> u8 {
     let system = System { alloc, words };
     let paths = RefCell::new(Vec::new(alloc));
     let written = RefCell::new(Vec::new(alloc));
@@ -614,7 +678,6 @@ fn process_status<R: Threads + Wait + Sync>(rt: &R, alloc: Global, words: &[&[u8
         written: &written,
     };
     let mut err = Vec::new(alloc);
-    let out = Vec::new(alloc);
     let status = run_process(rt, &system, &mut files, &Deaf, out, &mut err);
     status
 }
@@ -623,10 +686,23 @@ fn process_status<R: Threads + Wait + Sync>(rt: &R, alloc: Global, words: &[&[u8
 fn words_are_text(rt: HostRuntime) -> Result<(), Fail> {
     let alloc = rt.alloc();
     let right: [&[u8]; 4] = [b"tsoq", b"replay", b"program", b"trace"];
-    assert_eq!(rt; process_status(&rt, alloc, &right), 0);
+    assert_eq!(rt; process_status(&rt, alloc, &right, Vec::new(alloc)), 0);
     let wrong: [&[u8]; 2] = [b"tsoq", b"\xff"];
-    assert_eq!(rt; process_status(&rt, alloc, &wrong), 64);
+    assert_eq!(rt; process_status(&rt, alloc, &wrong, Vec::new(alloc)), 64);
     Ok(())
+}
+
+#[test]
+fn output_that_failed_is_not_written_later(rt: HostRuntime) {
+    let has_failed = Cell::new(false);
+    let taken = Cell::new(0);
+    let out = FailsOnce {
+        has_failed: &has_failed,
+        taken: &taken,
+    };
+    let words: [&[u8]; 4] = [b"tsoq", b"replay", b"program", b"trace"];
+    assert_eq!(rt; process_status(&rt, rt.alloc(), &words, out), 6);
+    assert_eq!(rt; taken.get(), 0);
 }
 
 // Why the trace is refused where it may have so many bytes, if it is.

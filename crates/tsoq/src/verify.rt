@@ -9,13 +9,14 @@ use crate::command::Search;
 use crate::counted::Counted;
 use crate::failure::Failure;
 use crate::files::Files;
+use crate::progress::{Listener, Progress};
 use crate::report::Report;
 use std::alloc::Global;
 use std::io;
 use std::io::{BufWriter, ErrorKind, Write};
 use std::sync::Wait;
 use std::thread::Threads;
-use tso_cert::{Cert, Watch, WriteError};
+use tso_cert::{Cert, WriteError};
 use tso_check::checked_of;
 use tso_explore::{Outcome, explore};
 use tso_foot::Table;
@@ -111,25 +112,27 @@ fn violated<F: Files>(
 ///
 /// Errors: `Program` with the first fault of the text; `Limit` where more states can be reached than the search may meet;
 /// `CannotWrite` where the file failed; `Memory`.
-pub fn verify<R: Threads + Wait + Sync, F: Files, W: Watch>(
+pub fn verify<R: Threads + Wait + Sync, F: Files, L: Listener + Sync>(
     rt: &R,
     alloc: Global,
     files: &mut F,
     program: &[u8],
     search: &Search<'_>,
-    watch: &W,
+    watch: &Progress<'_, L>,
 ) -> Result<Report, Failure>
     ensures { IfOk result (IsReport program.now) }
 {
     let checked = checked_of(alloc, program)?;
-    match explore(
+    let outcome = explore(
         rt,
         alloc,
         &checked,
         search.workers,
         search.limit.count(),
         watch,
-    ) {
+    );
+    watch.answer();
+    match outcome {
         Outcome::Certificate(table, cert) => certified(alloc, files, search.cert, &table, &cert),
         Outcome::Trace(trace) => violated(alloc, files, search.trace, &trace),
         Outcome::LimitReached => Err(Failure::Limit),
