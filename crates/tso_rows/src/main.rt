@@ -15,6 +15,8 @@ mod programs;
 #[cfg(test)]
 mod refusals;
 #[cfg(test)]
+mod searching;
+#[cfg(test)]
 mod steps;
 #[cfg(test)]
 mod texts;
