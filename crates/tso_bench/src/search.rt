@@ -1,5 +1,7 @@
 //! A whole search, and the check of what it finds.
 
+ghost use Rattle.std.specs.Prelude.{◌≤◌};
+
 use std::rt::{Clock, Files};
 use std::sync::Wait;
 use std::thread::Threads;
@@ -30,7 +32,9 @@ fn searched<R: Threads + Wait + Sync + Clock + AllocGlobal>(
     checked: &Checked,
     workers: Workers,
     states: u32,
-) -> io::Result<(Outcome, u64)> {
+) -> io::Result<(Outcome, u64)>
+    requires { states ≤ 4194304 }
+{
     let start = Instant::now(rt)?;
     let outcome = explore(rt, rt.alloc(), checked, workers, states, &NoWatch);
     let time = milliseconds(start.elapsed(rt)?);
@@ -51,7 +55,8 @@ fn search_timed<R: Threads + Wait + Sync + Clock + Print + AllocGlobal>(
     };
     let records = cert.len();
     println!(rt; "search by {count}: {records} records in {time} ms")?;
-    let (_, alone) = searched(rt, checked, workers, records.saturating_sub(1) as u32)?;
+    let fewer = records.saturating_sub(1).min(4_194_304) as u32;
+    let (_, alone) = searched(rt, checked, workers, fewer)?;
     println!(rt; "search by {count} without its certificate: {alone} ms")?;
     Ok(Some((table, cert)))
 }
