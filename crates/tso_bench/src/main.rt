@@ -1,18 +1,15 @@
 //! Benchmarks: how long a text of the greatest length is read, how long orders of calls are sought, how long a trace is walked
-//! forwards and back, how long steps of compact states take, how fast certificates are read and spelled, and how fast a program is
-//! searched and its certificate checked. The time is that of the whole process where no other is printed.
+//! forwards and back, how long steps of compact states take, and how fast certificates are read and spelled. The time is that of
+//! the whole process.
 #![tactic(auto)]
 
 ghost use Rattle.std.specs.Prelude.{◌≡◌, ◌+◌, ◌<◌, ◌≤◌, ◌⊎◌, length, IfOk, IfSome, OnOk, string_len};
 
 use certs::measure;
-use search::measure_search;
 use std::alloc::{AllocError, Global};
 use std::io;
 use std::process::ExitCode;
 use std::rt::{Clock, Files};
-use std::sync::Wait;
-use std::thread::Threads;
 use steps::{Question, count_in_walks};
 use store::{Walked, walk_store};
 use tso_fifo::linearize;
@@ -22,7 +19,6 @@ use tso_samples::{OWN_STORE, OWN_STORE_TRACE, VYUKOV22};
 use tso_trace::{Cursor, Trace};
 
 mod certs;
-mod search;
 mod steps;
 mod store;
 
@@ -158,8 +154,6 @@ enum Benchmark<'a> {
     Store(u32),
     /// The certificate of this file is read and spelled.
     Certs(&'a str),
-    /// The program of this file is searched, and what is found is checked.
-    Search(&'a str),
     /// So many labels are taken.
     Labels(u64),
 }
@@ -188,9 +182,6 @@ fn benchmark_with<'a>(word: &str, behind: &'a String) -> Benchmark<'a> {
     }
     if word == "certs" {
         return Benchmark::Certs(behind.as_str());
-    }
-    if word == "search" {
-        return Benchmark::Search(behind.as_str());
     }
     match question_of(word) {
         Some(question) => Benchmark::Asked(question, number_of(behind)),
@@ -254,7 +245,7 @@ fn print_count<R: Print>(rt: &R, count: u64) -> io::Result<bool> {
 }
 
 // Does what is to be measured. Whether it came out as expected.
-fn run<R: Threads + Wait + Sync + Clock + Files + Print + AllocGlobal>(
+fn run<R: Clock + Files + Print + AllocGlobal>(
     rt: &R,
     benchmark: Benchmark<'_>,
 ) -> io::Result<bool> {
@@ -270,7 +261,6 @@ fn run<R: Threads + Wait + Sync + Clock + Files + Print + AllocGlobal>(
             measure(rt, path)?;
             Ok(true)
         }
-        Benchmark::Search(path) => measure_search(rt, path),
         Benchmark::Labels(labels) => measure_labels(rt, alloc, labels),
     }
 }
