@@ -1,24 +1,32 @@
 //! Benchmarks: how long a text of the greatest length is read, how long orders of calls are sought, how long a trace is walked
-//! forwards and back, how long steps of compact states take, and how fast certificates are read and spelled. The time is that of
-//! the whole process.
+//! forwards and back, how long steps of compact states take, walks through them and whole searches, and how fast certificates are
+//! read and spelled. Where no time is printed, it is that of the whole process.
 #![tactic(auto)]
 
 ghost use Rattle.std.specs.Prelude.{◌≡◌, ◌+◌, ◌<◌, ◌≤◌, ◌⊎◌, length, IfOk, IfSome, OnOk, string_len};
 
+use along::{Along, walk_along};
 use certs::measure;
+use searches::measure_searches;
 use std::alloc::{AllocError, Global};
 use std::io;
 use std::process::ExitCode;
 use std::rt::{Clock, Files};
+use std::sync::Wait;
+use std::thread::Threads;
 use steps::{Question, count_in_walks};
 use store::{Walked, walk_store};
+use tso_cert::Workers;
 use tso_fifo::linearize;
+use tso_flow::Checked;
 use tso_hist::History;
 use tso_prog::{Answer, CallKind, Mode};
 use tso_samples::{OWN_STORE, OWN_STORE_TRACE, VYUKOV22};
 use tso_trace::{Cursor, Trace};
 
+mod along;
 mod certs;
+mod searches;
 mod steps;
 mod store;
 
@@ -135,11 +143,10 @@ fn search_orders(alloc: Global) -> Result<bool, AllocError> {
     Ok(found.is_some() && none.is_none())
 }
 
-// A walk through so many states of two pushers and a popper, with two calls each but for one.
-fn walk_of<R: Clock>(rt: &R, alloc: Global, states: u32) -> Option<Walked> {
+// Two pushers and a popper, with two calls each but for one.
+fn pushers(alloc: Global) -> Option<Checked> {
     let client = tso_prog::read(alloc, VYUKOV22.as_bytes()).ok()?;
-    let checked = tso_flow::check(alloc, client).ok()?;
-    walk_store(rt, alloc, &checked, states)
+    tso_flow::check(alloc, client).ok()
 }
 
 /// What is measured.
@@ -152,6 +159,10 @@ enum Benchmark<'a> {
     Asked(Question, u64),
     /// So many states of a store are left by all their steps, which are then found again.
     Store(u32),
+    /// So many states of a store are left by the steps that a search follows.
+    Along(u32),
+    /// The states of this file's client are searched by so many workers.
+    Search(&'a str, Workers),
     /// The certificate of this file is read and spelled.
     Certs(&'a str),
     /// So many labels are taken.
@@ -180,6 +191,9 @@ fn benchmark_with<'a>(word: &str, behind: &'a String) -> Benchmark<'a> {
     if word == "store" {
         return Benchmark::Store(behind.as_str().parse::<u32>().unwrap_or(0));
     }
+    if word == "along" {
+        return Benchmark::Along(behind.as_str().parse::<u32>().unwrap_or(0));
+    }
     if word == "certs" {
         return Benchmark::Certs(behind.as_str());
     }
@@ -189,8 +203,17 @@ fn benchmark_with<'a>(word: &str, behind: &'a String) -> Benchmark<'a> {
     }
 }
 
+// A search of a file's client by so many workers.
+fn search_by<'a>(path: &'a String, workers: &String) -> Benchmark<'a> {
+    match Workers::new(number_of(workers)) {
+        Some(workers) => Benchmark::Search(path.as_str(), workers),
+        None => Benchmark::Texts,
+    }
+}
+
 fn benchmark_of<'a>(words: &'a [String]) -> Benchmark<'a> {
     match words {
+        [_, word, path, workers] if word.as_str() == "search" => search_by(path, workers),
         [_, word, behind] => benchmark_with(word.as_str(), behind),
         [_, word] if word.as_str() == "orders" => Benchmark::Orders,
         [_, labels] => Benchmark::Labels(number_of(labels)),
@@ -227,15 +250,58 @@ fn measure_labels<R: Print>(rt: &R, alloc: Global, labels: u64) -> io::Result<bo
     Ok(true)
 }
 
+// Prints how long the walk along chosen steps took.
+fn print_along<R: Print>(rt: &R, walked: &Along) -> io::Result<()> {
+    let (states, steps, walked_in) = (walked.states, walked.steps, walked.walked_in);
+    println!(rt; "states: {states}, steps: {steps} in {walked_in} ns")
+}
+
 // Walks through so many states, and prints how long it took. Whether there is such a walk.
-fn measure_store<R: Clock + Print>(rt: &R, alloc: Global, states: u32) -> io::Result<bool> {
-    match walk_of(rt, alloc, states) {
+fn measure_store<R: Clock + Print>(
+    rt: &R,
+    alloc: Global,
+    checked: &Checked,
+    states: u32,
+) -> io::Result<bool> {
+    match walk_store(rt, alloc, checked, states) {
         Some(walked) => {
             print_walk(rt, &walked)?;
             Ok(true)
         }
         None => Ok(false),
     }
+}
+
+// The same along chosen steps.
+fn measure_along<R: Clock + Print>(
+    rt: &R,
+    alloc: Global,
+    checked: &Checked,
+    states: u32,
+) -> io::Result<bool> {
+    match walk_along(rt, alloc, checked, states) {
+        Some(walked) => {
+            print_along(rt, &walked)?;
+            Ok(true)
+        }
+        None => Ok(false),
+    }
+}
+
+// Measures a walk through states of the pushers and the popper.
+fn measure_walk<R: Clock + Print>(
+    rt: &R,
+    alloc: Global,
+    states: u32,
+    is_along: bool,
+) -> io::Result<bool> {
+    let Some(checked) = pushers(alloc) else {
+        return Ok(false);
+    };
+    if is_along {
+        return measure_along(rt, alloc, &checked, states);
+    }
+    measure_store(rt, alloc, &checked, states)
 }
 
 // Prints what came of a benchmark.
@@ -245,7 +311,7 @@ fn print_count<R: Print>(rt: &R, count: u64) -> io::Result<bool> {
 }
 
 // Does what is to be measured. Whether it came out as expected.
-fn run<R: Clock + Files + Print + AllocGlobal>(
+fn run<R: Clock + Files + Print + Threads + Wait + Sync + AllocGlobal>(
     rt: &R,
     benchmark: Benchmark<'_>,
 ) -> io::Result<bool> {
@@ -256,7 +322,12 @@ fn run<R: Clock + Files + Print + AllocGlobal>(
         Benchmark::Asked(question, rounds) => {
             print_count(rt, count_in_walks(alloc, question, rounds)?)
         }
-        Benchmark::Store(states) => measure_store(rt, alloc, states),
+        Benchmark::Store(states) => measure_walk(rt, alloc, states, false),
+        Benchmark::Along(states) => measure_walk(rt, alloc, states, true),
+        Benchmark::Search(path, workers) => {
+            measure_searches(rt, path, workers)?;
+            Ok(true)
+        }
         Benchmark::Certs(path) => {
             measure(rt, path)?;
             Ok(true)

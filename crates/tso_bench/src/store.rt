@@ -45,8 +45,8 @@ fn take_all(alloc: Global, store: &mut Store<'_>, threads: usize, count: u32) ->
     Some(steps)
 }
 
-// Adds the state before any step.
-fn add_first(alloc: Global, checked: &Checked, store: &mut Store<'_>) -> Option<u32> {
+/// Adds the state before any step.
+pub fn add_first(alloc: Global, checked: &Checked, store: &mut Store<'_>) -> Option<u32> {
     let first = initial_state(alloc, checked).ok()?;
     let (number, _) = store.add(&first).ok()?;
     Some(number)

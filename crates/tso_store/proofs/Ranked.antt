@@ -1,22 +1,23 @@
 -- Ranks of kept values.
-use Rattle.std.proofs.Common.{◌≡◌, ℕ, zero, suc, ◌<◌, ◌≤◌, Bool, true, false, List, [], ◌∷◌, ◌++◌, length, Option, Some, None, refl, sym, ap, subst, ◌∙◌, arith, get_or, slice_get}
+use Rattle.std.proofs.Common.{◌≡◌, ℕ, zero, suc, ◌<◌, ◌≤◌, Bool, true, false, List, [], ◌∷◌, ◌++◌, length, map, Option, Some, refl, sym, ap, subst, ◌∙◌, arith, get_or, slice_get}
 use Rattle.std.proofs.lemmas.Bool.{false≢true, true≢false}
 use Rattle.std.proofs.lemmas.List.MinMax.{ranks_by}
 use Rattle.std.proofs.lemmas.List.Sorted.{Contains-permutation, sorted_far}
 use Rattle.std.proofs.lemmas.List.{length_push}
 use Rattle.std.proofs.lemmas.Option.{get_or_from_slice_get}
 use Rattle.std.specs.Cmp.{IsTotalOrder, ranks}
-use Rattle.std.specs.Cmp.Lexicographic.{options_total}
+use Rattle.std.specs.Cmp.Lexicographic.{options_total, slice_cmp}
 use Rattle.std.specs.List.{Contains}
 use Rattle.std.specs.List.Sorted.{IsPartitionedBy, IsSortedBy}
 use Rattle.std.specs.Option.{option_cmp}
-use Rattle.std.specs.Ordering.{MatchOrdering, is_eq, is_lt, nat_cmp, ordering_reverse}
+use Rattle.std.specs.Ordering.{MatchOrdering, is_eq, is_lt, nat_cmp, ordering_reverse, ordering_then}
 use Rattle.std.specs.declared.cmp.Ordering.{Ordering}
 use Rattle.std.specs.declared.cmp.Ordering.TheVariants.{Less, Equal, Greater}
 use Rattle.tso_parts.proofs.Marked.{found_or_not, item_at, new_item, of_longer, old_item, within}
 use Rattle.tso_list.specs.Same.{IsExact}
 use Rattle.tso_parts.specs.Numbers.{IsNumbered}
-use Rattle.tso_store.specs.Orders.{AreRanks, IsInOrder, IsOrderOfParts, IsOrderOfRanks, IsRankIn, numbers_below}
+use Rattle.tso_store.specs.Numbers.{AreNumbersOf}
+use Rattle.tso_store.specs.Orders.{AreRanks, IsInOrder, IsRankIn, numbers_below, rank_at, rank_of}
 
 is_less : (o : Ordering) → is_lt o ≡ true → o ≡ Less
 is_less Less e = refl
@@ -107,7 +108,7 @@ cmp_equal r s same = by_case (nat_cmp r s) (ranks r s)
 -- ranks in one order of all numbers compare as the values
 pub ranked : {X : Type 0} (R : X → X → Ordering) → IsTotalOrder R → ((x y : X) → R x y ≡ Equal → x ≡ y) → (pool : List X) (ns ranks : List ℕ) → IsNumbered pool → IsInOrder R pool ns
     → length ranks ≡ length pool → ((n r : ℕ) → slice_get ranks n ≡ Some r → IsRankIn R pool ns n r) → AreRanks R pool ranks
-ranked {X} R o exact pool ns ranks one order long each = record { alike = alike }
+ranked {X} R o exact pool ns ranks one order long each = record { all = long; alike = alike }
   where
     there : (n r : ℕ) → slice_get ranks n ≡ Some r → Contains ns n
     there n r e = let w = within ranks n r e in Contains-permutation (numbers_below (length pool)) ns n order.all (contains_below (length pool) n (omega (arith, w, long)))
@@ -143,14 +144,47 @@ ranks_more R pool ns ranks after k long each r is e n s at =
     let Q : ℕ → Type 0 = λ t. IsRankIn R pool ns k t in
     subst P (sym (place ∙ long)) (subst Q same is))
 
--- no ranks
-pub no_ranks : {X : Type 0} (R : X → X → Ordering) (pool : List X) → AreRanks R pool []
-no_ranks R pool = record { alike = λ n m r s e f. absurd (let h : None ≡ Some r = e in cc) }
-
 -- two values as their ranks
-pub by_ranks : {X : Type 0} (R : X → X → Ordering) (pool : List X) (ranks : List ℕ) (n m r s : ℕ) → AreRanks R pool ranks → slice_get ranks n ≡ Some r → slice_get ranks m ≡ Some s → IsOrderOfParts R pool n m (nat_cmp r s)
-by_ranks {X} R pool ranks n m r s all e f x y a b =
-    all.alike n m r s e f ∙ ap (λ (k : Option X). option_cmp R k (slice_get pool m)) a ∙ ap (λ (k : Option X). option_cmp R (Some x) k) b
+pub by_ranks : {X : Type 0} (R : X → X → Ordering) (pool : List X) (ranks : List ℕ) → AreRanks R pool ranks → (n m : ℕ) (x y : X) → slice_get pool n ≡ Some x → slice_get pool m ≡ Some y → nat_cmp (rank_at ranks n) (rank_at ranks m) ≡ R x y
+by_ranks {X} R pool ranks is n m x y a b =
+    let w = within pool n x a in
+    let v = within pool m y b in
+    item_at ranks n (omega (arith, w, is.all)) (λ r e. item_at ranks m (omega (arith, v, is.all)) (λ s f.
+    let first : rank_at ranks n ≡ r = read_at ranks n r e in
+    let second : rank_at ranks m ≡ s = read_at ranks m s f in
+    ap (λ (k : ℕ). nat_cmp k (rank_at ranks m)) first ∙ ap (nat_cmp r) second ∙ is.alike n m r s e f ∙ ap (λ (k : Option X). option_cmp R k (slice_get pool m)) a ∙ ap (λ (k : Option X). option_cmp R (Some x) k) b))
+  where
+    read_at : (xs : List ℕ) (k q : ℕ) → slice_get xs k ≡ Some q → rank_at xs k ≡ q
+    read_at xs k q e = get_or_from_slice_get xs k q 0 e
 
-pub ranks_order : {X : Type 0} (R : X → X → Ordering) (pool : List X) (ranks : List ℕ) (n m : ℕ) (o : Ordering) → AreRanks R pool ranks → IsOrderOfRanks ranks n m o → IsOrderOfParts R pool n m o
-ranks_order R pool ranks n m o all is x y a b = is.order ∙ by_ranks R pool ranks n m is.first is.second all is.first_at is.second_at x y a b
+itself : (r : ℕ) → nat_cmp r r ≡ Equal
+itself r = cmp_equal r r refl
+
+-- two rows of as many numbers as those of their ranks
+pub rows_by_ranks : {X : Type 0} (R : X → X → Ordering) (pool : List X) (ranks : List ℕ) → AreRanks R pool ranks → (ns ms : List ℕ) (xs ys : List X) → AreNumbersOf pool ns xs → AreNumbersOf pool ms ys
+    → length ns ≡ length ms → length xs ≡ length ys → slice_cmp nat_cmp (map (rank_at ranks) ns) (map (rank_at ranks) ms) ≡ slice_cmp R xs ys
+rows_by_ranks R pool ranks is [] [] [] [] a b wide e = refl
+rows_by_ranks R pool ranks is [] [] (x ∷ xs) ys a b wide e = absurd a
+rows_by_ranks R pool ranks is [] [] [] (y ∷ ys) a b wide e = absurd b
+rows_by_ranks R pool ranks is [] (m ∷ ms) xs ys a b wide e = absurd (omega (arith, wide))
+rows_by_ranks R pool ranks is (n ∷ ns) [] xs ys a b wide e = absurd (omega (arith, wide))
+rows_by_ranks R pool ranks is (n ∷ ns) (m ∷ ms) [] (y ∷ ys) a b wide e = absurd (omega (arith, e))
+rows_by_ranks R pool ranks is (n ∷ ns) (m ∷ ms) (x ∷ xs) [] a b wide e = absurd (omega (arith, e))
+rows_by_ranks R pool ranks is (n ∷ ns) (m ∷ ms) [] [] a b wide e =
+    let rest : Ordering = slice_cmp nat_cmp (map (rank_at ranks) ns) (map (rank_at ranks) ms) in
+    let first : nat_cmp (rank_at ranks n) (rank_at ranks m) ≡ Equal = ap (λ (k : ℕ). nat_cmp (rank_at ranks k) (rank_at ranks m)) (a.0 ∙ sym b.0) ∙ itself (rank_at ranks m) in
+    ap (λ (o : Ordering). ordering_then o rest) first ∙ rows_by_ranks R pool ranks is ns ms [] [] a.1 b.1 (omega (arith, wide)) refl
+rows_by_ranks R pool ranks is (n ∷ ns) (m ∷ ms) (x ∷ xs) (y ∷ ys) a b wide e =
+    let rest : Ordering = slice_cmp nat_cmp (map (rank_at ranks) ns) (map (rank_at ranks) ms) in
+    ap (λ (o : Ordering). ordering_then o rest) (by_ranks R pool ranks is n m x y a.0 b.0)
+    ∙ ap (ordering_then (R x y)) (rows_by_ranks R pool ranks is ns ms xs ys a.1 b.1 (omega (arith, wide)) (omega (arith, e)))
+
+-- five numbers, one by one
+pub five : (ranks ns : List ℕ) → length ns ≡ 5 → rank_of ranks ns 0 ∷ rank_of ranks ns 1 ∷ rank_of ranks ns 2 ∷ rank_of ranks ns 3 ∷ rank_of ranks ns 4 ∷ [] ≡ map (rank_at ranks) ns
+five ranks [] e = absurd (omega (arith, e))
+five ranks (a ∷ []) e = absurd (omega (arith, e))
+five ranks (a ∷ b ∷ []) e = absurd (omega (arith, e))
+five ranks (a ∷ b ∷ c ∷ []) e = absurd (omega (arith, e))
+five ranks (a ∷ b ∷ c ∷ d ∷ []) e = absurd (omega (arith, e))
+five ranks (a ∷ b ∷ c ∷ d ∷ f ∷ []) e = refl
+five ranks (a ∷ b ∷ c ∷ d ∷ f ∷ g ∷ ns) e = absurd (omega (arith, e))

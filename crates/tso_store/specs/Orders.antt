@@ -1,5 +1,5 @@
 -- How kept values and states are ordered.
-use Rattle.std.specs.Prelude.{◌≡◌, ℕ, zero, suc, true, false, List, [], ◌∷◌, ◌++◌, Option, Some, None, length, slice_get}
+use Rattle.std.specs.Prelude.{◌≡◌, ℕ, zero, suc, true, false, List, [], ◌∷◌, ◌++◌, Option, Some, None, length, slice_get, slice_index_or}
 use Rattle.std.specs.List.Sorted.{IsPartitionPoint, IsPermutation, IsSortedBy}
 use Rattle.std.specs.Option.{option_cmp}
 use Rattle.std.specs.Ordering.{is_lt, nat_cmp}
@@ -10,23 +10,14 @@ use Rattle.tso_state.specs.declared.state.State.{State}
 use Rattle.tso_hist.specs.contracts.call.CallOrd.TheImpl as call_impl
 use Rattle.tso_state.specs.contracts.state.ThreadOrd.TheImpl as thread_impl
 use Rattle.tso_store.specs.Numbers.{AreNumbersOf}
-use Rattle.tso_prog.specs.declared.client.Client.{Client}
-use Rattle.tso_store.specs.Keys.{AreKept}
 use Rattle.tso_store.specs.declared.key.Key.{Key}
 use Rattle.tso_store.specs.declared.parts.Parts.{Parts}
 use Rattle.tso_store.specs.declared.ranks.Ranks.{Ranks}
+use Rattle.tso_store.specs.declared.rank_rows.Row.{Row}
 
 -- this is the order of the values with these numbers
 abbrev pub IsOrderOfParts : {X : Type 0} → (X → X → Ordering) → List X → ℕ → ℕ → Ordering → Type 0
 IsOrderOfParts {X} R pool n m o = (x y : X) → slice_get pool n ≡ Some x → slice_get pool m ≡ Some y → o ≡ R x y
-
--- this is the order of the numbers at two places
-pub record IsOrderOfRanks (ranks : List ℕ) (n m : ℕ) (o : Ordering) : Type 0 where
-  pub first : ℕ
-  pub second : ℕ
-  pub first_at : slice_get ranks n ≡ Some first
-  pub second_at : slice_get ranks m ≡ Some second
-  pub order : o ≡ nat_cmp first second
 
 -- this is the order of two lists of as many values with these numbers
 abbrev pub IsOrderOfRows : {X : Type 0} → (X → X → Ordering) → List X → List ℕ → List ℕ → Ordering → Type 0
@@ -64,8 +55,9 @@ pub record IsInOrder {X : Type 0} (R : X → X → Ordering) (pool : List X) (ns
 abbrev pub IsRankIn : {X : Type 0} → (X → X → Ordering) → List X → List ℕ → ℕ → ℕ → Type 0
 IsRankIn R pool ns n r = IsPartitionPoint (λ m. is_lt (option_cmp R (slice_get pool m) (slice_get pool n)) ≡ true) (λ m. is_lt (option_cmp R (slice_get pool m) (slice_get pool n)) ≡ false) ns r
 
--- values of a pool are ordered as their numbers here, where they have one
+-- a number for each value of a pool, and values are ordered as these
 pub record AreRanks {X : Type 0} (R : X → X → Ordering) (pool : List X) (ranks : List ℕ) : Type 0 where
+  pub all : length ranks ≡ length pool
   pub alike : (n m r s : ℕ) → slice_get ranks n ≡ Some r → slice_get ranks m ≡ Some s → nat_cmp r s ≡ option_cmp R (slice_get pool n) (slice_get pool m)
 
 -- these are ranks of the parts of states
@@ -74,7 +66,18 @@ pub record AreRanksOfParts (p : Parts) (r : Ranks) : Type 0 where
   pub threads : AreRanks thread_impl.cmp-value.it p.threads r.threads.now
   pub histories : AreRanks (slice_cmp (slice_cmp call_impl.cmp-value.it)) p.histories r.histories.now
 
--- keys of a client's states, and ranks of their parts
-pub record IsRanking (c : Client) (p : Parts) (ks : List Key) (r : Ranks) : Type 0 where
-  pub kept : AreKept c p ks
-  pub ranks : AreRanksOfParts p r
+-- the rank of a number; 0 where it has none
+abbrev pub rank_at : List ℕ → ℕ → ℕ
+rank_at ranks n = slice_index_or ranks n 0
+
+-- that of the number at a place
+abbrev pub rank_of : List ℕ → List ℕ → ℕ → ℕ
+rank_of ranks ns i = rank_at ranks (slice_index_or ns i 0)
+
+-- those of a state's parts
+abbrev pub row_at : Ranks → Key → Row
+row_at r k = record {
+  memory = rank_at r.memories.now k.memory;
+  threads = rank_of r.threads.now k.threads 0 ∷ rank_of r.threads.now k.threads 1 ∷ rank_of r.threads.now k.threads 2 ∷ rank_of r.threads.now k.threads 3 ∷ rank_of r.threads.now k.threads 4 ∷ [];
+  history = rank_at r.histories.now k.history;
+}

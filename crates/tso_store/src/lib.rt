@@ -11,6 +11,7 @@ mod numbered;
 mod orders;
 mod packed;
 mod parts;
+mod rank_rows;
 mod ranking;
 mod ranks;
 mod sought;

@@ -14,7 +14,7 @@ use crate::key::{Key, NO_KEY};
 use crate::known::{Known, learn_runs};
 use crate::packed::{kept_fits_client, key_of_kept};
 use crate::parts::Parts;
-use crate::ranking::{Ranking, key_at};
+use crate::ranking::{compare_at, key_at, rising};
 use crate::ranks::{Ranks, ranks_of};
 use crate::sought::{Found, Sought, find_step};
 use crate::stepped::step_key;
@@ -252,12 +252,7 @@ impl<'a> Store<'a> {
     pub fn compare(&self, a: u32, b: u32) -> Option<Ordering>
         ensures { IsCompared self.now.states a b result }
     {
-        let ranks = Ranks {
-            memories: &[],
-            threads: &[],
-            histories: &[],
-        };
-        Ranking::new(&self.checked.client, &self.parts, &self.keys, ranks).compare(a, b)
+        compare_at(&self.parts, &self.keys, a, b)
     }
 
     /// The numbers of all states, in the order of the states. Each memory, thread and history is ranked among its kind first,
@@ -275,7 +270,7 @@ impl<'a> Store<'a> {
             threads: threads.as_slice(),
             histories: histories.as_slice(),
         };
-        Ranking::new(&self.checked.client, &self.parts, &self.keys, ranks).rising(alloc)
+        rising(alloc, &self.parts, &self.keys, &ranks)
     }
 
     /// Two states with different numbers differ. This function does nothing when it runs.

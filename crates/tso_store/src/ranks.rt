@@ -1,5 +1,5 @@
 //! Ranks of kept values: numbers that are ordered as the values.
-ghost use Rattle.std.specs.Prelude.{◌≡◌, ◌<◌, ◌≤◌, ◌^◌, length, IfOk, slice_get};
+ghost use Rattle.std.specs.Prelude.{◌≡◌, ◌<◌, ◌^◌, length, IfOk, slice_get};
 ghost use Rattle.std.specs.Option.{option_cmp};
 ghost use Rattle.std.specs.List.Sorted.{IsSortedBy};
 ghost use Rattle.std.specs.Ordering.{is_lt};
@@ -11,12 +11,12 @@ use std::hash::Hash;
 use tso_list::Exact;
 use tso_parts::Catalog;
 
-/// The ranks of memories, of threads and of histories, where they are known.
+/// The ranks of memories, of threads and of histories.
 #[derive(Clone, Copy)]
 pub struct Ranks<'a> {
-    pub memories: &'a [usize],
-    pub threads: &'a [usize],
-    pub histories: &'a [usize],
+    pub memories: &'a [u32],
+    pub threads: &'a [u32],
+    pub histories: &'a [u32],
 }
 
 /// So many numbers, from 0.
@@ -50,6 +50,7 @@ fn compare_at<T: Exact + Ord + Hash>(pool: &Catalog<T>, a: u32, b: u32) -> Order
 // The numbers of all values, in the order of the values.
 fn in_order<T: Exact + Ord + Hash>(alloc: Global, pool: &Catalog<T>) -> Result<Vec<u32>, AllocError>
     ensures order { IfOk result (λ ns. IsInOrder T.cmp pool.now ns.items) }
+    ensures few { IfOk result (λ ns. length ns.items < 2 ^ 32) }
 {
     let mut numbers = all_numbers(alloc, pool.len())?;
     numbers.sort_by(|a: &u32, b: &u32| compare_at(pool, *a, *b))?;
@@ -57,19 +58,20 @@ fn in_order<T: Exact + Ord + Hash>(alloc: Global, pool: &Catalog<T>) -> Result<V
 }
 
 // How many of these numbers in order are those of values below that of one.
-fn rank_in<T: Exact + Ord + Hash>(pool: &Catalog<T>, order: &[u32], number: u32) -> usize
-    requires { IsSortedBy (λ n m. is_lt (option_cmp T.cmp (slice_get pool.now n) (slice_get pool.now m))) order.now }
-    ensures rank { IsRankIn T.cmp pool.now order.now number result }
-    ensures within { result ≤ length order.now }
+fn rank_in<T: Exact + Ord + Hash>(pool: &Catalog<T>, order: &[u32], number: u32) -> u32
+    requires few { length order.now < 2 ^ 32 }
+    requires sorted { IsSortedBy (λ n m. is_lt (option_cmp T.cmp (slice_get pool.now n) (slice_get pool.now m))) order.now }
+    ensures { IsRankIn T.cmp pool.now order.now number result }
 {
-    order.partition_point(|other: &u32| compare_at(pool, *other, number).is_lt())
+    let below = order.partition_point(|other: &u32| compare_at(pool, *other, number).is_lt());
+    below as u32
 }
 
 /// For each number of a value its rank.
 pub fn ranks_of<T: Exact + Ord + Hash>(
     alloc: Global,
     pool: &Catalog<T>,
-) -> Result<Vec<usize>, AllocError>
+) -> Result<Vec<u32>, AllocError>
     ensures { IfOk result (λ rs. AreRanks T.cmp pool.now rs.items) }
 {
     pool.is_numbered();

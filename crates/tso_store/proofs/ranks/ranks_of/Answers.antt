@@ -5,7 +5,7 @@ use Rattle.tso_store.proofs.ranks.ranks_of.Goals as goal
 
 pub loop-number-preserved : goal.loop-number-preserved
 loop-number-preserved g c =
-    let rank = rw c.as_slice.ensures.value at c.rank_in.ensures.rank in (
+    let rank = rw c.as_slice.ensures.value at c.rank_in.ensures in (
       ap length c.in_ok-push.ensures.items ∙ length_push c.loop-number.ranks.items c.rank_in.result ∙ ap (λ n. n + 1) c.loop-number.invariant.0,
       ranks_more g.T.Ord.cmp c.args.pool.now c.in_ok-order.order.items c.loop-number.ranks.items c.push.new.self.items c.loop-number.number c.loop-number.invariant.0 c.loop-number.invariant.1 c.rank_in.result rank c.in_ok-push.ensures.items,
     )

@@ -4,8 +4,8 @@ use Rattle.tsoq.proofs.verify.verify.Goals as goal
 
 pub returns-in-Certificate : goal.returns-in-Certificate
 returns-in-Certificate g c =
-    all_good c.args.program.now c.in_ok-checked.checked.client _ c.in-Certificate.table (tree_of c.in-Certificate.cert) c.certified.result c.in_ok-checked.ensures.denoted
-    c.in-Certificate.ensures c.certified.ensures
+    all_good c.args.program.now c.in_ok-checked.checked.client _ c.in-Certificate.table (tree_of c.in-Certificate.cert) c.certified_last.result c.in_ok-checked.ensures.denoted
+    c.in-Certificate.ensures c.certified_last.ensures
 
 pub returns-in-Trace : goal.returns-in-Trace
 returns-in-Trace g c =
