@@ -1,5 +1,6 @@
 pub mod Records
 pub mod Exactness
+pub mod EndCodes
 pub mod Fronts
 pub mod Keeping
 pub mod Parts

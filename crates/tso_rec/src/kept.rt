@@ -121,7 +121,7 @@ impl Kept {
         let (memory, rest) = known.memories.read(alloc, 0, bytes)?;
         let (threads, rest) = known.threads.read_list(alloc, rest)?;
         let (history, rest) = known.calls.read_list(alloc, rest)?;
-        let (end, rest) = known.ends.read(alloc, rest)?;
+        let (end, rest) = known.ends.read(alloc, 0, rest)?;
         let kept = Kept {
             memory,
             threads,

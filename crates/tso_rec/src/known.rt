@@ -88,7 +88,7 @@ pub struct Known {
     pub(crate) memories: Reader<Seq<u64>>,
     pub(crate) threads: Reader<Thread>,
     pub(crate) calls: Reader<Seq<Call>>,
-    pub(crate) ends: Shelf<End>,
+    pub(crate) ends: Reader<End>,
 }
 
 impl Known {
@@ -98,7 +98,7 @@ impl Known {
             memories: Reader::new(alloc),
             threads: Reader::new(alloc),
             calls: Reader::new(alloc),
-            ends: Shelf::new(alloc),
+            ends: Reader::new(alloc),
         }
     }
 }

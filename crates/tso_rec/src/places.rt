@@ -7,11 +7,20 @@ use std::hash::{FoldHasher, Hasher};
 /// There are at most so many places.
 const MOST_PLACES: usize = 65_536;
 
+// So many bytes go into the mark of how bytes begin.
+const FRONT: usize = 16;
+
 /// A number that equal bytes have in common.
 pub fn mark_of(bytes: &[u8]) -> u64 {
     let mut hasher = FoldHasher::default();
     hasher.write(bytes);
     hasher.finish()
+}
+
+/// A number that bytes have in common which begin alike.
+pub fn mark_of_front(bytes: &[u8]) -> u64 {
+    let length = bytes.len().min(FRONT);
+    mark_of(&bytes[..length])
 }
 
 // The place among so many that goes with a mark. Counts that are powers of two have all places used.

@@ -3,7 +3,8 @@ ghost use Rattle.std.specs.Prelude.{◌≡◌, [], IfOk, IfSome, Some};
 ghost use Rattle.tso_code.specs.Fields.{Gives, items_at, list_at};
 
 use crate::known::Shelf;
-use crate::places::{Places, mark_of};
+use crate::places::{Places, mark_of_front};
+use crate::record::End;
 use crate::shared::{Part, Shared};
 use std::alloc::{AllocError, Global};
 use tso_code::{Code, ReadError, read_number};
@@ -34,6 +35,12 @@ impl Readable for Call {
     ghost use Rattle.tso_code.proofs.StateCodes.{call_code};
 
     ghost one_spelling = { call_code };
+}
+
+impl Readable for End {
+    ghost use Rattle.tso_rec.specs.EndCodes.{ending_code};
+
+    ghost one_spelling = { ending_code };
 }
 
 impl<T: Readable> Readable for Seq<T> {
@@ -68,15 +75,6 @@ impl<T: Readable> Told<T> {
         let part = self.part.again()?;
         Ok(Told { part })
     }
-}
-
-// So many bytes go into the mark of how bytes begin.
-const FRONT: usize = 16;
-
-// A number that bytes have in common which begin alike.
-fn mark_of_front(bytes: &[u8]) -> u64 {
-    let length = bytes.len().min(FRONT);
-    mark_of(&bytes[..length])
 }
 
 /// Parts of one kind that were read before, so that one which comes again is told by its bytes, and is not read: those that
