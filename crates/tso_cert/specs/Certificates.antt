@@ -75,6 +75,10 @@ tree_at (suc depth) room bytes = branch_at (fork_at (tree_at depth)) room bytes
 unfoldable pub magic_at : List ℕ → Result (List ℕ) Fault
 magic_at bytes = if nat_lt (length bytes) 4 then Err K01 else (if pointwise nat_eq (take 4 bytes) magic then Ok (drop 4 bytes) else Err K01)
 
+-- the four bytes and the table
+abbrev pub front_at : List ℕ → Result (Table × List ℕ) Fault
+front_at bytes = magic_at bytes >>= λ rest. field (table_at rest)
+
 unfoldable pub certificate_at : List ℕ → Result (Table × Tree) Fault
 certificate_at bytes = do
   rest ← magic_at bytes

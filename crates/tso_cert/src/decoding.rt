@@ -1,7 +1,7 @@
 //! Certificates read from bytes.
 ghost use Rattle.std.specs.Prelude.{◌≡◌, ◌<◌, ◌≤◌, ℕ, Err, IfOk, min, Ok};
 ghost use Rattle.tso_code.specs.Numbers.{number};
-ghost use Rattle.tso_cert.specs.Certificates.{certificate_at, Decodes, field, fork_at, Gives, leaf_at, magic_at, Spells, tree_at};
+ghost use Rattle.tso_cert.specs.Certificates.{certificate_at, Decodes, field, fork_at, front_at, Gives, leaf_at, magic_at, Spells, tree_at};
 ghost use Rattle.tso_cert.specs.Limits.{IsNoCertificate, PassesLimit, SpellingsAreUnique};
 ghost use Rattle.tso_cert.specs.Trees.{IsWithinLimits, Tree, tree_of};
 ghost use Rattle.tso_foot.specs.declared.table.Table.{Table as FootprintTable};
@@ -118,12 +118,22 @@ fn behind_magic(bytes: &[u8]) -> Result<&[u8], DecodeError>
     }
 }
 
+/// The table at the front of a certificate, behind its first four bytes, and the bytes after it, which are those of the tree.
+///
+/// Errors: as for `decode`, of the bytes up to the end of the table.
+pub fn read_table(alloc: Global, bytes: &[u8]) -> Result<(Table, &[u8]), DecodeError>
+    ensures { Gives (λ x. (x.0, x.1.now)) result (front_at bytes.now) }
+{
+    let rest = behind_magic(bytes)?;
+    let (table, rest) = field_of::<Table>(alloc, rest)?;
+    Ok((table, rest))
+}
+
 #[tactic(auto, unfolding(crate::specs::Certificates::certificate_at))]
 fn whole(alloc: Global, bytes: &[u8]) -> Result<(Table, Cert), DecodeError>
     ensures { Decodes result (certificate_at bytes.now) }
 {
-    let rest = behind_magic(bytes)?;
-    let (table, rest) = field_of::<Table>(alloc, rest)?;
+    let (table, rest) = read_table(alloc, bytes)?;
     let mut known = Known::new(alloc);
     let (cert, _, rest) = branch_of(alloc, &mut known, FORKS, RECORDS, rest)?;
     if rest.is_empty() {

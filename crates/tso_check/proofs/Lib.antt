@@ -5,5 +5,7 @@ pub mod OneText
 pub mod OneVerdict
 pub mod RisingByNumbers
 pub mod RisingLemmas
+pub mod SpanLemmas
+pub mod StoredLemmas
 pub mod VerdictLemmas
 pub mod WalkLemmas

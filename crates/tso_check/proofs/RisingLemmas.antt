@@ -5,6 +5,8 @@ use Rattle.std.proofs.Math.Seq.{take-suc}
 use Rattle.std.proofs.lemmas.List.{append-nil, length-append, map-append, take_all}
 use Rattle.std.proofs.lemmas.Option.{get_or_from_slice_get, same_Some, slice_get_within, slice_get-get_or}
 use Rattle.std.specs.List.{AllByRecursion}
+use Rattle.std.specs.Ordering.{ordering_reverse}
+use Rattle.std.specs.declared.cmp.Ordering.TheVariants.{Greater, Less}
 use Rattle.tso_cert.proofs.LookupLemmas.{left_rises, right_rises, rises, total}
 use Rattle.tso_cert.specs.Lookup.{ForksSplit, IsAtMost, IsBelow, IsRising, tree_states}
 use Rattle.tso_cert.specs.Trees.{Tree, leaf, fork, records_of}
@@ -13,6 +15,7 @@ use Rattle.tso_check.specs.declared.rising.Risen.{Risen}
 use Rattle.tso_check.specs.declared.rising.Risen.TheVariants.{To, Not}
 use Rattle.tso_rec.specs.Records.{states_of}
 use Rattle.tso_rec.specs.declared.record.Record.{Record}
+use Rattle.tso_scan.specs.Scanned.{ForksBegin}
 use Rattle.tso_state.specs.declared.state.State.{State}
 
 pub got_left : {X : Type 0} (xs ys : List X) (k : ℕ) (x : X) → slice_get xs k ≡ Some x → slice_get (xs ++ ys) k ≡ Some x
@@ -186,3 +189,20 @@ look_split (fork l m r) rising (a, b, c, d) =
 pub split_look : (t : Tree) → ForksSplit t → ForksLook t
 split_look (leaf rs) split = tt
 split_look (fork l m r) (a, b, c, d) = (split_look l a, split_look r b, below_ends l m c, above_begins r m d)
+
+never_below_itself : (s : State) → IsBelow s s → ⊥
+never_below_itself s e = let clash : Less ≡ Greater = sym e ∙ total.antisymm s s ∙ ap ordering_reverse e in cc
+
+-- where the states rise, it is enough that each fork's state is the first of its right half
+pub begins_split : (t : Tree) → IsRising (tree_states t) → ForksBegin t → ForksSplit t
+begins_split (leaf rs) rising begins = tt
+begins_split (fork l m r) rising (a, b, first) =
+    let left = left_rises (records_of l) (records_of r) rising in
+    let right = right_rises (records_of l) (records_of r) rising in
+    let all = subst IsRising (map-append (λ (x : Record). x.state) (records_of l) (records_of r)) rising in
+    let there : slice_get (tree_states l ++ tree_states r) (length (tree_states l) + 0) ≡ Some m = got_right (tree_states l) (tree_states r) 0 ∙ first in (
+      begins_split l left a,
+      begins_split r right b,
+      all_by (λ x. IsBelow x m) (tree_states l) (λ k x at. let lt = slice_get_within (tree_states l) k x at in rises (tree_states l ++ tree_states r) k (length (tree_states l) + 0) x m all (omega (arith, lt)) (got_left (tree_states l) (tree_states r) k x at) there),
+      at_most_by_first (tree_states r) m right (λ x at below. never_below_itself m (subst (λ y. IsBelow y m) (same_Some x m (sym at ∙ first)) below)),
+    )

@@ -4,7 +4,7 @@ use Rattle.std.specs.Prelude.{Contains}
 use Rattle.tso_cert.proofs.Uniqueness.{reads}
 use Rattle.tso_cert.specs.Certificates.{Fails, Spells, certificate_at}
 use Rattle.tso_cert.specs.Limits.{PassesLimit}
-use Rattle.tso_cert.specs.Trees.{IsWithinLimits, Tree, tree_of}
+use Rattle.tso_cert.specs.Trees.{IsWithinLimits, Tree}
 use Rattle.tso_cert.specs.declared.cert.Cert.{Cert}
 use Rattle.tso_cert.specs.declared.fault.DecodeError.{DecodeError}
 use Rattle.tso_cert.specs.declared.fault.DecodeError.TheVariants as errors
@@ -13,11 +13,7 @@ use Rattle.tso_cert.specs.declared.fault.Fault.TheVariants as limits
 use Rattle.tso_check.proofs.Goodness.{each_run_is_good}
 use Rattle.tso_check.specs.Headline.{DenotesChecked, IsVerified}
 use Rattle.tso_judge.specs.Valid.{HasInitial}
-use Rattle.tso_check.specs.Opened.{IsBegun, IsTreeBegun}
 use Rattle.tso_check.specs.Verdicts.{IsFault, IsOfFault, IsTreeVerdict, IsVerdict, code_of, no_certificate, of_tree, past_limit}
-use Rattle.tso_check.specs.declared.opening.Begun.{Begun}
-use Rattle.tso_check.specs.declared.opening.Begun.TheVariants.{Decided, Open}
-use Rattle.tso_check.specs.declared.opening.Opened.{Opened}
 use Rattle.tso_check.specs.declared.verdict.Verdict.{Verdict}
 use Rattle.tso_check.specs.declared.verdict.Verdict.TheVariants.{Accepted, Rejected}
 use Rattle.tso_compact.specs.Laws.{initial_of}
@@ -35,26 +31,6 @@ initial_there c states s first h = subst (Contains states) (same_state h.initial
 pub whole : (c : Client) (bytes : List ℕ) (t : Table) (tree : Tree) → Spells bytes t tree → IsWithinLimits tree → (v : Verdict) → IsTreeVerdict c t tree v → IsVerdict c bytes v
 whole c bytes t tree spelled within Accepted valid = record { table = t; tree = tree; spelled = spelled; within = within; valid = valid }
 whole c bytes t tree spelled within (Rejected code place) fault = of_tree code place t tree spelled within fault
-
--- what is left of what bytes spell is left of the bytes
-pub begun : (c : Client) (bytes : List ℕ) (t : Table) (tree : Tree) → Spells bytes t tree → IsWithinLimits tree → (b : Begun) → IsTreeBegun c t tree b → IsBegun c bytes b
-begun c bytes t tree spelled within (Decided v) is = whole c bytes t tree spelled within v is
-begun c bytes t tree spelled within (Open o) (client, table, same, opened) = (
-  client,
-  subst (Spells bytes o.table) (sym same) (subst (λ x. Spells bytes x tree) (sym table) spelled),
-  subst IsWithinLimits (sym same) within,
-  opened,
-)
-
--- what was decided is the verdict
-pub decided_verdict : (c : Client) (bytes : List ℕ) (b : Begun) (v : Verdict) → IsBegun c bytes b → b ≡ Decided v → IsVerdict c bytes v
-decided_verdict c bytes b v begun_so e = subst (IsBegun c bytes) e begun_so
-
--- and else the verdict on the tree
-pub opened_verdict : (c : Client) (bytes : List ℕ) (b : Begun) (o : Opened) (v : Verdict) → IsBegun c bytes b → b ≡ Open o → IsTreeVerdict o.checked.now.client o.table (tree_of o.tree) v → IsVerdict c bytes v
-opened_verdict c bytes b o v begun_so e judged =
-    let found = subst (IsBegun c bytes) e begun_so in
-    subst (λ d. IsVerdict d bytes v) found.0 (whole o.checked.now.client bytes o.table (tree_of o.tree) found.1 found.2 v judged)
 
 pub accepted : (text bytes : List ℕ) (c : Client) (v : Verdict) → DenotesChecked text c → IsVerdict c bytes v → v ≡ Accepted → IsVerified text
 accepted text bytes c v denotes is e =

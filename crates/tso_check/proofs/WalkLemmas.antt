@@ -4,12 +4,10 @@ use Rattle.std.proofs.lemmas.Bool.{cases_lt}
 use Rattle.std.proofs.lemmas.List.{length-append}
 use Rattle.std.proofs.lemmas.Option.{same_Some, slice_get_within}
 use Rattle.tso_check.proofs.RisingLemmas.{got_left, got_right}
-use Rattle.tso_cert.specs.Lookup.{IsOrdered, tree_states}
 use Rattle.tso_cert.specs.Trees.{Tree, leaf, fork, record_count, records_of}
-use Rattle.tso_judge.specs.Valid.{AreValidRecords, HasInitial, IsValidRecord}
-use Rattle.tso_check.specs.Verdicts.{AreJudged, IsFirstBadRecord, IsTreeFault, of_record}
-use Rattle.tso_foot.specs.Closed.{IsClosed}
-use Rattle.tso_check.specs.declared.walk.Bad.{Bad}
+use Rattle.tso_judge.specs.Valid.{AreValidRecords, IsValidRecord}
+use Rattle.tso_check.specs.Verdicts.{AreJudged, IsFirstBadRecord}
+use Rattle.tso_check.specs.declared.judging.Bad.{Bad}
 use Rattle.tso_foot.specs.declared.table.Table.{Table}
 use Rattle.tso_judge.specs.Conditions.{SuccessorsAreKept}
 use Rattle.tso_judge.specs.Judging.{AreMet, IsFirstFault}
@@ -111,11 +109,3 @@ module _ (c : Client) (t : Table) (states : List State) (l r : Tree) (start : �
 pub if_ok : {X E : Type 0} (P Q : X → Type 0) (result : Result X E) → ((x : X) → P x → Q x) → IfOk result P → IfOk result Q
 if_ok P Q (Ok x) f p = f x p
 if_ok P Q (Err e) f p = tt
-
--- ---- the verdict
-
-pub bad_is : (c : Client) (t : Table) (tree : Tree) (bad : Bad) → IsOrdered tree → IsClosed c t → HasInitial c (tree_states tree) → AreJudged c t (tree_states tree) (records_of tree) 0 (Some bad)
-    → IsTreeFault c t tree bad.code (Some bad.place)
-bad_is c t tree bad o d i (k, place, first) =
-    let same : k ≡ bad.place = omega (arith, place) in
-    of_record bad.code bad.place o d i (subst (λ n. IsFirstBadRecord c t (tree_states tree) (records_of tree) n bad.code) same first)

@@ -1,23 +1,15 @@
--- Records whose states lie in a store under the records' numbers. Nothing here need be believed: it serves the code.
-use Rattle.std.specs.Prelude.{◌≡◌, ◌+◌, All, ℕ, List, Option, Some, slice_get}
-use Rattle.tso_check.specs.Verdicts.{AreJudged}
-use Rattle.tso_check.specs.declared.walk.Bad.{Bad}
+-- What is judged of a state by its number in a store. Nothing here need be believed: it serves the code.
+use Rattle.std.specs.Prelude.{◌≡◌, All, ℕ, List, Option, Some, slice_get}
 use Rattle.tso_choose.specs.declared.choice.Choice.{Choice}
 use Rattle.tso_foot.specs.declared.table.Table.{Table}
 use Rattle.tso_judge.specs.Judging.{IsJudgedAmong}
 use Rattle.tso_judge.specs.declared.code.Code.{Code}
 use Rattle.tso_prog.specs.declared.client.Client.{Client}
-use Rattle.tso_rec.specs.Records.{states_of}
 use Rattle.tso_rec.specs.declared.record.End.{End}
 use Rattle.tso_rec.specs.declared.record.End.TheVariants.{Choices, Order}
-use Rattle.tso_rec.specs.declared.record.Record.{Record}
 use Rattle.tso_state.specs.declared.actor.Actor.{Actor}
 use Rattle.tso_state.specs.declared.state.State.{State}
 use Rattle.tso_store.specs.Sheets.{IsKeptSuccessor}
-
--- from this number on these are the states of the records
-pub record AreNumbered (states : List State) (start : ℕ) (records : List Record) : Type 0 where
-  pub each : (k : ℕ) (s : State) → slice_get (states_of records) k ≡ Some s → slice_get states (start + k) ≡ Some s
 
 -- the state after the actor's step from state number n is kept
 pub record IsKeptFrom (c : Client) (states : List State) (n : ℕ) (a : Actor) : Type 0 where
@@ -32,7 +24,3 @@ AreKeptFrom c states n (Order order) = Unit {0}
 -- what is found of the state with this number and an end
 abbrev pub IsJudgedAt : Client → Table → List State → ℕ → End → Option Code → Type 0
 IsJudgedAt c t states n e code = (s : State) → slice_get states n ≡ Some s → IsJudgedAmong c t states s e code
-
--- what is found of records whose states have their numbers from this one on
-abbrev pub AreJudgedFrom : Client → Table → List State → List Record → ℕ → Option Bad → Type 0
-AreJudgedFrom c t states records start found = AreNumbered states start records → AreJudged c t states records start found

@@ -14,7 +14,7 @@ use Rattle.tso_judge.specs.Valid.{AreValidRecords, HasInitial, IsValidCertificat
 use Rattle.tso_check.specs.declared.verdict.CheckError.{CheckError}
 use Rattle.tso_check.specs.declared.verdict.Verdict.{Verdict}
 use Rattle.tso_check.specs.declared.verdict.Verdict.TheVariants.{Accepted, Rejected}
-use Rattle.tso_check.specs.declared.walk.Bad.{Bad}
+use Rattle.tso_check.specs.declared.judging.Bad.{Bad}
 use Rattle.tso_foot.specs.Closed.{IsClosed}
 use Rattle.tso_foot.specs.declared.table.Table.{Table}
 use Rattle.tso_judge.specs.Codes.{code_text}

@@ -1,12 +1,12 @@
 //! The check of certificates.
 
-ghost use Rattle.std.specs.Prelude.{◌≡◌, ◌⊎◌, Err, IfOk, Ok, Result};
-ghost use Rattle.tso_cert.specs.Trees.{records_of, tree_of};
+ghost use Rattle.std.specs.Prelude.{◌≡◌, ◌≤◌, ◌⊎◌, Err, IfOk, Ok, Result};
+ghost use Rattle.tso_cert.specs.Trees.{record_count, tree_of};
 ghost use Rattle.tso_check.specs.Headline.{DenotesChecked, IsVerified};
 ghost use Rattle.tso_check.specs.Laws.{IsSameButMemory};
-ghost use Rattle.tso_check.specs.Opened.{AreJudgedIn, IsOpened};
 ghost use Rattle.tso_check.specs.Programs.{IsRefused};
-ghost use Rattle.tso_check.specs.Verdicts.{IsAnswer, IsTreeVerdict, IsVerdict};
+ghost use Rattle.tso_check.specs.Spans.{IsStored, IsVerdictOn};
+ghost use Rattle.tso_check.specs.Verdicts.{IsAnswer, IsOfFault, IsTreeVerdict, IsVerdict, code_of};
 ghost use Rattle.tso_check.specs.declared.verdict.CheckError.{CheckError as AnError};
 ghost use Rattle.tso_check.specs.declared.verdict.CheckError.TheVariants as errors;
 ghost use Rattle.tso_check.specs.declared.verdict.Verdict.{Verdict as AVerdict};
@@ -15,29 +15,66 @@ ghost use Rattle.tso_judge.specs.Valid.{IsValidCertificate};
 ghost use Rattle.tso_prog.specs.declared.client.Client.{Client};
 ghost use Rattle.tso_prog.specs.declared.fault.Fault.{Fault as AFault};
 
-use crate::opening::{Begun, Opened, open};
+use crate::halved::{TreePart, Whole, decide_tree, tree_fault};
+use crate::judging::{Notice, verdict_of};
 use crate::program::checked_of;
-use crate::threads::{Watched, judge_with};
-use crate::verdict::{CheckError, Verdict};
-use crate::walk::{Bad, Nobody, judge_part};
+use crate::stored::{StoredPart, decide_stored, stored_fault};
+use crate::threads::{Told, judge_with};
+use crate::verdict::{CheckError, Verdict, rejected};
 use std::alloc::{AllocError, Global};
 use std::sync::Wait;
 use std::thread::Threads;
-use tso_cert::{Watch, Workers};
+use tso_cert::{DecodeError, Fault, Watch, Workers, decode};
 use tso_flow::Checked;
+use tso_judge::Code;
+use tso_scan::{Scanned, scan};
 
-// The verdict where this is the first record that is not valid, if there is one.
-fn verdict_of(opened: &Opened<'_>, found: Option<Bad>) -> Verdict
-    requires opened { IsOpened opened.now }
-    requires judged { AreJudgedIn opened.now (records_of (tree_of opened.now.tree)) 0 found }
-    ensures { IsTreeVerdict opened.now.checked.now.client opened.now.table (tree_of opened.now.tree) result }
+// The code of a fault of bytes.
+fn code_of(fault: Fault) -> Code
+    ensures { result ≡ code_of fault }
 {
-    match found {
-        Some(bad) => Verdict::Rejected {
-            code: bad.code,
-            place: Some(bad.place),
-        },
-        None => Verdict::Accepted,
+    match fault {
+        Fault::K01 => Code::K01,
+        Fault::K02 => Code::K02,
+    }
+}
+
+// The verdict on bytes that were not decoded.
+fn undecoded(error: DecodeError) -> Result<Verdict, AllocError>
+    ensures { IfOk result (IsOfFault error) }
+{
+    match error {
+        DecodeError::Fault(fault) => Ok(rejected(code_of(fault))),
+        DecodeError::Memory => Err(AllocError),
+    }
+}
+
+// The verdict on bytes, by their tree.
+fn decide_bytes(alloc: Global, checked: &Checked, bytes: &[u8]) -> Result<Verdict, AllocError>
+    ensures { IfOk result (IsVerdict checked.now.client bytes.now) }
+{
+    match decode(alloc, bytes) {
+        Ok((table, tree)) => {
+            let (table, tree) = (&table, &tree);
+            let whole = Whole {
+                alloc,
+                checked,
+                table,
+                tree,
+            };
+            decide_tree(&whole)
+        }
+        Err(error) => undecoded(error),
+    }
+}
+
+// The verdict on bytes as a certificate for a client.
+fn verdict(alloc: Global, checked: &Checked, bytes: &[u8]) -> Result<Verdict, AllocError>
+    ensures { IfOk result (IsVerdict checked.now.client bytes.now) }
+{
+    match scan(alloc, checked, bytes)? {
+        Some(scanned) => decide_stored(alloc, checked, &scanned),
+        None => decide_bytes(alloc, checked, bytes),
     }
 }
 
@@ -51,17 +88,92 @@ pub fn check_client(alloc: Global, checked: &Checked, bytes: &[u8]) -> Result<Ve
     ensures verdict { IfOk result (IsVerdict checked.now.client bytes.now) }
     ensures exact { (v : AVerdict) → IsVerdict checked.now.client bytes.now v → IfOk result (λ found. found ≡ v) }
 {
-    match open(alloc, checked, bytes)? {
-        Begun::Decided(verdict) => Ok(verdict),
-        Begun::Open(opened) => {
-            let found = judge_part(alloc, &opened, &opened.tree, 0, &Nobody)?;
-            Ok(verdict_of(&opened, found))
+    let found = verdict(alloc, checked, bytes)?;
+    Ok(found)
+}
+
+// The verdict on a certificate in a store, by several threads.
+fn decide_stored_with<R: Threads + Wait + Sync, N: Notice + Sync>(
+    rt: &R,
+    alloc: Global,
+    checked: &Checked,
+    scanned: &Scanned<'_>,
+    workers: Workers,
+    notice: &N,
+) -> Result<Verdict, AllocError>
+    requires stored { IsStored checked.now.client scanned.now }
+    ensures { IfOk result (IsVerdictOn checked.now.client scanned.now) }
+{
+    match stored_fault(alloc, checked, scanned)? {
+        Some(code) => Ok(rejected(code)),
+        None => {
+            let part = StoredPart {
+                alloc,
+                checked,
+                scanned,
+                shape: &scanned.shape,
+                start: 0,
+                notice,
+            };
+            let found = judge_with(rt, &part, workers.count())?;
+            Ok(verdict_of(found))
         }
     }
 }
 
-// The same, by several threads.
-fn check_client_with<R: Threads + Wait + Sync, W: Watch + Sync>(
+// The verdict on a table and a tree, by several threads.
+fn decide_tree_with<R: Threads + Wait + Sync, N: Notice + Sync>(
+    rt: &R,
+    whole: &Whole<'_>,
+    workers: Workers,
+    notice: &N,
+) -> Result<Verdict, AllocError>
+    requires few { record_count (tree_of whole.now.tree.now) ≤ 4194304 }
+    ensures { IfOk result (IsTreeVerdict whole.now.checked.now.client whole.now.table.now (tree_of whole.now.tree.now)) }
+{
+    match tree_fault(whole)? {
+        Some(code) => Ok(rejected(code)),
+        None => {
+            let part = TreePart {
+                whole: *whole,
+                part: whole.tree,
+                start: 0,
+                notice,
+            };
+            let found = judge_with(rt, &part, workers.count())?;
+            Ok(verdict_of(found))
+        }
+    }
+}
+
+// The verdict on bytes, by their tree and by several threads.
+fn decide_bytes_with<R: Threads + Wait + Sync, N: Notice + Sync>(
+    rt: &R,
+    alloc: Global,
+    checked: &Checked,
+    bytes: &[u8],
+    workers: Workers,
+    notice: &N,
+) -> Result<Verdict, AllocError>
+    ensures { IfOk result (IsVerdict checked.now.client bytes.now) }
+{
+    match decode(alloc, bytes) {
+        Ok((table, tree)) => {
+            let (table, tree) = (&table, &tree);
+            let whole = Whole {
+                alloc,
+                checked,
+                table,
+                tree,
+            };
+            decide_tree_with(rt, &whole, workers, notice)
+        }
+        Err(error) => undecoded(error),
+    }
+}
+
+// The verdict on bytes, by several threads.
+fn verdict_with<R: Threads + Wait + Sync, W: Watch + Sync>(
     rt: &R,
     alloc: Global,
     checked: &Checked,
@@ -71,18 +183,10 @@ fn check_client_with<R: Threads + Wait + Sync, W: Watch + Sync>(
 ) -> Result<Verdict, AllocError>
     ensures { IfOk result (IsVerdict checked.now.client bytes.now) }
 {
-    match open(alloc, checked, bytes)? {
-        Begun::Decided(verdict) => Ok(verdict),
-        Begun::Open(opened) => {
-            let watched = Watched {
-                alloc,
-                opened: &opened,
-                rt,
-                watch,
-            };
-            let found = judge_with(rt, &watched, &opened.tree, 0, workers.count())?;
-            Ok(verdict_of(&opened, found))
-        }
+    let told = Told { rt, watch };
+    match scan(alloc, checked, bytes)? {
+        Some(scanned) => decide_stored_with(rt, alloc, checked, &scanned, workers, &told),
+        None => decide_bytes_with(rt, alloc, checked, bytes, workers, &told),
     }
 }
 
@@ -107,7 +211,7 @@ fn answer_with<R: Threads + Wait + Sync, W: Watch + Sync>(
     ensures { IsAnswer program.now cert.now result }
 {
     let checked = checked_of(alloc, program)?;
-    let verdict = check_client_with(rt, alloc, &checked, cert, workers, watch)?;
+    let verdict = verdict_with(rt, alloc, &checked, cert, workers, watch)?;
     Ok(verdict)
 }
 

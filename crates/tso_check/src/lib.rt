@@ -2,16 +2,16 @@
 #![tactic(auto)]
 
 mod deciding;
-mod filling;
+mod halved;
 mod halves;
+mod judging;
 mod laws;
 mod numbered;
-mod opening;
 mod program;
 mod rising;
+mod stored;
 mod threads;
 mod verdict;
-mod walk;
 
 pub use deciding::{check, check_client, check_with};
 pub use laws::{accepted_runs_are_good, answers_are_unique, verdicts_are_unique};

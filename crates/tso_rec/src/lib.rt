@@ -13,5 +13,7 @@ mod told;
 pub use kept::Kept;
 pub use known::{Known, Shelf};
 pub use packed::Packed;
+pub use places::{Places, mark_of_front};
 pub use record::{End, Record};
-pub use shared::{Part, Shared, copy_all};
+pub use shared::{Part, Shared, copy_all, copy_of};
+pub use told::{Readable, Reader};

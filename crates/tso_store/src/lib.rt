@@ -20,7 +20,9 @@ mod thread_after;
 mod view;
 
 pub use fault::AddError;
+pub use key::{Key, NONE};
 pub use numbered::Store;
+pub use parts::Parts;
 pub use sought::Found;
 pub use tso_parts::Refused;
 pub use view::{Marks, View};

@@ -3,7 +3,7 @@ ghost use Rattle.std.specs.Prelude.{◌≡◌, ◌↔◌, ◌+◌, ◌<◌, ◌�
 ghost use Rattle.tso_parts.specs.Numbers.{IsNumbered, IsNowhere};
 ghost use Rattle.tso_parts.specs.declared.refused.Refused.TheVariants as reasons;
 ghost use Rattle.tso_rec.specs.Keeping.{record_of};
-ghost use Rattle.tso_store.specs.Keys.{FitsClient};
+ghost use Rattle.tso_store.specs.Keys.{AreKept, FitsClient, states_at};
 ghost use Rattle.tso_store.specs.Orders.{IsCompared, IsRising};
 ghost use Rattle.tso_store.specs.Sheets.{CanStep, IsAdded, IsFound, IsSuccessorOrNone};
 ghost use Rattle.tso_store.specs.declared.fault.AddError.TheVariants as errors;
@@ -77,6 +77,21 @@ impl<'a> Store<'a> {
                 threads: Catalog::new(alloc, seed),
             },
             keys: Pool::new(alloc, seed),
+            known: Seq::new(alloc),
+        }
+    }
+
+    /// The states of these keys, whose parts are those with their numbers.
+    pub fn of_parts(alloc: Global, checked: &'a Checked, parts: Parts, keys: Pool<Key>) -> Self
+        requires { AreKept checked.now.client parts keys }
+        ensures client { result.client ≡ checked.now.client }
+        ensures states { result.states ≡ states_at parts keys }
+    {
+        parts.threads.is_numbered();
+        Store {
+            checked,
+            parts,
+            keys,
             known: Seq::new(alloc),
         }
     }

@@ -1,0 +1,22 @@
+use Rattle.std.proofs.Common.{◌≡◌, ◌+◌, arith}
+use Rattle.tso_check.proofs.StoredLemmas.{stored_whole}
+use Rattle.tso_check.proofs.deciding.decide_stored_with.Goals as goal
+use Rattle.tso_scan.specs.Scanned.{shape_count}
+
+pub returns-in-Some : goal.returns-in-Some
+returns-in-Some g c = rw c.rejected.ensures (rw c.in-Some.is at c.in_ok-code.ensures)
+
+pub returns-in_ok-found-in-None : goal.returns-in_ok-found-in-None
+returns-in_ok-found-in-None g c = λ tree is.
+    let count = shape_count c.args.scanned.now.shape in
+    let all : 0 + count ≡ count = omega arith in
+    let whole = (rw c.in-None.is at c.in_ok-code.ensures) tree is in
+    c.verdict_of.ensures c.args.checked.now.client c.args.scanned.now.table tree whole (stored_whole c.args.checked.now.client c.args.scanned.now tree (0 + count) c.in_ok-found-in-None.found is all c.in_ok-found-in-None.ensures)
+
+pub judge_with-requires-clause-ready : goal.judge_with-requires-clause-ready
+judge_with-requires-clause-ready g c =
+    let s = c.requires.stored in
+    let count = s.count in
+    let long = s.long in
+    let most = s.few in
+    λ k within. (s, omega (arith, count, long, most))

@@ -1,0 +1,10 @@
+use Rattle.tso_check.proofs.StoredLemmas.{stored_whole}
+use Rattle.tso_check.proofs.stored.decide_stored.Goals as goal
+
+pub returns-in-Some : goal.returns-in-Some
+returns-in-Some c = rw c.rejected.ensures (rw c.in-Some.is at c.in_ok-code.ensures)
+
+pub returns-in_ok-found-in-None : goal.returns-in_ok-found-in-None
+returns-in_ok-found-in-None c = λ tree is.
+    let whole = (rw c.in-None.is at c.in_ok-code.ensures) tree is in
+    c.verdict_of.ensures c.args.checked.now.client c.args.scanned.now.table tree whole (stored_whole c.args.checked.now.client c.args.scanned.now tree c.len-count.result c.in_ok-found-in-None.found is c.len-count.ensures c.in_ok-found-in-None.ensures)

@@ -1,0 +1,5 @@
+pub mod ScrollLemmas
+pub mod RowLemmas
+pub mod HistoryLemmas
+pub mod ScanLemmas
+pub mod TreeLemmas

@@ -1,0 +1,3 @@
+pub mod Scrolls
+pub mod Sources
+pub mod Scanned

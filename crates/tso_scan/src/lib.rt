@@ -1,0 +1,14 @@
+//! Certificates read straight into a store: each part is told by its spelling, and no tree of records is made.
+#![tactic(auto)]
+
+mod histories;
+mod rows;
+mod scanned;
+mod scroll;
+mod shape;
+mod sources;
+mod states;
+mod trees;
+
+pub use scanned::{Scanned, scan};
+pub use shape::Shape;
