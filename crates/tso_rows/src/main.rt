@@ -5,6 +5,8 @@
 #[cfg(test)]
 mod certificates;
 #[cfg(test)]
+mod checking;
+#[cfg(test)]
 mod choices;
 #[cfg(test)]
 mod limits;
@@ -14,6 +16,8 @@ mod meeting;
 mod programs;
 #[cfg(test)]
 mod refusals;
+#[cfg(test)]
+mod scans;
 #[cfg(test)]
 mod searching;
 #[cfg(test)]

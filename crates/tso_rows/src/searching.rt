@@ -1,10 +1,9 @@
 //! Several workers search one client together.
 
+use crate::meeting::Meeting;
 use std::alloc::Global;
 use std::sync::Wait;
-use std::sync::atomic::{AtomicBool, AtomicU64, Ordering};
 use std::test::Fail;
-use std::thread;
 use tso_cert::{NoWatch, Watch, Workers};
 use tso_check::checked_of;
 use tso_explore::{Outcome, explore};
@@ -14,57 +13,21 @@ use tso_pool::{Ending, search};
 use tso_samples::{LAMPORT_FENCED, ONE_REFUSAL};
 use tso_table::Table;
 
-/// How often a worker that waits lets others go on before it gives up.
-const TURNS: u64 = 10_000_000;
-
-/// No worker.
-const NOBODY: u64 = u64::MAX;
-
 /// The worker that comes first waits at its second ticket until another has come to its first.
 #[derive(Drop)]
-struct Meeting {
-    first: AtomicU64,
-    has_met: AtomicBool,
-    has_given_up: AtomicBool,
+struct AtTickets {
+    meeting: Meeting,
 }
 
-impl Meeting {
-    fn new() -> Meeting {
-        Meeting {
-            first: AtomicU64::new(NOBODY),
-            has_met: AtomicBool::new(false),
-            has_given_up: AtomicBool::new(false),
-        }
-    }
-
-    // The worker that came first, if it has come before.
-    fn come(&self, worker: u64) -> Option<u64> {
-        self.first
-            .compare_exchange(NOBODY, worker, Ordering::SeqCst, Ordering::SeqCst)
-            .err()
-    }
-
-    // Waits for another worker.
-    fn wait(&self) {
-        for _ in 0..TURNS {
-            if self.has_met.load(Ordering::SeqCst) {
-                return;
-            }
-            thread::yield_now();
-        }
-        self.has_given_up.store(true, Ordering::SeqCst);
-    }
-}
-
-impl Watch for Meeting {
+impl Watch for AtTickets {
     fn at<R: Wait>(&self, _rt: &R, worker: u64) {
-        match self.come(worker) {
+        match self.meeting.come(worker) {
             None => {}
             Some(first) => {
                 if first == worker {
-                    self.wait();
+                    self.meeting.wait();
                 } else {
-                    self.has_met.store(true, Ordering::SeqCst);
+                    self.meeting.meet();
                 }
             }
         }
@@ -82,10 +45,10 @@ fn two_workers_search(rt: HostRuntime) -> Result<(), Fail> {
     let workers = Workers::new(2).ok_or("no workers")?;
     let checked = client_of(rt.alloc(), LAMPORT_FENCED)?;
     let meeting = Meeting::new();
-    let outcome = explore(&rt, rt.alloc(), &checked, workers, 4_194_304, &meeting);
+    let watch = AtTickets { meeting };
+    let outcome = explore(&rt, rt.alloc(), &checked, workers, 4_194_304, &watch);
     assert!(rt; matches!(outcome, Outcome::Certificate(_, _)));
-    assert!(rt; !meeting.has_given_up.load(Ordering::SeqCst));
-    assert!(rt; meeting.has_met.load(Ordering::SeqCst));
+    assert!(rt; watch.meeting.is_held());
     Ok(())
 }
 
