@@ -1,12 +1,13 @@
 //! Benchmarks: how long a text of the greatest length is read, how long orders of calls are sought, how long a trace is walked
-//! forwards and back, how long steps of compact states take, walks through them and whole searches, and how fast certificates are
-//! read and spelled. Where no time is printed, it is that of the whole process.
+//! forwards and back, how long steps of compact states take, walks through them, whole searches and whole checks, and how fast
+//! certificates are read and spelled. Where no time is printed, it is that of the whole process.
 #![tactic(auto)]
 
 ghost use Rattle.std.specs.Prelude.{◌≡◌, ◌+◌, ◌<◌, ◌≤◌, ◌⊎◌, length, IfOk, IfSome, OnOk, string_len};
 
 use along::{Along, walk_along};
 use certs::measure;
+use checks::measure_checks;
 use searches::measure_searches;
 use std::alloc::{AllocError, Global};
 use std::io;
@@ -26,6 +27,7 @@ use tso_trace::{Cursor, Trace};
 
 mod along;
 mod certs;
+mod checks;
 mod searches;
 mod steps;
 mod store;
@@ -163,6 +165,8 @@ enum Benchmark<'a> {
     Along(u32),
     /// The states of this file's client are searched by so many workers.
     Search(&'a str, Workers),
+    /// The certificate of the second file is checked for the client of the first by so many workers.
+    Check(&'a str, &'a str, Workers),
     /// The certificate of this file is read and spelled.
     Certs(&'a str),
     /// So many labels are taken.
@@ -211,8 +215,19 @@ fn search_by<'a>(path: &'a String, workers: &String) -> Benchmark<'a> {
     }
 }
 
+// A check of a certificate for a file's client by so many workers.
+fn check_by<'a>(program: &'a String, cert: &'a String, workers: &String) -> Benchmark<'a> {
+    match Workers::new(number_of(workers)) {
+        Some(workers) => Benchmark::Check(program.as_str(), cert.as_str(), workers),
+        None => Benchmark::Texts,
+    }
+}
+
 fn benchmark_of<'a>(words: &'a [String]) -> Benchmark<'a> {
     match words {
+        [_, word, program, cert, workers] if word.as_str() == "check" => {
+            check_by(program, cert, workers)
+        }
         [_, word, path, workers] if word.as_str() == "search" => search_by(path, workers),
         [_, word, behind] => benchmark_with(word.as_str(), behind),
         [_, word] if word.as_str() == "orders" => Benchmark::Orders,
@@ -326,6 +341,10 @@ fn run<R: Clock + Files + Print + Threads + Wait + Sync + AllocGlobal>(
         Benchmark::Along(states) => measure_walk(rt, alloc, states, true),
         Benchmark::Search(path, workers) => {
             measure_searches(rt, path, workers)?;
+            Ok(true)
+        }
+        Benchmark::Check(program, cert, workers) => {
+            measure_checks(rt, program, cert, workers)?;
             Ok(true)
         }
         Benchmark::Certs(path) => {
