@@ -1,7 +1,7 @@
 //! Certificates whose states are looked up in their tree by halves.
 
-ghost use Rattle.std.specs.Prelude.{◌≡◌, ◌+◌, ◌≤◌, IfOk, length};
-ghost use Rattle.tso_cert.specs.Lookup.{IsOrdered, tree_states};
+ghost use Rattle.std.specs.Prelude.{◌+◌, ◌≤◌, IfOk, length};
+ghost use Rattle.tso_cert.specs.Lookup.{IsOrdered};
 ghost use Rattle.tso_cert.specs.Trees.{record_count, records_of, tree_of};
 ghost use Rattle.tso_check.specs.Halved.{AreFrom, AreJudgedIn};
 ghost use Rattle.tso_check.specs.Spans.{IsWholeFault};

@@ -1,7 +1,7 @@
 //! Records of a certificate that are judged by their numbers.
 
-ghost use Rattle.std.specs.Prelude.{◌≤◌, IfOk, IfSome};
-ghost use Rattle.tso_cert.specs.Trees.{Tree, record_count};
+ghost use Rattle.std.specs.Prelude.{IfOk, IfSome};
+ghost use Rattle.tso_cert.specs.Trees.{Tree};
 ghost use Rattle.tso_check.specs.Spans.{AreHalves, IsSpanJudged, IsWhole, Span, whole_span};
 ghost use Rattle.tso_check.specs.Verdicts.{IsTreeVerdict};
 ghost use Rattle.tso_foot.specs.declared.table.Table.{Table as FootprintTable};

@@ -1,7 +1,6 @@
 //! Certificates whose states lie in a store under the numbers of their records.
 
 ghost use Rattle.std.specs.Prelude.{◌+◌, ◌≤◌, IfOk};
-ghost use Rattle.tso_cert.specs.Trees.{Tree};
 ghost use Rattle.tso_check.specs.Spans.{IsSpanJudged, IsStored, IsVerdictOn, IsWholeFaultOf, stored_span};
 ghost use Rattle.tso_scan.specs.Scanned.{shape_count};
 
