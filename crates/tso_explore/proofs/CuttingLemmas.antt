@@ -1,5 +1,5 @@
 -- Worked states as valid records, and the trees that are cut of them.
-use Rattle.std.proofs.Common.{◌≡◌, ℕ, zero, suc, ◌+◌, ◌*◌, ◌/◌, ◌^◌, ◌<◌, ◌≤◌, Bool, true, false, List, [], ◌∷◌, ◌++◌, length, map, take, drop, get_or, Some, slice_get, refl, sym, ap, subst, take-suc, ◌∙◌, arith}
+use Rattle.std.proofs.Common.{◌≡◌, ℕ, zero, suc, ◌+◌, ◌*◌, ◌/◌, ◌^◌, ◌<◌, ◌≤◌, Bool, true, false, List, [], ◌∷◌, ◌++◌, length, map, take, drop, get_or, None, Some, slice_get, refl, sym, ap, subst, take-suc, ◌∙◌, arith}
 use Rattle.std.proofs.lemmas.Bool.{eqb-false, eqb-true, false≢true}
 use Rattle.std.proofs.lemmas.List.{length-append, take-append-drop, length-take, length-drop}
 use Rattle.std.proofs.lemmas.List.Sorted.{All-permutation, Contains-permutation, length_permutation, sorted_far}
@@ -33,7 +33,9 @@ use Rattle.tso_judge.specs.Valid.{AreValidRecords, HasInitial}
 use Rattle.tso_parts.specs.Numbers.{IsNumbered}
 use Rattle.tso_prog.specs.declared.client.Client.{Client}
 use Rattle.tso_rec.proofs.KeptLemmas.{same_state}
+use Rattle.tso_rec.specs.Keeping.{record_of}
 use Rattle.tso_rec.specs.Records.{states_of}
+use Rattle.tso_rec.specs.declared.kept.Kept.{Kept}
 use Rattle.tso_rec.specs.declared.record.End.{End}
 use Rattle.tso_rec.specs.declared.record.End.TheVariants.{Choices, Order}
 use Rattle.tso_rec.specs.declared.record.Record.{Record}
@@ -92,6 +94,12 @@ mapped_at f [] k x e = absurd (none-some x e)
 mapped_at f (y ∷ xs) zero x e = ap (λ z. Some (f z)) (same_Some y x e)
 mapped_at f (y ∷ xs) (suc k) x e = mapped_at f xs k x e
 
+-- an item below the end is there
+pub never_past : {X : Type 0} (xs : List X) (n : ℕ) → slice_get xs n ≡ None → n < length xs → ⊥
+never_past [] n e lt = omega (arith, lt)
+never_past (x ∷ xs) zero e lt = none-some x (sym e)
+never_past (x ∷ xs) (suc n) e lt = never_past xs n e (omega (arith, lt))
+
 -- ---- one record
 
 -- where nothing is chosen no actor has a step
@@ -127,6 +135,16 @@ worked_record c t states n s e searched at ends = record {
   at = at;
   valid = valid_end c t states s e (searched_well_formed c t states n s searched at) (searched_worked c t states n s searched at) ends;
 }
+
+-- ---- the record that a recorder makes of a state
+
+abbrev pub with_end : End → State → Record
+with_end e s = record { state = s; end = e }
+
+pub recorded : (k : Kept) (states all : List State) (n : ℕ) (s : State) (e f : End) → all ≡ states → Some (record_of k) ≡ option_map (with_end e) (slice_get all n) → slice_get states n ≡ Some s → e ≡ f → record_of k ≡ with_end f s
+recorded k states all n s e f same is at ends =
+    same_Some (record_of k) (with_end e s) (is ∙ ap (λ (us : List State). option_map (with_end e) (slice_get us n)) same ∙ ap (option_map (with_end e)) at)
+    ∙ ap (λ (end : End). with_end end s) ends
 
 -- ---- records of numbers
 

@@ -1,4 +1,3 @@
 pub mod CuttingLemmas
 pub mod SearchLemmas
-pub mod ShelfLemmas
 pub mod WayLemmas

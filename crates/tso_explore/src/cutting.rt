@@ -7,7 +7,7 @@ ghost use Rattle.tso_explore.specs.Searched.{AreSearched};
 ghost use Rattle.tso_rec.specs.Keeping as keeping;
 ghost use Rattle.tso_state.specs.WellFormed.{IsWellFormed};
 
-use crate::shelves::Shelves;
+use crate::ends::share_end;
 use std::alloc::{AllocError, Global};
 use std::boxed::Box;
 use tso_cert::Cert;
@@ -15,9 +15,9 @@ use tso_choose::choose;
 use tso_fifo::linearize;
 use tso_flow::Checked;
 use tso_foot::Table;
-use tso_rec::{End, Kept, Packed};
+use tso_rec::{End, Kept, Packed, Shelf};
 use tso_state::State;
-use tso_store::{Store, View};
+use tso_store::{Recorder, Store, View};
 
 // The most records of a leaf.
 const LEAF: usize = 64;
@@ -55,18 +55,23 @@ fn record_of(
     checked: &Checked,
     table: &Table,
     store: &Store<'_>,
-    shelves: &mut Shelves,
+    recorder: &Recorder<'_>,
+    ends: &mut Shelf<End>,
     number: u32,
 ) -> Result<Kept, AllocError>
     requires searched { AreSearched checked.now.client table.now store.now.states }
+    requires same { recorder.now ≡ store.now.states }
     requires there { number < length store.now.states }
     ensures { IfOk result (λ k. IsRecordOf checked.now.client table.now store.now.states number (keeping.record_of k)) }
 {
     match store.view(number) {
         Some(view) => {
             let end = end_of(alloc, checked, table, &view)?;
-            let kept = shelves.record(alloc, &view, end)?;
-            Ok(kept)
+            let end = share_end(alloc, ends, end)?;
+            match recorder.record(alloc, number, end)? {
+                Some(kept) => Ok(kept),
+                None => unreachable!(),
+            }
         }
         None => unreachable!(),
     }
@@ -78,16 +83,18 @@ fn leaf_of(
     checked: &Checked,
     table: &Table,
     store: &Store<'_>,
-    shelves: &mut Shelves,
+    recorder: &Recorder<'_>,
+    ends: &mut Shelf<End>,
     numbers: &[u32],
 ) -> Result<Packed, AllocError>
     requires searched { AreSearched checked.now.client table.now store.now.states }
+    requires same { recorder.now ≡ store.now.states }
     requires numbers { AreNumbers store.now.states numbers.now }
     ensures { IfOk result (AreRecordsOf checked.now.client table.now store.now.states numbers.now) }
 {
     let mut records = Packed::new(alloc);
     for number in numbers {
-        let added = record_of(alloc, checked, table, store, shelves, *number)?;
+        let added = record_of(alloc, checked, table, store, recorder, ends, *number)?;
         records.append(added)?;
     }
     Ok(records)
@@ -111,21 +118,23 @@ pub fn tree_of(
     checked: &Checked,
     table: &Table,
     store: &Store<'_>,
-    shelves: &mut Shelves,
+    recorder: &Recorder<'_>,
+    ends: &mut Shelf<End>,
     numbers: &[u32],
 ) -> Result<Cert, AllocError>
     requires searched { AreSearched checked.now.client table.now store.now.states }
+    requires same { recorder.now ≡ store.now.states }
     requires numbers { AreNumbers store.now.states numbers.now }
     requires rising { AreRising store.now.states numbers.now }
     ensures { IfOk result (λ cert. IsCut checked.now.client table.now store.now.states numbers.now (trees.tree_of cert)) }
 {
     if numbers.len() <= LEAF {
-        let records = leaf_of(alloc, checked, table, store, shelves, numbers)?;
+        let records = leaf_of(alloc, checked, table, store, recorder, ends, numbers)?;
         return Ok(Cert::Leaf(records));
     }
     let (low, high) = numbers.split_at(numbers.len() / 2);
-    let left = tree_of(alloc, checked, table, store, shelves, low)?;
+    let left = tree_of(alloc, checked, table, store, recorder, ends, low)?;
     let middle = state_at(alloc, store, high[0])?;
-    let right = tree_of(alloc, checked, table, store, shelves, high)?;
+    let right = tree_of(alloc, checked, table, store, recorder, ends, high)?;
     Ok(Cert::Fork(Box::new(alloc, left)?, middle, Box::new(alloc, right)?))
 }

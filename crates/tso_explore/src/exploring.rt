@@ -12,7 +12,6 @@ use crate::merging::{add_met, merged};
 use crate::origin::Origin;
 use crate::outcome::Outcome;
 use crate::searching::search;
-use crate::shelves::Shelves;
 use crate::showing::{trace_along, walked};
 use crate::stop::Stop;
 use crate::way::trace_to;
@@ -23,6 +22,7 @@ use tso_cert::{Watch, Workers};
 use tso_flow::Checked;
 use tso_foot::{Table, build};
 use tso_pool::{Ending, search as search_together};
+use tso_rec::Shelf;
 use tso_state::initial_state;
 use tso_store::{AddError, Store};
 use tso_table::Kept;
@@ -63,13 +63,15 @@ fn certificate_of(
 {
     store.states_differ();
     let numbers = store.rising(alloc)?;
-    let mut shelves = Shelves::new(alloc);
+    let recorder = store.recorder(alloc)?;
+    let mut ends = Shelf::new(alloc);
     let cert = tree_of(
         alloc,
         checked,
         &table,
         store,
-        &mut shelves,
+        &recorder,
+        &mut ends,
         numbers.as_slice(),
     )?;
     Ok(Outcome::Certificate(table, cert))

@@ -4,13 +4,13 @@
 mod closing;
 mod cutting;
 mod ending;
+mod ends;
 mod exploring;
 mod following;
 mod merging;
 mod origin;
 mod outcome;
 mod searching;
-mod shelves;
 mod showing;
 mod stop;
 mod way;

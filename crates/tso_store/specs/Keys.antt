@@ -48,6 +48,10 @@ pub record IsViewed (pool : List Thread) (numbers : List ℕ) (history : List (L
   pub lists : length history ≡ length (values_at pool numbers)
   pub small : length pool < 2 ^ 32
 
+-- the keys are of states of some client
+abbrev pub AreSomeones : Parts → List Key → Type 0
+AreSomeones p ks = (c : Client) × AreKept c p ks
+
 -- how many parts there are
 abbrev pub part_count : Parts → ℕ
 part_count p = length p.memories + length p.histories + length p.threads

@@ -16,6 +16,7 @@ use crate::packed::{kept_fits_client, key_of_kept};
 use crate::parts::Parts;
 use crate::ranking::{compare_at, key_at, rising};
 use crate::ranks::{Ranks, ranks_of};
+use crate::recorder::Recorder;
 use crate::sought::{Found, Sought, find_step};
 use crate::stepped::step_key;
 use crate::view::{View, copy_of};
@@ -286,6 +287,15 @@ impl<'a> Store<'a> {
             histories: histories.as_slice(),
         };
         rising(alloc, &self.parts, &self.keys, &ranks)
+    }
+
+    /// What makes records of the states, with each part in memory once for all of them.
+    ///
+    /// Errors: where a growth was refused.
+    pub fn recorder(&self, alloc: Global) -> Result<Recorder<'_>, AllocError>
+        ensures { IfOk result (λ r. r ≡ self.now.states) }
+    {
+        Recorder::of_parts(alloc, &self.parts, &self.keys)
     }
 
     /// Two states with different numbers differ. This function does nothing when it runs.

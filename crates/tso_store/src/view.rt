@@ -11,18 +11,6 @@ use tso_list::Seq;
 use tso_parts::Catalog;
 use tso_state::{State, Thread, Viewed};
 
-/// The numbers of a kept state's parts: parts with one number are the same, and of no other number, while the store lives.
-/// They serve to tell parts that were met before; no contract speaks of them.
-#[derive(Clone, Copy, Debug)]
-pub struct Marks {
-    /// The number of its memory.
-    pub memory: u32,
-    /// The number of its history.
-    pub history: u32,
-    /// The numbers of its threads; 2^32 - 1 stands where there is none.
-    pub threads: [u32; 5],
-}
-
 /// A kept state. Contracts see the state.
 #[derive(Drop)]
 pub struct View<'a> {
@@ -30,8 +18,6 @@ pub struct View<'a> {
     history: &'a History,
     threads: &'a Catalog<Thread>,
     numbers: [u32; 5],
-    memory_number: u32,
-    history_number: u32,
 }
 
 impl<'a> Model for View<'a> {
@@ -94,15 +80,6 @@ impl<'a> View<'a> {
         self.memory
     }
 
-    /// The numbers of its parts.
-    pub fn marks(&self) -> Marks {
-        Marks {
-            memory: self.memory_number,
-            history: self.history_number,
-            threads: self.numbers,
-        }
-    }
-
     /// The state of a key, where it is kept.
     pub(crate) fn of_key(parts: &'a Parts, key: &Key) -> Option<View<'a>>
         requires kept { (c : Client) × IsKept c parts.now key.now }
@@ -116,8 +93,6 @@ impl<'a> View<'a> {
             history,
             threads: &parts.threads,
             numbers: key.threads,
-            memory_number: key.memory,
-            history_number: key.history,
         })
     }
 }

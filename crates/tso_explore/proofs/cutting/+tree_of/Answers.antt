@@ -12,8 +12,11 @@ tree_of-requires t c =
       (
         c.requires.searched,
         (
-          numbers_low states ns low (length ns / 2) c.split_at.ensures.front c.requires.numbers,
-          rising_low states ns low (length ns / 2) c.split_at.ensures.front c.requires.rising,
+          c.requires.same,
+          (
+            numbers_low states ns low (length ns / 2) c.split_at.ensures.front c.requires.numbers,
+            rising_low states ns low (length ns / 2) c.split_at.ensures.front c.requires.rising,
+          ),
         ),
       ),
     )
@@ -31,8 +34,11 @@ tree_of-requires-2 t c =
       (
         c.requires.searched,
         (
-          numbers_high states ns high (length ns / 2) c.split_at.ensures.back c.requires.numbers,
-          rising_high states ns high (length ns / 2) c.split_at.ensures.back c.requires.rising,
+          c.requires.same,
+          (
+            numbers_high states ns high (length ns / 2) c.split_at.ensures.back c.requires.numbers,
+            rising_high states ns high (length ns / 2) c.split_at.ensures.back c.requires.rising,
+          ),
         ),
       ),
     )
