@@ -1,6 +1,6 @@
 //! What a worker does under a lock. It has one shard's lock at a time, and the budget's only while it has that.
 
-ghost use Rattle.std.specs.Prelude.{◌≡◌, ◌<◌, IfErr, IfOk, IfSome};
+ghost use Rattle.std.specs.Prelude.{◌≡◌, ◌+◌, ◌<◌, IfErr, IfOk, IfSome, MatchBool, OnErr, OnOk};
 ghost use Rattle.tso_pool.specs.Endings.{IsEndingOf};
 ghost use Rattle.tso_table.specs.Ends.{AreNear, IsEnd};
 ghost use Rattle.tso_table.specs.Leading.{IsKept, shard_of};
@@ -13,7 +13,7 @@ use tso_cert::Watch;
 use tso_state::State;
 use tso_table::{Filed, FinishError, InternError, Kept, Near, Number, Shard, shard_of};
 
-/// The state of a ticket, claimed for the caller. `None` where no state waits there.
+/// The state of a ticket, claimed for the caller, by one entry of its shard's log. `None` where no state waits there.
 pub fn take<U: Ledger, E: Ledger, R: Wait, W: Watch>(
     team: &Team<'_, '_, U, E, R, W>,
     ticket: Number,
@@ -21,11 +21,13 @@ pub fn take<U: Ledger, E: Ledger, R: Wait, W: Watch>(
 ) -> Result<Option<Kept>, Ending>
     requires part { 0 < share.old.parts }
     ensures parts { share.new.parts ≡ share.old.parts }
+    ensures counted { OnOk result (share.new.amount ≡ share.old.amount + 1) }
+    ensures uncounted { OnErr result (share.new.amount ≡ share.old.amount) }
     ensures kept { IfOk result (λ o. IfSome o (IsKept team.now.checked.now.client)) }
     ensures ending { IfErr result (IsEndingOf team.now.checked.now.client) }
 {
     let Some(cell) = team.shards.get(ticket.shard as usize) else {
-        return Ok(None);
+        return Err(Ending::Quiet);
     };
     let mut shard = cell.lock(team.rt);
     if !shard.is_for(team.checked, team.table, ticket.shard) {
@@ -51,6 +53,8 @@ fn number_in<U: Ledger, E: Ledger, R: Wait, W: Watch>(
     requires kept { IsKept team.now.checked.now.client kept }
     requires here { shard_of kept.state ≡ shard.old.number }
     ensures parts { share.new.parts ≡ share.old.parts }
+    ensures counted { OnOk result (share.new.amount ≡ share.old.amount + 1) }
+    ensures uncounted { OnErr result (share.new.amount ≡ share.old.amount) }
     ensures number { IfOk result (λ r. r.0.shard ≡ shard_of kept.state) }
     ensures ending { IfErr result (IsEndingOf team.now.checked.now.client) }
 {
@@ -70,7 +74,7 @@ fn number_in<U: Ledger, E: Ledger, R: Wait, W: Watch>(
     }
 }
 
-/// The number of a state, and whether it is new.
+/// The number of a state, and whether it is new, by one entry of its shard's log.
 pub fn intern<U: Ledger, E: Ledger, R: Wait, W: Watch>(
     team: &Team<'_, '_, U, E, R, W>,
     kept: Kept,
@@ -79,6 +83,8 @@ pub fn intern<U: Ledger, E: Ledger, R: Wait, W: Watch>(
     requires part { 0 < share.old.parts }
     requires kept { IsKept team.now.checked.now.client kept }
     ensures parts { share.new.parts ≡ share.old.parts }
+    ensures counted { OnOk result (share.new.amount ≡ share.old.amount + 1) }
+    ensures uncounted { OnErr result (share.new.amount ≡ share.old.amount) }
     ensures number { IfOk result (λ r. r.0.shard ≡ shard_of kept.state) }
     ensures ending { IfErr result (IsEndingOf team.now.checked.now.client) }
 {
@@ -93,7 +99,8 @@ pub fn intern<U: Ledger, E: Ledger, R: Wait, W: Watch>(
     number_in(team, &mut shard, kept, share)
 }
 
-/// Files the end of a ticket's state. Where the table is not ready for it nothing changes.
+/// Files the end of a ticket's state, by one entry of its shard's log. False where the table is not ready for it: then nothing
+/// changes.
 pub fn file<U: Ledger, E: Ledger, R: Wait, W: Watch>(
     team: &Team<'_, '_, U, E, R, W>,
     ticket: Number,
@@ -101,23 +108,25 @@ pub fn file<U: Ledger, E: Ledger, R: Wait, W: Watch>(
     filed: Filed,
     near: &[Near],
     share: &mut Share<E>,
-) -> Result<(), Ending>
+) -> Result<bool, Ending>
     requires part { 0 < share.old.parts }
     requires end { IsEnd team.now.checked.now.client team.now.table.now state.now filed }
     requires near { AreNear team.now.checked.now.client ticket.shard state.now filed near.now }
     ensures parts { share.new.parts ≡ share.old.parts }
+    ensures counted { IfOk result (λ filed. MatchBool filed (share.new.amount ≡ share.old.amount + 1) (share.new.amount ≡ share.old.amount)) }
+    ensures uncounted { OnErr result (share.new.amount ≡ share.old.amount) }
     ensures ending { IfErr result (IsEndingOf team.now.checked.now.client) }
 {
     let Some(cell) = team.shards.get(ticket.shard as usize) else {
-        return Ok(());
+        return Ok(false);
     };
     let mut shard = cell.lock(team.rt);
     if !shard.is_for(team.checked, team.table, ticket.shard) {
         return Err(Ending::Quiet);
     }
     match shard.finish(ticket.place, state, filed, near, share) {
-        Ok(()) => Ok(()),
-        Err(FinishError::NotReady) => Ok(()),
+        Ok(()) => Ok(true),
+        Err(FinishError::NotReady) => Ok(false),
         Err(FinishError::Memory) => Err(Ending::Memory),
     }
 }

@@ -1,6 +1,6 @@
 //! What one worker does.
 
-ghost use Rattle.std.specs.Prelude.{◌≡◌, ◌<◌, ℕ, IfErr, IfOk, IsTrue, List, OnOk, Some, length, slice_get};
+ghost use Rattle.std.specs.Prelude.{◌≡◌, ◌+◌, ◌<◌, ◌≤◌, ℕ, IfErr, IfOk, IsTrue, List, OnOk, Some, length, slice_get};
 ghost use Rattle.tso_choose.specs.Choices.{AreChosen};
 ghost use Rattle.tso_choose.specs.declared.choice.Choice.{Choice as AChoice};
 ghost use Rattle.tso_compact.specs.Plans.{HasStep};
@@ -63,6 +63,7 @@ fn follow<U: Ledger, E: Ledger, R: Wait, W: Watch>(
     requires step { HasStep team.now.checked.now.client kept.now.state actor }
     ensures parts { share.new.parts ≡ share.old.parts }
     ensures place { place_of seat.new ≡ place_of seat.old }
+    ensures counted { OnOk result (share.new.amount ≡ share.old.amount + 1) }
     ensures moved { OnOk result (HasMoved team.now.checked.now.client own kept.now.state actor moves.old moves.new) }
     ensures ending { IfErr result (IsEndingOf team.now.checked.now.client) }
 {
@@ -96,6 +97,7 @@ fn follow_all<U: Ledger, E: Ledger, R: Wait, W: Watch>(
     requires chosen { AreChosen team.now.checked.now.client team.now.table.now kept.now.state choices.now }
     ensures parts { share.new.parts ≡ share.old.parts }
     ensures place { place_of seat.new ≡ place_of seat.old }
+    ensures counted { OnOk result (share.new.amount ≡ share.old.amount + length choices.now) }
     ensures numbered { IfOk result (AreNumbered team.now.checked.now.client own kept.now.state choices.now) }
     ensures all { IfOk result (λ m. length m.numbers ≡ length choices.now) }
     ensures ending { IfErr result (IsEndingOf team.now.checked.now.client) }
@@ -122,6 +124,7 @@ fn work_moves<U: Ledger, E: Ledger, R: Wait, W: Watch>(
     requires some { 0 < length choices }
     ensures parts { share.new.parts ≡ share.old.parts }
     ensures place { place_of seat.new ≡ place_of seat.old }
+    ensures counted { OnOk result (share.old.amount + length choices ≤ share.new.amount) }
     ensures ending { IfErr result (IsEndingOf team.now.checked.now.client) }
 {
     let own = ticket.shard;
@@ -129,7 +132,8 @@ fn work_moves<U: Ledger, E: Ledger, R: Wait, W: Watch>(
     let Moves { numbers, near } = moves;
     let end = End::Choices(choices);
     let filed = Filed { end, numbers };
-    file(team, ticket, &kept.state, filed, near.as_slice(), share)
+    file(team, ticket, &kept.state, filed, near.as_slice(), share)?;
+    Ok(())
 }
 
 // Works a state in which no actor has a step.
@@ -143,20 +147,16 @@ fn work_end<U: Ledger, E: Ledger, R: Wait, W: Watch>(
     requires kept { IsKept team.now.checked.now.client kept }
     requires over { IsOver team.now.checked.now.client kept.state }
     ensures parts { share.new.parts ≡ share.old.parts }
+    ensures counted { OnOk result (share.old.amount ≤ share.new.amount) }
     ensures ending { IfErr result (IsEndingOf team.now.checked.now.client) }
 {
     match judge_end(team.alloc, team.checked, &kept.state)? {
         Some(order) => {
             let end = End::Order(order);
             let numbers = Seq::new(team.alloc);
-            file(
-                team,
-                ticket,
-                &kept.state,
-                Filed { end, numbers },
-                &[],
-                share,
-            )
+            let filed = Filed { end, numbers };
+            file(team, ticket, &kept.state, filed, &[], share)?;
+            Ok(())
         }
         None => Err(Ending::Violation(kept)),
     }
@@ -172,6 +172,7 @@ fn work_ticket<U: Ledger, E: Ledger, R: Wait, W: Watch>(
     requires part { 0 < share.old.parts }
     ensures parts { share.new.parts ≡ share.old.parts }
     ensures place { place_of seat.new ≡ place_of seat.old }
+    ensures counted { OnOk result (share.old.amount < share.new.amount) }
     ensures ending { IfErr result (IsEndingOf team.now.checked.now.client) }
 {
     let Some(kept) = take(team, ticket, share)? else {

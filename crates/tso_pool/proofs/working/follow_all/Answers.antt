@@ -15,5 +15,6 @@ loop-choice-preserved g c =
       parts = c.follow.ensures.parts ∙ c.loop-choice.invariant.parts;
       place = c.follow.ensures.place ∙ c.loop-choice.invariant.place;
       numbered = numbered_on c.args.team.now.checked.now.client c.args.own c.args.kept.now.state c.args.choices.now c.loop-choice.moves c.follow.new.moves c.choice-item.result here c.loop-choice.invariant.numbered c.in_ok-follow.ensures.moved;
+      counted = let one = c.in_ok-follow.ensures.counted in let before = c.loop-choice.invariant.counted in omega (arith, one, before);
       count = count_on c.args.team.now.checked.now.client c.args.own c.args.kept.now.state c.loop-choice.moves c.follow.new.moves c.choice-item.result c.in_ok-follow.ensures.moved ∙ ap (λ n. n + 1) c.loop-choice.invariant.count;
     }

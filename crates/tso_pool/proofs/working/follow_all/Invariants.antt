@@ -1,4 +1,4 @@
-use Rattle.std.proofs.Common.{◌≡◌, length}
+use Rattle.std.proofs.Common.{◌≡◌, ◌+◌, length}
 use Rattle.tso_pool.specs.Numbering.{AreNumbered}
 use Rattle.tso_ticket.specs.Seats.{place_of}
 use Rattle.tso_pool.proofs.working.follow_all.Given as goal
@@ -9,4 +9,5 @@ invariant-loop-choice g l = record {
   place : place_of l.seat ≡ place_of l.fn.seat;
   numbered : AreNumbered l.team.checked.now.client l.own l.kept.state l.choices l.moves;
   count : length l.moves.numbers ≡ l.choice-index;
+  counted : l.share.amount ≡ l.fn.share.amount + l.choice-index;
 }
