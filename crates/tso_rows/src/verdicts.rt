@@ -157,7 +157,7 @@ fn limits_count_states(rt: HostRuntime) -> Result<(), Fail> {
 fn one_refusal_is_good(rt: HostRuntime) -> Result<(), Fail> {
     let alloc = rt.alloc();
     let checked = client_of(alloc, ONE_REFUSAL)?;
-    for count in [1, 2, 8] {
+    for count in [1, 2, 8, 64] {
         match found_of(&rt, alloc, &checked, count, 4)? {
             Found::Certificate(bytes) => assert_eq!(rt; bytes.as_slice(), WHOLE),
             _ => return Err("no certificate".into()),

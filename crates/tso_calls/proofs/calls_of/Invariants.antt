@@ -1,0 +1,7 @@
+use Rattle.tso_calls.proofs.calls_of.Given as goal
+
+abbrev pub ghosts-call_all-U-Ledger : goal.ghosts-call_all-U-Ledger
+ghosts-call_all-U-Ledger a = record { name = a.units.name; parts = a.units.parts }
+
+abbrev pub ghosts-call_all-E-Ledger : goal.ghosts-call_all-E-Ledger
+ghosts-call_all-E-Ledger a = record { name = a.entries.name; parts = a.entries.parts }
