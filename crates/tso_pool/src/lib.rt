@@ -5,6 +5,7 @@ mod crew;
 mod ending;
 mod gathering;
 mod judging;
+mod locking;
 mod moves;
 mod progress;
 mod resting;

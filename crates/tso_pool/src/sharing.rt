@@ -6,6 +6,7 @@ ghost use Rattle.tso_table.specs.Ends.{AreNear, IsEnd};
 ghost use Rattle.tso_table.specs.Leading.{IsKept, shard_of};
 
 use crate::ending::Ending;
+use crate::locking::lock;
 use crate::team::Team;
 use std::sync::Wait;
 use std::sync::ledger::{Ledger, Share};
@@ -29,7 +30,7 @@ pub fn take<U: Ledger, E: Ledger, R: Wait, W: Watch>(
     let Some(cell) = team.shards.get(ticket.shard as usize) else {
         return Err(Ending::Quiet);
     };
-    let mut shard = cell.lock(team.rt);
+    let mut shard = lock(cell, team.rt);
     if !shard.is_for(team.checked, team.table, ticket.shard) {
         return Err(Ending::Quiet);
     }
@@ -63,7 +64,7 @@ fn number_in<U: Ledger, E: Ledger, R: Wait, W: Watch>(
         Ok(None) => {}
         Err(_) => return Err(Ending::Memory),
     }
-    let mut budget = team.budget.lock(team.rt);
+    let mut budget = lock(team.budget, team.rt);
     if !budget.is_for(team.limit) {
         return Err(Ending::Quiet);
     }
@@ -92,7 +93,7 @@ pub fn intern<U: Ledger, E: Ledger, R: Wait, W: Watch>(
     let Some(cell) = team.shards.get(number as usize) else {
         return Err(Ending::Quiet);
     };
-    let mut shard = cell.lock(team.rt);
+    let mut shard = lock(cell, team.rt);
     if !shard.is_for(team.checked, team.table, number) {
         return Err(Ending::Quiet);
     }
@@ -120,7 +121,7 @@ pub fn file<U: Ledger, E: Ledger, R: Wait, W: Watch>(
     let Some(cell) = team.shards.get(ticket.shard as usize) else {
         return Ok(false);
     };
-    let mut shard = cell.lock(team.rt);
+    let mut shard = lock(cell, team.rt);
     if !shard.is_for(team.checked, team.table, ticket.shard) {
         return Err(Ending::Quiet);
     }
