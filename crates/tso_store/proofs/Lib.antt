@@ -1,4 +1,5 @@
 pub mod Rows
+pub mod Lists
 pub mod Recalls
 pub mod Performed
 pub mod Sheeted

@@ -24,8 +24,12 @@ pub fn fits_client(client: &Client, state: &State) -> bool
     state.threads.len() == count && state.history.threads().len() == count
 }
 
-// The number of a value, if it is kept. It is looked for at the number `near` first, which need not be that of a value.
-fn find_near<T: Exact + Hash, L: Like<T>>(catalog: &Catalog<T>, near: u32, like: &L) -> Option<u32>
+/// The number of a value, if it is kept. It is looked for at the number `near` first, which need not be that of a value.
+pub fn find_near<T: Exact + Hash, L: Like<T>>(
+    catalog: &Catalog<T>,
+    near: u32,
+    like: &L,
+) -> Option<u32>
     ensures { MatchOption result (IsNowhere catalog.now (L.value like.now)) (λ n. slice_get catalog.now n ≡ Some (L.value like.now)) }
 {
     if let Some(item) = catalog.get(near) {
@@ -56,15 +60,19 @@ pub fn add_memory(
     Ok(number)
 }
 
-// The number of a history, which is kept if it is new.
-fn add_history(histories: &mut Catalog<History>, history: &History) -> Result<u32, Refused>
+/// The number of a history, which is kept if it is new. It is looked for at the number `near` first.
+pub fn add_history(
+    histories: &mut Catalog<History>,
+    near: u32,
+    history: &History,
+) -> Result<u32, Refused>
     ensures number { IfOk result (λ n. slice_get histories.new n ≡ Some history.now) }
     ensures extends { Extends histories.old histories.new }
     ensures more { length histories.new ≤ length histories.old + 1 }
     ensures full { result ≡ Err reasons.Full → 4294967295 ≤ length histories.new }
     ensures absent { OnErr result (IsNowhere histories.old history.now) }
 {
-    if let Some(number) = histories.find(history) {
+    if let Some(number) = find_near(histories, near, history) {
         return Ok(number);
     }
     let copy = history.clone()?;
@@ -118,7 +126,7 @@ pub fn key_of(parts: &mut Parts, state: &State) -> Result<Key, Refused>
     ensures absent { OnErr result (HasNoKey parts.old state.now) }
 {
     let memory = add_memory(&mut parts.memories, NONE, &state.memory)?;
-    let history = add_history(&mut parts.histories, &state.history)?;
+    let history = add_history(&mut parts.histories, NONE, &state.history)?;
     let threads = add_threads(&mut parts.threads, state.threads.as_slice())?;
     Ok(Key {
         memory,

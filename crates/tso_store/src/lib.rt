@@ -19,9 +19,10 @@ mod sought;
 mod stepped;
 mod thread_after;
 mod view;
+mod viewed_key;
 
 pub use fault::AddError;
-pub use key::{Key, NONE};
+pub use key::{Key, NO_KEY, NONE};
 pub use numbered::Store;
 pub use parts::Parts;
 pub use recorder::Recorder;

@@ -20,6 +20,7 @@ use crate::recorder::Recorder;
 use crate::sought::{Found, Sought, find_step};
 use crate::stepped::step_key;
 use crate::view::{View, copy_of};
+use crate::viewed_key::{find_view_key, key_of_view, view_fits_client};
 use std::alloc::{AllocError, Global};
 use std::cmp::Ordering;
 use std::marker::Model;
@@ -178,6 +179,40 @@ impl<'a> Store<'a> {
         Ok(result)
     }
 
+    /// The numbers of the parts of state `number`; those of nothing where there is no such state. They say where to look first
+    /// in this store, and nothing rests on them.
+    pub fn key(&self, number: u32) -> Key {
+        match self.keys.get(number) {
+            Some(key) => *key,
+            None => NO_KEY,
+        }
+    }
+
+    /// The number of a state that is kept, maybe in another store, and whether it is new here; it is kept here then. It is as
+    /// `add` of that state, which is not copied: each part is looked for first at the number that `near` has for it, then by
+    /// its hash, and is copied only where it is new. What `near` has need not be the numbers of anything.
+    ///
+    /// Errors: as for `add`.
+    pub fn add_view(&mut self, near: &Key, view: &View<'_>) -> Result<(u32, bool), AddError>
+        ensures added { IfOk result (IsAdded self.old.states self.new.states view.now) }
+        ensures err { OnErr result (self.new.states ≡ self.old.states) }
+        ensures absent { OnErr result (IsNowhere self.old.states view.now) }
+        ensures full { result ≡ Err errors.Full → 4294967295 ≤ self.new.kept }
+        ensures more { self.new.kept ≤ self.old.kept + 8 }
+        ensures misfit { (result ≡ Err errors.Misfit) ↔ (FitsClient self.old.client view.now → ⊥) }
+        ensures client { self.new.client ≡ self.old.client }
+    {
+        if !view_fits_client(&self.checked.client, view) {
+            return Err(AddError::Misfit);
+        }
+        let key = key_of_view(&mut self.parts, near, view)?;
+        self.parts.threads.is_numbered();
+        self.parts.memories.is_numbered();
+        self.parts.histories.is_numbered();
+        let result = self.keys.add(key)?;
+        Ok(result)
+    }
+
     /// The number of a state, if it is kept. It takes no memory.
     pub fn find(&self, state: &State) -> Option<u32>
         ensures { MatchOption result (IsNowhere self.now.states state.now) (λ n. slice_get self.now.states n ≡ Some state.now) }
@@ -192,6 +227,21 @@ impl<'a> Store<'a> {
             Some(key) => self.keys.find(&key),
             None => None,
         }
+    }
+
+    /// The number of a state that is kept, maybe in another store, if it is kept here. Each part is looked for first at the
+    /// number that `near` has for it. It takes no memory.
+    pub fn find_view(&self, near: &Key, view: &View<'_>) -> Option<u32>
+        ensures { MatchOption result (IsNowhere self.now.states view.now) (λ n. slice_get self.now.states n ≡ Some view.now) }
+    {
+        if !view_fits_client(&self.checked.client, view) {
+            return None;
+        }
+        self.parts.threads.is_numbered();
+        self.parts.memories.is_numbered();
+        self.parts.histories.is_numbered();
+        let key = find_view_key(&self.parts, near, view)?;
+        self.keys.find(&key)
     }
 
     /// The number of the state after the actor's step from state `number`, and whether it is new; it is kept then. `None`

@@ -1,5 +1,5 @@
 //! A kept state, read where it is kept.
-ghost use Rattle.std.specs.Prelude.{◌≡◌, IfOk};
+ghost use Rattle.std.specs.Prelude.{◌≡◌, ◌↔◌, IfOk, IsTrue, slice_get};
 ghost use Rattle.tso_store.specs.Numbers.{values_at};
 
 use crate::key::Key;
@@ -7,7 +7,7 @@ use crate::parts::Parts;
 use std::alloc::{AllocError, Global};
 use std::marker::Model;
 use tso_hist::{Call, History};
-use tso_list::Seq;
+use tso_list::{Seq, is_same};
 use tso_parts::Catalog;
 use tso_state::{State, Thread, Viewed};
 
@@ -62,7 +62,7 @@ impl<'a> Viewed for View<'a> {
 }
 
 impl<'a> View<'a> {
-    ghost use Rattle.std.specs.Prelude.{◌^◌, ◌<◌, Some, length};
+    ghost use Rattle.std.specs.Prelude.{◌^◌, ◌<◌, ◌↔◌, IsTrue, Some, length};
     ghost use Rattle.tso_store.specs.Keys.{IsKept, state_at};
     ghost use Rattle.tso_prog.specs.declared.client.Client.{Client};
 
@@ -80,6 +80,19 @@ impl<'a> View<'a> {
         self.memory
     }
 
+    /// Whether two kept states, maybe of two stores, are the same. It takes no memory, and hashes nothing.
+    pub fn is_same(&self, other: &View<'_>) -> bool
+        ensures { IsTrue result ↔ (self.now ≡ other.now) }
+    {
+        if !is_same(self.words(), other.words()) {
+            return false;
+        }
+        if !is_same(self.history(), other.history()) {
+            return false;
+        }
+        are_same_threads(self, other)
+    }
+
     /// The state of a key, where it is kept.
     pub(crate) fn of_key(parts: &'a Parts, key: &Key) -> Option<View<'a>>
         requires kept { (c : Client) × IsKept c parts.now key.now }
@@ -95,6 +108,32 @@ impl<'a> View<'a> {
             numbers: key.threads,
         })
     }
+}
+
+// Whether two kept states have the same thread at this number, or neither has one.
+fn is_same_thread(a: &View<'_>, b: &View<'_>, number: usize) -> bool
+    ensures { IsTrue result ↔ (slice_get a.now.threads number ≡ slice_get b.now.threads number) }
+{
+    match (a.thread(number), b.thread(number)) {
+        (Some(first), Some(second)) => is_same(first, second),
+        (None, None) => true,
+        _ => false,
+    }
+}
+
+// Whether two kept states have the same threads.
+fn are_same_threads(a: &View<'_>, b: &View<'_>) -> bool
+    ensures { IsTrue result ↔ (a.now.threads ≡ b.now.threads) }
+{
+    if a.thread_count() != b.thread_count() {
+        return false;
+    }
+    for number in 0..a.thread_count() {
+        if !is_same_thread(a, b, number) {
+            return false;
+        }
+    }
+    true
 }
 
 // The threads with these numbers.

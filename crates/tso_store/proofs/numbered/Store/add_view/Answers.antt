@@ -1,0 +1,44 @@
+use Rattle.std.proofs.Common.{ap, arith, ◌∙◌}
+use Rattle.tso_store.specs.Keys.{states_at}
+use Rattle.tso_store.proofs.Closing.{on_err, sheet_grows, sheet_added, still_known}
+use Rattle.tso_store.proofs.Sheeted.{added, kept_stay, no_key, no_misfit, no_state, states_stay}
+use Rattle.tso_store.proofs.numbered.Store.add_view.Goals as goal
+
+pub invariant_of-self : goal.invariant_of-self
+invariant_of-self c = sheet_grows c.self.inside.checked.now.client c.self.inside.parts c.key_of_view.new.parts c.self.inside.keys c.self.inside.known c.self.inside.known c.self.invariant c.key_of_view.ensures.grows (still_known c.self.inside.checked.now.client c.self.inside.parts c.key_of_view.new.parts c.self.inside.known c.key_of_view.ensures.grows c.self.invariant.recalls)
+
+pub returns-in_err-key-clause-err : goal.returns-in_err-key-clause-err
+returns-in_err-key-clause-err c = rw (← c.self.view_is) (on_err c.from_residual.result (states_stay c.self.inside.checked.now.client c.self.inside.parts c.key_of_view.new.parts c.self.inside.keys c.key_of_view.ensures.grows (c.key_of_view.ensures.grows.small c.self.invariant.small) c.self.invariant.kept))
+
+pub invariant_of-self-in_err-result : goal.invariant_of-self-in_err-result
+invariant_of-self-in_err-result c = rw c.in_err-result.ensures.err (sheet_grows c.self.inside.checked.now.client c.self.inside.parts c.key_of_view.new.parts c.self.inside.keys c.self.inside.known c.self.inside.known c.self.invariant c.key_of_view.ensures.grows (still_known c.self.inside.checked.now.client c.self.inside.parts c.key_of_view.new.parts c.self.inside.known c.key_of_view.ensures.grows c.self.invariant.recalls))
+
+pub returns-in_err-result-clause-err : goal.returns-in_err-result-clause-err
+returns-in_err-result-clause-err c = rw (← c.self.view_is) (on_err c.from_residual-in_err-result.result (ap (states_at c.key_of_view.new.parts) c.in_err-result.ensures.err ∙ states_stay c.self.inside.checked.now.client c.self.inside.parts c.key_of_view.new.parts c.self.inside.keys c.key_of_view.ensures.grows (c.key_of_view.ensures.grows.small c.self.invariant.small) c.self.invariant.kept))
+
+pub invariant_of-self-2 : goal.invariant_of-self-2
+invariant_of-self-2 c =
+    let fits = c.view_fits_client.ensures.fits.0 (search (c.if-not-view_fits_client.false)) in
+    sheet_added c.self.inside.checked.now.client c.self.inside.parts c.key_of_view.new.parts c.self.inside.keys c.add.new.self c.self.inside.known c.self.inside.known c.in_ok-key.key c.args.view.now c.in_ok-result.result.1 c.self.invariant c.key_of_view.ensures.grows (still_known c.self.inside.checked.now.client c.self.inside.parts c.key_of_view.new.parts c.self.inside.known c.key_of_view.ensures.grows c.self.invariant.recalls) c.in_ok-key.ensures.key fits c.in_ok-result.ensures.kept
+
+pub returns-clause-added : goal.returns-clause-added
+returns-clause-added c = rw (← c.self.view_is) (added c.self.inside.checked.now.client c.self.inside.parts c.key_of_view.new.parts c.self.inside.keys c.add.new.self c.in_ok-key.key c.args.view.now c.in_ok-result.result.0 c.in_ok-result.result.1 c.key_of_view.ensures.grows (c.key_of_view.ensures.grows.small c.self.invariant.small) c.self.invariant.kept c.in_ok-key.ensures.key c.in_ok-result.ensures.kept c.in_ok-result.ensures.number)
+
+pub returns-then-not-view_fits_client-clause-absent : goal.returns-then-not-view_fits_client-clause-absent
+returns-then-not-view_fits_client-clause-absent c =
+    rw (← c.self.view_is) (no_misfit c.self.inside.checked.now.client c.self.inside.parts c.self.inside.keys c.args.view.now c.self.invariant.kept
+    (λ f. let fits = c.view_fits_client.ensures.fits.1 f in grind (arith, fits, c.if-not-view_fits_client.true)))
+
+pub returns-in_err-key-clause-absent : goal.returns-in_err-key-clause-absent
+returns-in_err-key-clause-absent c = rw (← c.self.view_is) (on_err c.from_residual.result (no_key c.self.inside.checked.now.client c.self.inside.parts c.self.inside.keys c.args.view.now c.self.invariant.kept c.in_err-key.ensures.absent))
+
+pub returns-in_err-result-clause-absent : goal.returns-in_err-result-clause-absent
+returns-in_err-result-clause-absent c =
+    let client = c.self.inside.checked.now.client in
+    let old = c.self.inside.parts in
+    let new = c.key_of_view.new.parts in
+    let keys = c.self.inside.keys in
+    let small = c.key_of_view.ensures.grows.small c.self.invariant.small in
+    let still = kept_stay client old new keys c.key_of_view.ensures.grows small c.self.invariant.kept in
+    let none = no_state client new keys c.in_ok-key.key c.args.view.now c.is_numbered-2.ensures.numbered c.is_numbered-3.ensures.numbered c.is_numbered.ensures.numbered still c.in_ok-key.ensures.key c.in_err-result.ensures.absent in
+    rw (← c.self.view_is) (on_err c.from_residual-in_err-result.result (rw (states_stay client old new keys c.key_of_view.ensures.grows small c.self.invariant.kept) at none))
