@@ -10,3 +10,4 @@ pub mod Ordered
 pub mod Risen
 pub mod Histories
 pub mod Ranked
+pub mod Moves

@@ -7,3 +7,5 @@ pub mod Seeking
 pub mod Orders
 pub mod Likes
 pub mod Marks
+pub mod Unions
+pub mod Moving

@@ -7,6 +7,7 @@ mod kept;
 mod key;
 mod known;
 mod lookup;
+mod moved;
 mod numbered;
 mod orders;
 mod packed;

@@ -1,17 +1,19 @@
 //! A client and its states, each once, by number.
-ghost use Rattle.std.specs.Prelude.{◌≡◌, ◌↔◌, ◌+◌, ◌<◌, ◌≤◌, ◌^◌, List, [], length, Some, None, Err, IfOk, OnErr, IfSome, MatchOption, slice_get};
+ghost use Rattle.std.specs.Prelude.{◌≡◌, ◌↔◌, ◌+◌, ◌<◌, ◌≤◌, ◌^◌, List, [], length, Some, None, Err, IfOk, OnErr, OnOk, IfSome, MatchOption, slice_get};
 ghost use Rattle.tso_parts.specs.Numbers.{IsNumbered, IsNowhere};
 ghost use Rattle.tso_parts.specs.declared.refused.Refused.TheVariants as reasons;
 ghost use Rattle.tso_rec.specs.Keeping.{record_of};
 ghost use Rattle.tso_store.specs.Keys.{AreKept, FitsClient, states_at};
 ghost use Rattle.tso_store.specs.Orders.{IsCompared, IsRising};
 ghost use Rattle.tso_store.specs.Sheets.{CanStep, IsAdded, IsFound, IsSuccessorOrNone};
+ghost use Rattle.tso_store.specs.Unions.{IsUnion, IsWithinUnion};
 ghost use Rattle.tso_store.specs.declared.fault.AddError.TheVariants as errors;
 
 use crate::fault::AddError;
 use crate::kept::{find_key, fits_client, key_of};
 use crate::key::{Key, NO_KEY};
 use crate::known::{Known, learn_runs};
+use crate::moved::{add_keys, add_parts};
 use crate::packed::{kept_fits_client, key_of_kept};
 use crate::parts::Parts;
 use crate::ranking::{compare_at, key_at, rising};
@@ -242,6 +244,26 @@ impl<'a> Store<'a> {
         self.parts.histories.is_numbered();
         let key = find_view_key(&self.parts, near, view)?;
         self.keys.find(&key)
+    }
+
+    /// Keeps all states of another store of the same client that are not kept yet; a state that is kept keeps its number. Each
+    /// part of the other store is looked for once, and copied where it is new; then each state takes its parts by their numbers
+    /// here, so that for a state no part is compared, hashed or copied.
+    ///
+    /// Errors: where a growth was refused (`Memory`), or there are as many states, or parts of a kind, as numbers (`Full`). Some
+    /// of the other states may be kept then.
+    pub fn take_in(&mut self, alloc: Global, other: &Store<'_>) -> Result<(), Refused>
+        requires { other.now.client ≡ self.old.client }
+        ensures union { OnOk result (IsUnion self.old.states other.now.states self.new.states) }
+        ensures within { IsWithinUnion self.old.states other.now.states self.new.states }
+        ensures full { result ≡ Err reasons.Full → 4294967295 ≤ self.new.kept }
+        ensures more { self.new.kept ≤ self.old.kept + other.now.kept }
+        ensures client { self.new.client ≡ self.old.client }
+    {
+        other.parts.threads.is_numbered();
+        let numbers = add_parts(alloc, &mut self.parts, &other.parts)?;
+        add_keys(&mut self.keys, &numbers, &other.keys)?;
+        Ok(())
     }
 
     /// The number of the state after the actor's step from state `number`, and whether it is new; it is kept then. `None`

@@ -1,0 +1,22 @@
+-- Lists of values that are put together.
+use Rattle.std.specs.Prelude.{◌≡◌, ◌<◌, ◌⊎◌, ℕ, List, Some, slice_get}
+use Rattle.tso_parts.specs.Numbers.{Extends}
+
+-- the value has a number
+abbrev pub IsThere : {X : Type 0} → List X → X → Type 0
+IsThere pool x = (n : ℕ) × (slice_get pool n ≡ Some x)
+
+-- each old value keeps its number, and each that came is one of the others
+pub record IsWithinUnion {X : Type 0} (old others new : List X) : Type 0 where
+  pub stays : Extends old new
+  pub either : (n : ℕ) (x : X) → slice_get new n ≡ Some x → IsThere old x ⊎ IsThere others x
+
+-- and each of the others is there
+pub record IsUnion {X : Type 0} (old others new : List X) : Type 0 where
+  pub within : IsWithinUnion old others new
+  pub has : (n : ℕ) (x : X) → slice_get others n ≡ Some x → IsThere new x
+
+-- and each of the first i others is there
+pub record IsUnionBelow {X : Type 0} (old others new : List X) (i : ℕ) : Type 0 where
+  pub within : IsWithinUnion old others new
+  pub has : (n : ℕ) (x : X) → n < i → slice_get others n ≡ Some x → IsThere new x
