@@ -1,8 +1,8 @@
 -- What a block cut at rising ends holds, with a list more and with one less.
-use Rattle.std.proofs.Common.{◌≡◌, ◌∙◌, ℕ, zero, suc, ◌+◌, ◌-◌, ◌<◌, ◌≤◌, ◌++◌, ◌∷◌, List, [], length, get_or, take, drop, Option, Some, None, true, refl, sym, ap, subst, arith, length-append}
+use Rattle.std.proofs.Common.{◌≡◌, ◌∙◌, ℕ, zero, suc, ◌+◌, ◌-◌, ◌<◌, ◌≤◌, ◌++◌, ◌∷◌, List, [], length, get_or, take, drop, Option, Some, None, true, refl, sym, ap, subst, arith, length-append, length-drop, replicate}
 use Rattle.std.specs.Prelude.{option_to_list, is_some, slice_get, slice_index, slice_range}
-use Rattle.std.proofs.Math.Seq.{drop-append_seam, take-append_seam, take-length}
-use Rattle.std.proofs.lemmas.List.{drop-take, get_or_default, length-take-le, take-take, take_all}
+use Rattle.std.proofs.Math.Seq.{drop-append-add, drop-append_seam, take-append_seam}
+use Rattle.std.proofs.lemmas.List.{drop-replicate, drop-take, get_or_default, length-replicate, length-take-le, take-take, take_all, take_at}
 use Rattle.tso_paths.specs.Cuts.{cut, IsLonger, IsRising, start_at}
 
 pub length-cut : (from : ℕ) (ends bytes : List ℕ) → length (cut from ends bytes) ≡ length ends
@@ -163,3 +163,35 @@ module _ (ends es bytes bytes' : List ℕ) (o : Option ℕ) (n at : ℕ) where
 
   pub rising_still : IsRising 0 ends (length bytes) → ends ≡ es ++ option_to_list o → is_some o ≡ true → n ≡ length es → at ≡ start_at 0 es n → bytes' ≡ take at bytes → IsRising 0 es (length bytes')
   rising_still r e h l a b = rw (b, a, l) (rising_popped ends es bytes o e h r)
+
+-- ---- bytes copied to the end
+
+-- room is made behind the bytes, and then a part of them is copied to its front
+module _ (old : List ℕ) (start end at len last : ℕ) (grown written : List ℕ) where
+  pub copied : start ≤ end → end ≤ length old → at ≡ len → len ≡ length old → grown ≡ take (at + (end - start) + 1) old ++ replicate (at + (end - start) + 1 - len) last → written ≡ take at grown ++ (slice_range grown start end ++ drop (at + (end - start)) grown) → take (length grown) (written ++ drop (length written) grown) ≡ old ++ (slice_range old start end ++ last ∷ [])
+  copied h k b l g w =
+      let n = end - start in
+      let a : at ≡ length old = b ∙ l in
+      let rest : take (at + n + 1) old ≡ old = take_all (at + n + 1) old (omega arith) in
+      let more : at + n + 1 - len ≡ n + 1 = omega arith in
+      let is : grown ≡ old ++ replicate (n + 1) last = g ∙ ap (λ (x : List ℕ). x ++ replicate (at + n + 1 - len) last) rest ∙ ap (λ (x : ℕ). old ++ replicate x last) more in
+      let front : take at grown ≡ old = ap (take at) is ∙ take_at old (replicate (n + 1) last) at (sym a) in
+      let part : slice_range grown start end ≡ slice_range old start end = sym (range_taken grown start end at h (omega arith)) ∙ ap (λ (x : List ℕ). slice_range x start end) front in
+      let one : n + 1 - n ≡ 1 = omega arith in
+      let back : drop (at + n) grown ≡ last ∷ [] = ap (drop (at + n)) is ∙ ap (λ (x : ℕ). drop (x + n) (old ++ replicate (n + 1) last)) a ∙ drop-append-add old (replicate (n + 1) last) n ∙ drop-replicate n (n + 1) last ∙ ap (λ (x : ℕ). replicate x last) one in
+      let made : written ≡ old ++ (slice_range old start end ++ last ∷ []) = cc in
+      let count : length (slice_range old start end) ≡ n = length-take-le n (drop start old) (omega (arith, length-drop start old)) in
+      let all : length written ≡ length grown =
+      let x : length written ≡ length old + (n + 1) = ap length made ∙ simp length-append (omega (arith, count)) in
+      let y : length grown ≡ length old + (n + 1) = ap length is ∙ simp (length-append, length-replicate) refl in
+      x ∙ sym y
+      in
+      take_at written (drop (length written) grown) (length grown) all ∙ made
+
+-- ---- for callers
+
+-- after a pop, where the last list is known
+pub popped : (xs : List (List ℕ)) (y : List ℕ) (old new : List (List ℕ)) → old ≡ xs ++ y ∷ [] → new ≡ take (length old - 1) old → new ≡ xs
+popped xs y old new e p =
+    let less : length (xs ++ y ∷ []) - 1 ≡ length xs = omega (arith, length-append xs (y ∷ [])) in
+    p ∙ ap (λ (v : List (List ℕ)). take (length v - 1) v) e ∙ ap (λ (n : ℕ). take n (xs ++ y ∷ [])) less ∙ take-append_seam xs (y ∷ [])

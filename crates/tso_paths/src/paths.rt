@@ -1,6 +1,6 @@
 //! Lists of bytes, one behind another.
 
-ghost use Rattle.std.specs.Prelude.{◌≡◌, ℕ, ◌+◌, ◌-◌, ◌≤◌, ◌<◌, ◌++◌, ◌∷◌, List, [], length, take, Some, true, false, IfOk, OnErr, OnOk, MatchBool, MatchOption, slice_get, slice_index, slice_range};
+ghost use Rattle.std.specs.Prelude.{◌≡◌, ℕ, ◌+◌, ◌-◌, ◌≤◌, ◌<◌, ◌++◌, ◌∷◌, List, [], length, take, drop, Some, true, false, IfOk, OnErr, OnOk, MatchBool, MatchOption, slice_get, slice_index, slice_range};
 ghost use Rattle.tso_paths.specs.Cuts.{IsLonger, start_at};
 
 use std::alloc::{AllocError, Global};
@@ -36,6 +36,17 @@ fn start_of(ends: &[usize], number: usize) -> usize
     ends[number - 1]
 }
 
+// Copies the bytes between two places to those from `at` on.
+fn copy_on(bytes: &mut [u8], start: usize, end: usize, at: usize)
+    requires rising { start ≤ end }
+    requires within { end ≤ at }
+    requires room { at + (end - start) ≤ length bytes.old }
+    ensures { bytes.new ≡ take at bytes.old ++ (slice_range bytes.old start end ++ drop (at + (end - start)) bytes.old) }
+{
+    let (kept, fresh) = bytes.split_at_mut(at);
+    fresh[..end - start].copy_from_slice(&kept[start..end]);
+}
+
 // Copies the bytes between two places to the end, and puts one more behind them. Where a growth was refused they stay.
 fn copy_to_end(bytes: &mut Vec<u8>, start: usize, end: usize, last: u8) -> Result<(), AllocError>
     requires rising { start ≤ end }
@@ -43,9 +54,9 @@ fn copy_to_end(bytes: &mut Vec<u8>, start: usize, end: usize, last: u8) -> Resul
     ensures ok { OnOk result (bytes.new.items ≡ bytes.old.items ++ (slice_range bytes.old.items start end ++ last ∷ [])) }
     ensures err { OnErr result (bytes.new.items ≡ bytes.old.items) }
 {
-    bytes.reserve(end - start + 1)?;
-    bytes.extend_from_within(start..end)?;
-    bytes.push_reserved(last);
+    let at = bytes.len();
+    bytes.resize(at + (end - start) + 1, last)?;
+    copy_on(bytes.as_mut_slice(), start, end, at);
     Ok(())
 }
 

@@ -1,4 +1,4 @@
-use Rattle.std.proofs.Common.{◌<◌, length, arith, rules}
+use Rattle.std.proofs.Common.{◌<◌, length, arith}
 use Rattle.tso_paths.proofs.Cutting.{IsPlace, length-cut, place_is}
 use Rattle.tso_paths.proofs.paths.Paths.get.Goals as goal
 use Rattle.tso_paths.proofs.paths.Paths.get.Goals.{After-deref-2}
