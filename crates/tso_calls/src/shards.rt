@@ -1,6 +1,6 @@
 //! Calls on shards that share a budget of two units, made by one thread.
 
-ghost use Rattle.std.specs.Prelude.{◌≡◌, ◌+◌, ◌*◌, ◌<◌, ◌≤◌, IfOk, length};
+ghost use Rattle.std.specs.Prelude.{◌≡◌, ◌+◌, ◌*◌, ◌<◌, ◌≤◌, IfOk, Some, slice_get};
 ghost use Rattle.tso_table.specs.Leading.{IsKept};
 ghost use Rattle.tso_table.specs.Totals.{allotment};
 
@@ -11,11 +11,54 @@ use std::alloc::{AllocError, Global};
 use std::sync::ledger::{Blank, Ledger, Share};
 use tso_flow::Checked;
 use tso_foot::Table as Footprints;
-use tso_state::Actor;
-use tso_table::{ALLOTMENT, Budget, FinishError, InternError, Kept, Shard, shard_of};
+use tso_state::{Actor, State};
+use tso_store::{AddError, NO_KEY, Store};
+use tso_table::{ALLOTMENT, Budget, FinishError, InternError, Kept, Search, Shard, shard_of};
+
+// A store of this state alone.
+fn store_of<'a>(alloc: Global, checked: &'a Checked, state: &State) -> Result<Store<'a>, Failure>
+    ensures { IfOk result (λ store. slice_get store.states 0 ≡ Some state.now) }
+{
+    let mut store = Store::new(alloc, checked, 0);
+    match store.add(state) {
+        Ok((0, _)) => Ok(store),
+        Ok(_) => Err(Failure::Difference),
+        Err(AddError::Memory) => Err(Failure::Memory),
+        Err(_) => Err(Failure::Difference),
+    }
+}
+
+// What `intern` answers for the state of a store.
+fn intern_from<U: Search, E: Ledger>(
+    checked: &Checked,
+    table: &Footprints,
+    store: &Store<'_>,
+    shard: &mut Shard<'_, U, E>,
+    budget: &mut Budget<U, E>,
+    kept: &Kept,
+    share: &mut Share<E>,
+) -> Result<Said, Failure>
+    requires part { 0 < share.old.parts }
+    requires kept { IsKept checked.now.client kept.now }
+    requires store { slice_get store.now.states 0 ≡ Some kept.now.state }
+    ensures parts { share.new.parts ≡ share.old.parts }
+{
+    if !shard.is_for(checked, table, shard_of(&kept.state)) {
+        return Err(Failure::Difference);
+    }
+    let Some(state) = store.view(0) else {
+        return Err(Failure::Difference);
+    };
+    match shard.intern(budget, &NO_KEY, &state, kept.actors.as_slice(), share) {
+        Ok((number, is_new)) => Ok(Said::Placed(number, is_new)),
+        Err(InternError::Full) => Ok(Said::Full),
+        Err(InternError::Memory) => Err(Failure::Memory),
+    }
+}
 
 // What `intern` answers.
-fn intern<U: Ledger, E: Ledger>(
+fn intern<U: Search, E: Ledger>(
+    alloc: Global,
     checked: &Checked,
     table: &Footprints,
     shard: &mut Shard<'_, U, E>,
@@ -27,19 +70,12 @@ fn intern<U: Ledger, E: Ledger>(
     requires kept { IsKept checked.now.client kept.now }
     ensures parts { share.new.parts ≡ share.old.parts }
 {
-    if !shard.is_for(checked, table, shard_of(&kept.state)) {
-        return Err(Failure::Difference);
-    }
-    let copy = kept.copied()?;
-    match shard.intern(budget, copy, share) {
-        Ok((number, is_new)) => Ok(Said::Placed(number, is_new)),
-        Err(InternError::Full(_)) => Ok(Said::Full),
-        Err(InternError::Memory) => Err(Failure::Memory),
-    }
+    let store = store_of(alloc, checked, &kept.state)?;
+    intern_from(checked, table, &store, shard, budget, kept, share)
 }
 
 // What `claim` answers for the first place.
-fn claim<U: Ledger, E: Ledger>(
+fn claim<U: Search, E: Ledger>(
     shard: &mut Shard<'_, U, E>,
     share: &mut Share<E>,
 ) -> Result<Said, Failure>
@@ -50,8 +86,38 @@ fn claim<U: Ledger, E: Ledger>(
     Ok(Said::Taken(taken))
 }
 
+// What `finish` answers for the first place, given the state of a store with its end.
+fn finish_from<U: Search, E: Ledger>(
+    alloc: Global,
+    checked: &Checked,
+    table: &Footprints,
+    store: &Store<'_>,
+    shard: &mut Shard<'_, U, E>,
+    kept: &Kept,
+    share: &mut Share<E>,
+) -> Result<Said, Failure>
+    requires part { 0 < share.old.parts }
+    requires kept { IsKept checked.now.client kept.now }
+    requires store { slice_get store.now.states 0 ≡ Some kept.now.state }
+    ensures parts { share.new.parts ≡ share.old.parts }
+{
+    let own = shard.table().number();
+    if !shard.is_for(checked, table, own) {
+        return Err(Failure::Difference);
+    }
+    let Ended { filed, near } = end_of(alloc, checked, table, kept, own)?;
+    let Some(state) = store.view(0) else {
+        return Err(Failure::Difference);
+    };
+    match shard.finish(0, &state, filed, near.as_slice(), share) {
+        Ok(()) => Ok(Said::Filed),
+        Err(FinishError::NotReady) => Ok(Said::NotReady),
+        Err(FinishError::Memory) => Err(Failure::Memory),
+    }
+}
+
 // What `finish` answers for the first place, given a state with its end.
-fn finish<U: Ledger, E: Ledger>(
+fn finish<U: Search, E: Ledger>(
     alloc: Global,
     checked: &Checked,
     table: &Footprints,
@@ -63,28 +129,20 @@ fn finish<U: Ledger, E: Ledger>(
     requires kept { IsKept checked.now.client kept.now }
     ensures parts { share.new.parts ≡ share.old.parts }
 {
-    let own = shard.table().number();
-    if !shard.is_for(checked, table, own) {
-        return Err(Failure::Difference);
-    }
-    let Ended { filed, near } = end_of(alloc, checked, table, kept, own)?;
-    match shard.finish(0, &kept.state, filed, near.as_slice(), share) {
-        Ok(()) => Ok(Said::Filed),
-        Err(FinishError::NotReady) => Ok(Said::NotReady),
-        Err(FinishError::Memory) => Err(Failure::Memory),
-    }
+    let store = store_of(alloc, checked, &kept.state)?;
+    finish_from(alloc, checked, table, &store, shard, kept, share)
 }
 
 // Three shards without a state, with the numbers 0, 1 and 2, in the order of their numbers.
 #[derive(Drop)]
-struct Three<'c, U: Ledger, E: Ledger> {
+struct Three<'c, U: Search, E: Ledger> {
     first: Shard<'c, U, E>,
     second: Shard<'c, U, E>,
     third: Shard<'c, U, E>,
 }
 
 // A shard without a state.
-fn empty<'c, U: Ledger, E: Ledger>(
+fn empty<'c, U: Search, E: Ledger>(
     alloc: Global,
     checked: &'c Checked,
     table: &'c Footprints,
@@ -92,6 +150,8 @@ fn empty<'c, U: Ledger, E: Ledger>(
     units: &mut Share<U>,
     calls: &mut Share<E>,
 ) -> Shard<'c, U, E>
+    requires client { U.client ≡ Some checked.now.client }
+    requires table { U.table ≡ Some table.now }
     requires units { (1 < units.old.parts) × (units.old.amount ≡ 0) }
     requires calls { (1 < calls.old.parts) × (allotment ≤ calls.old.amount) }
     ensures units { (units.new.parts + 1 ≡ units.old.parts) × (units.new.amount ≡ 0) }
@@ -103,13 +163,15 @@ fn empty<'c, U: Ledger, E: Ledger>(
 }
 
 // Three of them.
-fn three_shards<'c, U: Ledger, E: Ledger>(
+fn three_shards<'c, U: Search, E: Ledger>(
     alloc: Global,
     checked: &'c Checked,
     table: &'c Footprints,
     units: &mut Share<U>,
     calls: &mut Share<E>,
 ) -> Three<'c, U, E>
+    requires client { U.client ≡ Some checked.now.client }
+    requires table { U.table ≡ Some table.now }
     requires units { (units.old.parts ≡ 4) × (units.old.amount ≡ 0) }
     requires calls { (calls.old.parts ≡ 4) × (calls.old.amount ≡ 16 * allotment) }
     ensures { calls.new.parts ≡ 1 }
@@ -159,7 +221,7 @@ fn states_of(alloc: Global, checked: &Checked) -> Result<States, Failure>
 }
 
 // How many entries all three have.
-fn entries_of<U: Ledger, E: Ledger>(three: &Three<'_, U, E>) -> u64 {
+fn entries_of<U: Search, E: Ledger>(three: &Three<'_, U, E>) -> u64 {
     let some = three
         .first
         .table()
@@ -169,7 +231,7 @@ fn entries_of<U: Ledger, E: Ledger>(three: &Three<'_, U, E>) -> u64 {
 }
 
 // How many states of all three are not done.
-fn open_of<U: Ledger, E: Ledger>(three: &Three<'_, U, E>) -> usize {
+fn open_of<U: Search, E: Ledger>(three: &Three<'_, U, E>) -> usize {
     let some = three
         .first
         .table()
@@ -179,7 +241,7 @@ fn open_of<U: Ledger, E: Ledger>(three: &Three<'_, U, E>) -> usize {
 }
 
 // Notes what a call answered, with how many entries there are then.
-fn note<U: Ledger, E: Ledger>(
+fn note<U: Search, E: Ledger>(
     lines: &mut Vec<Line>,
     call: &'static str,
     said: Said,
@@ -195,7 +257,8 @@ fn note<U: Ledger, E: Ledger>(
 }
 
 // Makes states known: the third finds no unit, and one that is known needs none.
-fn meet_all<U: Ledger, E: Ledger>(
+fn meet_all<U: Search, E: Ledger>(
+    alloc: Global,
     checked: &Checked,
     table: &Footprints,
     states: &States,
@@ -211,6 +274,7 @@ fn meet_all<U: Ledger, E: Ledger>(
     ensures parts { share.new.parts ≡ share.old.parts }
 {
     let answer = intern(
+        alloc,
         checked,
         table,
         &mut three.first,
@@ -220,6 +284,7 @@ fn meet_all<U: Ledger, E: Ledger>(
     )?;
     note(lines, "intern A", answer, three)?;
     let answer = intern(
+        alloc,
         checked,
         table,
         &mut three.second,
@@ -229,6 +294,7 @@ fn meet_all<U: Ledger, E: Ledger>(
     )?;
     note(lines, "intern B", answer, three)?;
     let answer = intern(
+        alloc,
         checked,
         table,
         &mut three.first,
@@ -238,6 +304,7 @@ fn meet_all<U: Ledger, E: Ledger>(
     )?;
     note(lines, "intern A", answer, three)?;
     let answer = intern(
+        alloc,
         checked,
         table,
         &mut three.third,
@@ -250,7 +317,7 @@ fn meet_all<U: Ledger, E: Ledger>(
 }
 
 // Works the first state, and claims the second: an end is filed only for the state that is meant, once it is claimed.
-fn work_first<U: Ledger, E: Ledger>(
+fn work_first<U: Search, E: Ledger>(
     alloc: Global,
     checked: &Checked,
     table: &Footprints,
@@ -301,7 +368,7 @@ fn work_first<U: Ledger, E: Ledger>(
 }
 
 // All calls, one after the other, and how many states are not done at the end.
-fn calls_on<U: Ledger, E: Ledger>(
+fn calls_on<U: Search, E: Ledger>(
     alloc: Global,
     checked: &Checked,
     table: &Footprints,
@@ -316,14 +383,16 @@ fn calls_on<U: Ledger, E: Ledger>(
     requires at_second { IsKept checked.now.client states.now.at_second }
 {
     let mut lines = Vec::new(alloc);
-    meet_all(checked, table, states, three, budget, share, &mut lines)?;
+    meet_all(
+        alloc, checked, table, states, three, budget, share, &mut lines,
+    )?;
     work_first(alloc, checked, table, states, three, share, &mut lines)?;
     let open = open_of(three);
     Ok((lines, open))
 }
 
 // The same, on shards of its own, which share a budget of two units.
-fn calls_with<U: Ledger, E: Ledger>(
+fn calls_with<U: Search, E: Ledger>(
     alloc: Global,
     checked: &Checked,
     table: &Footprints,
@@ -331,6 +400,8 @@ fn calls_with<U: Ledger, E: Ledger>(
     units: Blank,
     entries: Blank,
 ) -> Result<(Vec<Line>, usize), Failure>
+    requires client { U.client ≡ Some checked.now.client }
+    requires table { U.table ≡ Some table.now }
     requires units { (units.name ≡ U.name) × (units.parts ≡ U.parts) × (units.parts ≡ 4) }
     requires entries { (entries.name ≡ E.name) × (entries.parts ≡ E.parts) × (entries.parts ≡ 4) }
     requires before { IsKept checked.now.client states.now.before }
@@ -355,13 +426,15 @@ fn calls_with<U: Ledger, E: Ledger>(
 /// states are the first three of a client that has one thread.
 ///
 /// Errors: where a growth was refused, or a state is not of its shard.
-pub fn call_all<U: Ledger, E: Ledger>(
+pub fn call_all<U: Search, E: Ledger>(
     alloc: Global,
     checked: &Checked,
     table: &Footprints,
     units: Blank,
     entries: Blank,
 ) -> Result<(Vec<Line>, usize), Failure>
+    requires client { U.client ≡ Some checked.now.client }
+    requires table { U.table ≡ Some table.now }
     requires units { (units.name ≡ U.name) × (units.parts ≡ U.parts) × (units.parts ≡ 4) }
     requires entries { (entries.name ≡ E.name) × (entries.parts ≡ E.parts) × (entries.parts ≡ 4) }
 {

@@ -1,3 +1,4 @@
 pub mod CuttingLemmas
 pub mod SearchLemmas
+pub mod TaskLemmas
 pub mod WayLemmas

@@ -39,7 +39,10 @@ use Rattle.tso_state.specs.WellFormed.{IsWellFormed, thread_total}
 use Rattle.tso_state.specs.declared.actor.Actor.{Actor}
 use Rattle.tso_state.specs.declared.state.State.{State}
 use Rattle.tso_store.specs.Sheets.{CanStep, IsSuccessor, IsSuccessorOrNone, Sheet}
+use Rattle.tso_store.specs.Unions.{IsWithinUnion}
 use Rattle.tso_table.specs.Leading.{IsKept, actors_of}
+use Rattle.tso_table.specs.OneThread.{Rows}
+use Rattle.tso_table.specs.Sheets.{IsSound}
 use Rattle.tso_table.specs.declared.kept.Kept.{Kept}
 
 -- ---- results
@@ -475,3 +478,26 @@ kept_is_met c k kept = record { reached = (map actor_of (actors_of k.actors), ke
 
 pub more_met : (c : Client) (limit : ℕ) (states : List State) → HasBegun c states → IsNumbered states → limit < length states → HasMore c limit
 more_met c limit states begun differ more = record { states = states; more = more; differ = differ; reached = λ n s at. (begun.met n s at).reached }
+
+-- with the states of a table, each of which is met
+pub begun_union : (c : Client) (old others new : List State) → HasBegun c old → ((n : ℕ) (s : State) → slice_get others n ≡ Some s → IsMet c s) → IsWithinUnion old others new → HasBegun c new
+begun_union c old others new begun met within = record {
+  initial = begun.initial;
+  initial_at = within.stays 0 begun.initial begun.initial_at;
+  initial_is = begun.initial_is;
+  met = λ n s at. elim (within.either n s at) [
+    | inl before ↦ begun.met before.0 s before.1
+    | inr came ↦ met came.0 s came.1
+  ];
+}
+
+-- each state of a sound table is met
+pub sound_met : (c : Client) (t : Table) (k : ℕ) (r : Rows) (actors : List (List ℕ)) (open_ones entries : ℕ) → IsSound c t k r actors open_ones entries → (n : ℕ) (s : State) → slice_get r.states n ≡ Some s → IsMet c s
+sound_met c t k r actors open_ones entries sound n s at =
+    let (path, there) = some_there actors n (let within = slice_get_within r.states n s at in let long = sound.paths in omega (arith, within, long)) in
+    kept_is_met c (record { state = s; actors = path }) (sound.kept n (record { state = s; actors = path }) (record { state = at; actors_at = there }))
+  where
+    some_there : {X : Type 0} (xs : List X) (n : ℕ) → n < length xs → (x : X) × (slice_get xs n ≡ Some x)
+    some_there [] n lt = absurd (omega (arith, lt))
+    some_there (x ∷ xs) zero lt = (x, refl)
+    some_there (x ∷ xs) (suc n) lt = some_there xs n (omega (arith, lt))

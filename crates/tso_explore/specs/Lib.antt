@@ -3,3 +3,4 @@ pub mod Searched
 pub mod Cutting
 pub mod Outcomes
 pub mod Ways
+pub mod Tasks

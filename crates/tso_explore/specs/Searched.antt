@@ -97,7 +97,11 @@ pub record HasBegun (c : Client) (states : List State) : Type 0 where
 abbrev pub IsWorkedAt : Client → Table → List State → ℕ → Type 0
 IsWorkedAt c t states n = (s : State) → slice_get states n ≡ Some s → IsWorked c t states s
 
--- and all of them are worked
+-- for each number from one up to another
+abbrev pub AreWorkedBetween : Client → Table → List State → ℕ → ℕ → Type 0
+AreWorkedBetween c t states from to = (n : ℕ) → from ≤ n → n < to → IsWorkedAt c t states n
+
+-- the first is the initial state, all are met, and all of them are worked
 pub record AreSearched (c : Client) (t : Table) (states : List State) : Type 0 where
   pub begun : HasBegun c states
   pub worked : (n : ℕ) → IsWorkedAt c t states n

@@ -8,8 +8,10 @@ ghost use Rattle.tso_rec.specs.Keeping as keeping;
 ghost use Rattle.tso_state.specs.WellFormed.{IsWellFormed};
 
 use crate::ends::share_end;
+use crate::tasks::{ALONE, Task, run_by};
 use std::alloc::{AllocError, Global};
 use std::boxed::Box;
+use std::thread::Threads;
 use tso_cert::Cert;
 use tso_choose::choose;
 use tso_fifo::linearize;
@@ -111,9 +113,9 @@ fn state_at(alloc: Global, store: &Store<'_>, number: u32) -> Result<State, Allo
     }
 }
 
-/// The records of these states: one leaf of up to 64, or a fork whose left half has half of them, rounded down, and whose state
-/// is the first of the right half; both halves are cut alike.
-pub fn tree_of(
+// The records of these states: one leaf of up to 64, or a fork whose left half has half of them, rounded down, and whose state
+// is the first of the right half; both halves are cut alike.
+fn tree_of(
     alloc: Global,
     checked: &Checked,
     table: &Table,
@@ -137,4 +139,122 @@ pub fn tree_of(
     let middle = state_at(alloc, store, high[0])?;
     let right = tree_of(alloc, checked, table, store, recorder, ends, high)?;
     Ok(Cert::Fork(Box::new(alloc, left)?, middle, Box::new(alloc, right)?))
+}
+
+/// The records of these states as a tree: one leaf of up to 64, or a fork whose left half has half of them, rounded down, and
+/// whose state is the first of the right half; both halves are cut alike.
+///
+/// Errors: where a growth was refused.
+pub fn cut(
+    alloc: Global,
+    checked: &Checked,
+    table: &Table,
+    store: &Store<'_>,
+    numbers: &[u32],
+) -> Result<Cert, AllocError>
+    requires searched { AreSearched checked.now.client table.now store.now.states }
+    requires numbers { AreNumbers store.now.states numbers.now }
+    requires rising { AreRising store.now.states numbers.now }
+    ensures { IfOk result (λ cert. IsCut checked.now.client table.now store.now.states numbers.now (trees.tree_of cert)) }
+{
+    let recorder = store.recorder(alloc)?;
+    let mut ends = Shelf::new(alloc);
+    tree_of(alloc, checked, table, store, &recorder, &mut ends, numbers)
+}
+
+// States whose records are to be cut. A thread that cuts some makes a recorder and shared ends of its own: no count of what they
+// share is changed by two threads.
+#[derive(Drop)]
+struct Uncut<'a> {
+    alloc: Global,
+    checked: &'a Checked,
+    table: &'a Table,
+    store: &'a Store<'a>,
+    numbers: &'a [u32],
+}
+
+impl<'a> Task for Uncut<'a> {
+    ghost use Rattle.tso_cert.specs.Trees as trees;
+    ghost use Rattle.tso_explore.specs.Tasks.{AreHalvesCut, CanBeCut, IsCutOf, uncut};
+
+    type Output = Cert;
+
+    ghost is_ready = { λ p. CanBeCut (uncut p.checked.now.client p.table.now p.store.now.states p.numbers.now) };
+
+    ghost is_output = { λ p cert. IsCutOf (uncut p.checked.now.client p.table.now p.store.now.states p.numbers.now) (trees.tree_of cert) };
+
+    ghost are_halves = { λ p left right. AreHalvesCut (uncut p.checked.now.client p.table.now p.store.now.states p.numbers.now) (uncut left.checked.now.client left.table.now left.store.now.states left.numbers.now) (uncut right.checked.now.client right.table.now right.store.now.states right.numbers.now) };
+
+    fn run(&self) -> Result<Cert, AllocError> {
+        cut(
+            self.alloc,
+            self.checked,
+            self.table,
+            self.store,
+            self.numbers,
+        )
+    }
+
+    fn halves(&self) -> Option<(Self, Self)> {
+        let count = self.numbers.len();
+        if count <= ALONE {
+            return None;
+        }
+        let (low, high) = self.numbers.split_at(count / 2);
+        let left = Uncut {
+            alloc: self.alloc,
+            checked: self.checked,
+            table: self.table,
+            store: self.store,
+            numbers: low,
+        };
+        let right = Uncut {
+            alloc: self.alloc,
+            checked: self.checked,
+            table: self.table,
+            store: self.store,
+            numbers: high,
+        };
+        Some((left, right))
+    }
+
+    fn joined(
+        &self,
+        _left: &Self,
+        right: &Self,
+        first: Cert,
+        second: Cert,
+    ) -> Result<Cert, AllocError> {
+        let middle = state_at(self.alloc, self.store, right.numbers[0])?;
+        let first = Box::new(self.alloc, first)?;
+        let second = Box::new(self.alloc, second)?;
+        Ok(Cert::Fork(first, middle, second))
+    }
+}
+
+/// The same tree, cut by so many workers.
+///
+/// Errors: where a growth was refused.
+pub fn cut_by<R: Threads + Sync>(
+    rt: &R,
+    alloc: Global,
+    checked: &Checked,
+    table: &Table,
+    store: &Store<'_>,
+    numbers: &[u32],
+    workers: u64,
+) -> Result<Cert, AllocError>
+    requires searched { AreSearched checked.now.client table.now store.now.states }
+    requires numbers { AreNumbers store.now.states numbers.now }
+    requires rising { AreRising store.now.states numbers.now }
+    ensures { IfOk result (λ cert. IsCut checked.now.client table.now store.now.states numbers.now (trees.tree_of cert)) }
+{
+    let uncut = Uncut {
+        alloc,
+        checked,
+        table,
+        store,
+        numbers,
+    };
+    run_by(rt, &uncut, workers)
 }

@@ -7,7 +7,7 @@ ghost use Rattle.tso_foot.specs.Closed.{IsClosed, IsLeastClosed};
 ghost use Rattle.tso_table.specs.Leading.{IsKept};
 
 use crate::closing::are_worked;
-use crate::cutting::tree_of;
+use crate::cutting::{cut, cut_by};
 use crate::merging::{add_met, merged};
 use crate::origin::Origin;
 use crate::outcome::Outcome;
@@ -22,7 +22,6 @@ use tso_cert::{Watch, Workers};
 use tso_flow::Checked;
 use tso_foot::{Table, build};
 use tso_pool::{Ending, search as search_together};
-use tso_rec::Shelf;
 use tso_state::initial_state;
 use tso_store::{AddError, Store};
 use tso_table::Kept;
@@ -63,16 +62,38 @@ fn certificate_of(
 {
     store.states_differ();
     let numbers = store.rising(alloc)?;
-    let recorder = store.recorder(alloc)?;
-    let mut ends = Shelf::new(alloc);
-    let cert = tree_of(
+    let cert = cut(alloc, checked, &table, store, numbers.as_slice())?;
+    Ok(Outcome::Certificate(table, cert))
+}
+
+// The same, cut by so many workers.
+fn certificate_by<R: Threads + Sync>(
+    rt: &R,
+    alloc: Global,
+    checked: &Checked,
+    table: Table,
+    store: &Store<'_>,
+    workers: u64,
+    limit: u32,
+) -> Result<Outcome, AllocError>
+    requires client { store.now.client ≡ checked.now.client }
+    requires closed { IsClosed checked.now.client table }
+    requires least { IsLeastClosed checked.now.client table }
+    requires searched { AreSearched checked.now.client table store.now.states }
+    requires few { length store.now.states ≤ limit }
+    requires limit { limit ≤ 4194304 }
+    ensures { IfOk result (IsOutcome checked.now.client limit) }
+{
+    store.states_differ();
+    let rising = store.rising(alloc)?;
+    let cert = cut_by(
+        rt,
         alloc,
         checked,
         &table,
         store,
-        &recorder,
-        &mut ends,
-        numbers.as_slice(),
+        rising.as_slice(),
+        workers,
     )?;
     Ok(Outcome::Certificate(table, cert))
 }
@@ -195,11 +216,13 @@ fn over_with(
 }
 
 // The certificate of the states that several workers have met, if all are worked.
-fn certificate_of_all(
+fn certificate_of_all<R: Threads + Sync>(
+    rt: &R,
     alloc: Global,
     checked: &Checked,
     table: Table,
     store: &Store<'_>,
+    workers: u64,
     limit: u32,
 ) -> Result<Option<Outcome>, AllocError>
     requires client { store.now.client ≡ checked.now.client }
@@ -213,20 +236,22 @@ fn certificate_of_all(
         store.states_differ();
         return Ok(Some(Outcome::LimitReached));
     }
-    if !are_worked(alloc, checked, &table, store)? {
+    if !are_worked(rt, alloc, checked, &table, store, workers)? {
         return Ok(None);
     }
-    let outcome = certificate_of(alloc, checked, table, store, limit)?;
+    let outcome = certificate_by(rt, alloc, checked, table, store, workers, limit)?;
     Ok(Some(outcome))
 }
 
 // What several workers find, by how they ended and the states that they met; `None` where that does not tell.
-fn found_together(
+fn found_together<R: Threads + Sync>(
+    rt: &R,
     alloc: Global,
     checked: &Checked,
     table: Table,
     store: &mut Store<'_>,
     ending: Ending,
+    workers: u64,
     limit: u32,
 ) -> Result<Option<Outcome>, AllocError>
     requires client { store.old.client ≡ checked.now.client }
@@ -237,7 +262,7 @@ fn found_together(
     ensures { IfOk result (λ found. IfSome found (IsOutcome checked.now.client limit)) }
 {
     match ending {
-        Ending::Quiet => certificate_of_all(alloc, checked, table, store, limit),
+        Ending::Quiet => certificate_of_all(rt, alloc, checked, table, store, workers, limit),
         Ending::Violation(kept) => match trace_along(alloc, checked, &kept)? {
             Some(trace) => Ok(Some(Outcome::Trace(trace))),
             None => Ok(None),
@@ -282,7 +307,9 @@ fn explored_together<R: Threads + Wait + Sync, W: Watch + Sync>(
     let table = build(alloc, checked)?;
     let (store, ending) = gathered(rt, alloc, checked, &table, workers, limit, watch)?;
     let mut store = store;
-    found_together(alloc, checked, table, &mut store, ending, limit)
+    found_together(
+        rt, alloc, checked, table, &mut store, ending, workers, limit,
+    )
 }
 
 // What is found by so many workers, where there is memory.

@@ -13,6 +13,7 @@ mod outcome;
 mod searching;
 mod showing;
 mod stop;
+mod tasks;
 mod way;
 
 pub use exploring::explore;

@@ -29,7 +29,7 @@ pub fn add_met(checked: &Checked, store: &mut Store<'_>, kept: &Kept) -> Result<
     }
 }
 
-// Adds the states of one table of this client.
+// Adds the states of one table of this client, by the numbers of their parts.
 fn add_table(
     alloc: Global,
     checked: &Checked,
@@ -39,15 +39,14 @@ fn add_table(
     requires client { store.old.client ≡ checked.now.client }
     requires table { table.now.client ≡ checked.now.client }
     requires begun { HasBegun checked.now.client store.old.states }
-    ensures begun { OnOk result (HasBegun checked.now.client store.new.states) }
+    ensures begun { HasBegun checked.now.client store.new.states }
     ensures client { store.new.client ≡ store.old.client }
 {
-    for place in 0..table.len() {
-        if let Some(kept) = table.kept(alloc, place as u32)? {
-            add_met(checked, store, &kept)?;
-        }
+    table.is_sound();
+    match store.take_in(alloc, table.states()) {
+        Ok(()) => Ok(()),
+        Err(_) => Err(AllocError),
     }
-    Ok(())
 }
 
 // Adds the states of all tables that are of this client and this table of footprints.
@@ -71,7 +70,7 @@ fn add_tables(
     Ok(())
 }
 
-/// A store of the initial state and those of the tables.
+/// A store of the initial state and those of the tables, which has learnt where the next steps of their threads lead.
 ///
 /// Errors: where a growth was refused.
 pub fn merged<'a>(
@@ -85,5 +84,6 @@ pub fn merged<'a>(
 {
     let mut store = started(alloc, checked)?;
     add_tables(alloc, checked, footprints, &mut store, tables)?;
+    store.learn()?;
     Ok(store)
 }

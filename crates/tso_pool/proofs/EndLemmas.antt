@@ -24,13 +24,8 @@ use Rattle.tso_state.specs.WellFormed.{IsWellFormed}
 use Rattle.tso_state.specs.declared.actor.Actor.{Actor}
 use Rattle.tso_state.specs.declared.state.State.{State}
 use Rattle.tso_table.specs.Ends.{AreNear, IsEnd}
-use Rattle.tso_table.specs.Leading.{IsKept}
-use Rattle.tso_table.specs.declared.kept.Kept.{Kept}
 use Rattle.tso_table.specs.declared.slot.Filed.{Filed}
 use Rattle.tso_fifo.specs.declared.order.Placed.{Placed}
-
-pub well_formed : (c : Client) (k : Kept) → IsKept c k → IsWellFormed c k.state
-well_formed c k kept = kept.plausible.well_formed
 
 enabled_by : {X Y Z : Type 0} (f : X → Y) (k : X → Z) (o : Option X) → is_some (option_map k o) ≡ true → is_some (option_map f o) ≡ true
 enabled_by f k None e = e
@@ -43,8 +38,8 @@ pub item_at : {X : Type 0} (xs : List X) (i : ℕ) (x : X) → i < length xs →
 item_at xs i x lt is = slice_get-get_or xs i x lt ∙ ap Some (sym is)
 
 -- a chosen actor has a step
-pub chosen_has : (c : Client) (t : Table) (k : Kept) (choices : List Choice) (i : ℕ) (x : Choice) → IsKept c k → AreChosen c t k.state choices → i < length choices → x ≡ get_or choices i x → HasStep c k.state x.actor
-chosen_has c t k choices i x kept chosen lt is = enabled_has c k.state x.actor ((chosen_are_valid c t k.state choices (well_formed c k kept) chosen).enabled i x (item_at choices i x lt is))
+pub chosen_has : (c : Client) (t : Table) (s : State) (choices : List Choice) (i : ℕ) (x : Choice) → IsWellFormed c s → AreChosen c t s choices → i < length choices → x ≡ get_or choices i x → HasStep c s x.actor
+chosen_has c t s choices i x w chosen lt is = enabled_has c s x.actor ((chosen_are_valid c t s choices w chosen).enabled i x (item_at choices i x lt is))
 
 -- what holds anyway
 pub both_some : {X A : Type 0} (Q : X → Type 0) (o : Option X) → A → IfSome o Q → IfSome o (λ x. A × Q x)
@@ -75,20 +70,20 @@ chosen_met c t s choices w chosen some =
     }
 
 -- chosen actors with the numbers of the states after their steps are an end
-pub chosen_end : (c : Client) (t : Table) (own : ℕ) (k : Kept) (choices : List Choice) (m : Moves) → IsKept c k → AreChosen c t k.state choices → 0 < length choices
-    → AreNumbered c own k.state choices m → length m.numbers ≡ length choices → IsEnd c t k.state (record { end = Choices choices; numbers = m.numbers })
-chosen_end c t own k choices m kept chosen some are all = record {
-  met = chosen_met c t k.state choices (well_formed c k kept) chosen some;
-  named = all_named c k.state choices m.numbers all are.named;
+pub chosen_end : (c : Client) (t : Table) (own : ℕ) (s : State) (choices : List Choice) (m : Moves) → IsWellFormed c s → AreChosen c t s choices → 0 < length choices
+    → AreNumbered c own s choices m → length m.numbers ≡ length choices → IsEnd c t s (record { end = Choices choices; numbers = m.numbers })
+chosen_end c t own s choices m w chosen some are all = record {
+  met = chosen_met c t s choices w chosen some;
+  named = all_named c s choices m.numbers all are.named;
 }
 
 -- so is an order, where no actor has a step
-pub order_end : (c : Client) (t : Table) (k : Kept) (order : List Placed) (f : Filed) → IsKept c k → IsOver c k.state → HasNoStopped k.state × IsExplained c k.state (Order order)
-    → f ≡ record { end = Order order; numbers = [] } → IsEnd c t k.state f
-order_end c t k order f kept over (unstopped, explained) is =
-    let P : Filed → Type 0 = λ g. IsEnd c t k.state g in
+pub order_end : (c : Client) (t : Table) (s : State) (order : List Placed) (f : Filed) → IsWellFormed c s → IsOver c s → HasNoStopped s × IsExplained c s (Order order)
+    → f ≡ record { end = Order order; numbers = [] } → IsEnd c t s f
+order_end c t s order f w over (unstopped, explained) is =
+    let P : Filed → Type 0 = λ g. IsEnd c t s g in
     subst P (sym is) (record {
-      met = record { well_formed = well_formed c k kept; fits = over; reasons = tt; successors = tt; unstopped = unstopped; explained = explained };
+      met = record { well_formed = w; fits = over; reasons = tt; successors = tt; unstopped = unstopped; explained = explained };
       named = tt;
     })
 

@@ -1,2 +1,3 @@
+pub mod DeskLemmas
 pub mod EndLemmas
 pub mod NumberLemmas

@@ -4,6 +4,7 @@ ghost use Rattle.std.specs.Prelude.{◌≡◌, ◌+◌, ◌<◌, IfOk, vec_len};
 
 use crate::ending::Ending;
 use crate::team::Team;
+use crate::ticket::Ticket;
 use crate::working::work;
 use std::alloc::{AllocError, Global};
 use std::sync::Wait;
@@ -11,14 +12,14 @@ use std::sync::ledger::{Ledger, Share};
 use std::thread;
 use std::thread::Threads;
 use tso_cert::Watch;
-use tso_table::Number;
+use tso_table::Search;
 use tso_ticket::Seat;
 
 // What a worker begins with.
 #[derive(Drop)]
 struct Job<E: Ledger> {
     number: u64,
-    seat: Seat<Number>,
+    seat: Seat<Ticket>,
     share: Share<E>,
     ghost part: { share.parts ≡ 1 },
 }
@@ -32,7 +33,7 @@ struct Turn<E: Ledger> {
 }
 
 // One worker, whose seat is let go.
-fn turn_of<U: Ledger, E: Ledger, R: Wait, W: Watch>(
+fn turn_of<U: Search, E: Ledger, R: Wait, W: Watch>(
     team: &Team<'_, '_, U, E, R, W>,
     job: Job<E>,
 ) -> Turn<E> {
@@ -65,7 +66,7 @@ fn worse(first: Ending, last: Ending) -> Ending {
 }
 
 // A job with a part of the share.
-fn job_of<E: Ledger>(number: u64, seat: Seat<Number>, share: &mut Share<E>) -> Job<E>
+fn job_of<E: Ledger>(number: u64, seat: Seat<Ticket>, share: &mut Share<E>) -> Job<E>
     requires { 1 < share.old.parts }
     ensures { share.new.parts + 1 ≡ share.old.parts }
 {
@@ -80,7 +81,7 @@ fn job_of<E: Ledger>(number: u64, seat: Seat<Number>, share: &mut Share<E>) -> J
 // A job for each seat.
 fn jobs_of<E: Ledger>(
     alloc: Global,
-    seats: Vec<Seat<Number>>,
+    seats: Vec<Seat<Ticket>>,
     share: &mut Share<E>,
 ) -> Result<Vec<Job<E>>, AllocError>
     requires { share.old.parts ≡ vec_len seats + 1 }
@@ -112,14 +113,14 @@ fn close_all<E: Ledger>(turns: Vec<Turn<E>>, share: &mut Share<E>) -> Ending
 ///
 /// Errors: where a growth was refused.
 pub fn work_all<
-    U: Ledger + Send + Sync,
+    U: Search + Send + Sync,
     E: Ledger + Send + Sync,
     R: Threads + Wait + Sync,
     W: Watch + Sync,
 >(
     rt: &R,
     team: &Team<'_, '_, U, E, R, W>,
-    seats: Vec<Seat<Number>>,
+    seats: Vec<Seat<Ticket>>,
     share: &mut Share<E>,
 ) -> Result<Ending, AllocError>
     requires { share.old.parts ≡ vec_len seats + 1 }

@@ -6,10 +6,10 @@ ghost use Rattle.tso_table.specs.Totals.{all_entries, all_states, claims};
 use std::alloc::{AllocError, Global};
 use std::sync::Mutex;
 use std::sync::ledger::{Ledger, Share};
-use tso_table::{Budget, Shard, Table, open_all, settle};
+use tso_table::{Budget, Search, Shard, Table, open_all, settle};
 
 // The shards, each without its lock.
-fn owned<'c, U: Ledger, E: Ledger>(
+fn owned<'c, U: Search, E: Ledger>(
     alloc: Global,
     cells: Vec<Mutex<Shard<'c, U, E>>>,
 ) -> Result<Vec<Shard<'c, U, E>>, AllocError>
@@ -26,7 +26,7 @@ fn owned<'c, U: Ledger, E: Ledger>(
 /// the lengths of their logs to what the workers counted.
 ///
 /// Errors: where a growth was refused.
-pub fn gather<'c, U: Ledger, E: Ledger>(
+pub fn gather<'c, U: Search, E: Ledger>(
     alloc: Global,
     cells: Vec<Mutex<Shard<'c, U, E>>>,
     budget: &mut Budget<U, E>,

@@ -4,15 +4,14 @@ ghost use Rattle.std.specs.Prelude.{◌≡◌, ◌++◌, ◌∷◌, [], OnOk};
 ghost use Rattle.tso_pool.specs.Numbering.{near_of};
 
 use std::alloc::{AllocError, Global};
-use tso_list::Seq;
 use tso_state::State;
-use tso_table::{Near, Number};
+use tso_table::{Near, Number, Numbers};
 
 /// The numbers of the states after the first of the chosen steps, and those of these states that belong to the shard of the
 /// state that they leave.
 #[derive(Debug, Drop)]
 pub struct Moves {
-    pub numbers: Seq<Number>,
+    pub numbers: Numbers,
     pub near: Vec<Near>,
 }
 
@@ -22,7 +21,7 @@ impl Moves {
         ensures { (result.numbers ≡ []) × (result.near.items ≡ []) }
     {
         Moves {
-            numbers: Seq::new(alloc),
+            numbers: Numbers::new(alloc),
             near: Vec::new(alloc),
         }
     }

@@ -1,16 +1,18 @@
 //! A search by several workers, from the initial state on.
 
-ghost use Rattle.std.specs.Prelude.{◌≡◌, ◌+◌, ◌*◌, ◌<◌, ◌≤◌, IfErr, IfOk, map, vec_len};
+ghost use Rattle.std.specs.Prelude.{◌≡◌, ◌+◌, ◌*◌, ◌<◌, ◌≤◌, IfErr, IfOk, Some, map, vec_len};
 ghost use Rattle.tso_pool.specs.Endings.{IsEndingOf};
 ghost use Rattle.tso_table.specs.Totals.{all_states, allotment, claims};
 
 use crate::crew::work_all;
+use crate::desk::Desk;
 use crate::ending::Ending;
 use crate::gathering::gather;
 use crate::progress::Progress;
 use crate::resting::Resting;
 use crate::sharing::intern;
 use crate::team::Team;
+use crate::ticket::Ticket;
 use crate::working::offer;
 use std::alloc::{AllocError, Global};
 use std::marker::Brand;
@@ -21,11 +23,14 @@ use std::thread::Threads;
 use tso_cert::Watch;
 use tso_flow::Checked;
 use tso_foot::Table as Footprints;
-use tso_table::{ALLOTMENT, Budget, Kept, Number, SHARDS, Shard, Table};
+use tso_table::{ALLOTMENT, Budget, SHARDS, Search, Shard, Table};
 use tso_ticket::{Seat, seats};
 
+// The number of no worker: whoever takes a ticket of its desk takes the state from its shard.
+const NO_WORKER: u64 = 64;
+
 // Sixteen shards without a state, each in a lock of its own.
-fn empty_shards<'c, U: Ledger, E: Ledger>(
+fn empty_shards<'c, U: Search, E: Ledger>(
     alloc: Global,
     checked: &'c Checked,
     table: &'c Footprints,
@@ -34,6 +39,8 @@ fn empty_shards<'c, U: Ledger, E: Ledger>(
 ) -> Result<Vec<Mutex<Shard<'c, U, E>>>, AllocError>
     requires units { (units.old.parts ≡ 17) × (units.old.amount ≡ 0) }
     requires calls { (16 < calls.old.parts) × (calls.old.amount ≡ 16 * allotment) }
+    requires client { U.client ≡ Some checked.now.client }
+    requires table { U.table ≡ Some table.now }
     ensures shards { IfOk result (λ v. vec_len v ≡ 16) }
     ensures units { IfOk result (λ _. (units.new.parts ≡ 1) × (units.new.amount ≡ 0)) }
     ensures calls { IfOk result (λ _. (calls.new.parts + 16 ≡ calls.old.parts) × (calls.new.amount ≡ 0)) }
@@ -48,29 +55,62 @@ fn empty_shards<'c, U: Ledger, E: Ledger>(
     Ok(shards)
 }
 
-// Makes the initial state known, and hands out its ticket.
-fn begin<U: Ledger, E: Ledger, R: Wait, W: Watch>(
+// The number of the initial state, which a desk of no worker takes in.
+fn first_number<U: Search, E: Ledger, R: Wait, W: Watch>(
     team: &Team<'_, '_, U, E, R, W>,
-    seats: &mut [Seat<Number>],
+    desk: &mut Desk<'_>,
+    share: &mut Share<E>,
+) -> Result<Ticket, Ending>
+    requires part { 0 < share.old.parts }
+    requires client { desk.old.client ≡ team.now.checked.now.client }
+    ensures parts { share.new.parts ≡ share.old.parts }
+    ensures ending { IfErr result (IsEndingOf team.now.checked.now.client) }
+{
+    let held = desk.begin(team.alloc, team.checked)?;
+    let (number, _new) = intern(team, desk, held, true, share)?;
+    let worker = desk.worker();
+    Ok(Ticket {
+        number,
+        worker,
+        held,
+    })
+}
+
+// Makes the initial state known: a ticket for it.
+fn first_ticket<U: Search, E: Ledger, R: Wait, W: Watch>(
+    team: &Team<'_, '_, U, E, R, W>,
+    share: &mut Share<E>,
+) -> Result<Ticket, Ending>
+    requires part { 0 < share.old.parts }
+    ensures parts { share.new.parts ≡ share.old.parts }
+    ensures ending { IfErr result (IsEndingOf team.now.checked.now.client) }
+{
+    let mut desk = Desk::new(team.alloc, team.checked, NO_WORKER)?;
+    first_number(team, &mut desk, share)
+}
+
+// Makes the initial state known, and hands out its ticket.
+fn begin<U: Search, E: Ledger, R: Wait, W: Watch>(
+    team: &Team<'_, '_, U, E, R, W>,
+    seats: &mut [Seat<Ticket>],
     share: &mut Share<E>,
 ) -> Result<(), Ending>
     requires part { 0 < share.old.parts }
     ensures parts { share.new.parts ≡ share.old.parts }
     ensures ending { IfErr result (IsEndingOf team.now.checked.now.client) }
 {
-    let kept = Kept::initial(team.alloc, team.checked)?;
-    let (number, _new) = intern(team, kept, share)?;
+    let ticket = first_ticket(team, share)?;
     if let Some(seat) = seats.first_mut() {
-        offer(seat, number)?;
+        offer(seat, ticket)?;
     }
     Ok(())
 }
 
 // Lets the workers search.
-fn run<U: Ledger + Send + Sync, E: Ledger + Send + Sync, R: Threads + Wait + Sync, W: Watch + Sync>(
+fn run<U: Search + Send + Sync, E: Ledger + Send + Sync, R: Threads + Wait + Sync, W: Watch + Sync>(
     rt: &R,
     team: &Team<'_, '_, U, E, R, W>,
-    seats: Vec<Seat<Number>>,
+    seats: Vec<Seat<Ticket>>,
     share: &mut Share<E>,
 ) -> Result<Ending, AllocError>
     requires parts { share.old.parts ≡ vec_len seats + 1 }
@@ -86,7 +126,7 @@ fn run<U: Ledger + Send + Sync, E: Ledger + Send + Sync, R: Threads + Wait + Syn
 // The same, with the ledgers of units and of entries.
 fn search_as<
     'c,
-    U: Ledger + Send + Sync,
+    U: Search + Send + Sync,
     E: Ledger + Send + Sync,
     R: Threads + Wait + Sync,
     W: Watch + Sync,
@@ -104,6 +144,8 @@ fn search_as<
     requires units { (units.name ≡ U.name) × (units.parts ≡ U.parts) × (units.parts ≡ 17) }
     requires entries { (entries.name ≡ E.name) × (entries.parts ≡ E.parts) × (entries.parts ≡ 17 + workers) }
     requires workers { (0 < workers) × (workers ≤ 64) }
+    requires client { U.client ≡ Some checked.now.client }
+    requires table { U.table ≡ Some table.now }
     ensures few { IfOk result (λ r. all_states (map claims r.0.items) ≤ limit) }
 {
     let (budget, units, calls) = Budget::<U, E>::new(limit, units, entries);
@@ -114,7 +156,7 @@ fn search_as<
     let budget = Mutex::new(budget);
     let note = AtomicBool::new(false);
     let progress = Progress::new();
-    progress.hand_out();
+    progress.begin();
     let resting = Resting::new();
     let team = Team {
         rt,

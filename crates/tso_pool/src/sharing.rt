@@ -1,131 +1,217 @@
 //! What a worker does under a lock. It has one shard's lock at a time, and the budget's only while it has that.
 
 ghost use Rattle.std.specs.Prelude.{◌≡◌, ◌+◌, ◌<◌, IfErr, IfOk, IfSome, MatchBool, OnErr, OnOk};
+ghost use Rattle.tso_parts.specs.Numbers.{Extends};
+ghost use Rattle.tso_pool.specs.Desks.{IsShardOf};
 ghost use Rattle.tso_pool.specs.Endings.{IsEndingOf};
 ghost use Rattle.tso_table.specs.Ends.{AreNear, IsEnd};
 ghost use Rattle.tso_table.specs.Leading.{IsKept, shard_of};
 
+use crate::desk::Desk;
 use crate::ending::Ending;
 use crate::locking::lock;
 use crate::team::Team;
+use crate::ticket::Ticket;
+use std::alloc::Global;
 use std::sync::Wait;
 use std::sync::ledger::{Ledger, Share};
 use tso_cert::Watch;
-use tso_state::State;
-use tso_table::{Filed, FinishError, InternError, Kept, Near, Number, Shard, shard_of};
+use tso_store::{Key, View};
+use tso_table::{Filed, FinishError, InternError, Near, Number, Search, Shard, Table, shard_of};
 
-/// The state of a ticket, claimed for the caller, by one entry of its shard's log. `None` where no state waits there.
-pub fn take<U: Ledger, E: Ledger, R: Wait, W: Watch>(
+// Where the desk has the state of a ticket, which it takes in where another's desk has it. `None` where the table has no such
+// state.
+fn held_by(desk: &mut Desk<'_>, table: &Table<'_>, ticket: Ticket) -> Result<Option<u32>, Ending>
+    requires { table.now.client ≡ desk.old.client }
+    ensures client { desk.new.client ≡ desk.old.client }
+    ensures ending { IfErr result (IsEndingOf desk.old.client) }
+{
+    if ticket.worker == desk.worker() {
+        return Ok(Some(ticket.held));
+    }
+    match table.lent(ticket.number.place) {
+        Some((state, actors)) => {
+            let held = desk.take_in(&state, actors)?;
+            Ok(Some(held))
+        }
+        None => Ok(None),
+    }
+}
+
+/// The state of a ticket, claimed for the caller, by one entry of its shard's log: where the desk has it. `None` where no state
+/// waits there.
+pub fn take<U: Search, E: Ledger, R: Wait, W: Watch>(
     team: &Team<'_, '_, U, E, R, W>,
-    ticket: Number,
+    desk: &mut Desk<'_>,
+    ticket: Ticket,
     share: &mut Share<E>,
-) -> Result<Option<Kept>, Ending>
+) -> Result<Option<u32>, Ending>
     requires part { 0 < share.old.parts }
+    requires client { desk.old.client ≡ team.now.checked.now.client }
     ensures parts { share.new.parts ≡ share.old.parts }
+    ensures client { desk.new.client ≡ desk.old.client }
     ensures counted { OnOk result (share.new.amount ≡ share.old.amount + 1) }
     ensures uncounted { OnErr result (share.new.amount ≡ share.old.amount) }
-    ensures kept { IfOk result (λ o. IfSome o (IsKept team.now.checked.now.client)) }
     ensures ending { IfErr result (IsEndingOf team.now.checked.now.client) }
 {
-    let Some(cell) = team.shards.get(ticket.shard as usize) else {
+    let Some(cell) = team.shards.get(ticket.number.shard as usize) else {
         return Err(Ending::Quiet);
     };
     let mut shard = lock(cell, team.rt);
-    if !shard.is_for(team.checked, team.table, ticket.shard) {
-        return Err(Ending::Quiet);
-    }
-    let kept = shard.table().kept(team.alloc, ticket.place)?;
-    match shard.claim(ticket.place, share) {
-        Ok(true) => Ok(kept),
+    shard.is_of(team.checked, team.table);
+    let held = held_by(desk, shard.table(), ticket)?;
+    match shard.claim(ticket.number.place, share) {
+        Ok(true) => Ok(held),
         Ok(false) => Ok(None),
         Err(_) => Err(Ending::Memory),
     }
 }
 
-// The number of a state in its shard, and whether it is new. Only a new one needs the budget.
-fn number_in<U: Ledger, E: Ledger, R: Wait, W: Watch>(
+// The number of a state in its shard, and whether it is new; `None` where no unit is left. Only a new one needs the budget: one
+// that is not fresh is looked up first.
+fn number_in<U: Search, E: Ledger, R: Wait, W: Watch>(
     team: &Team<'_, '_, U, E, R, W>,
     shard: &mut Shard<'_, U, E>,
-    kept: Kept,
+    near: &Key,
+    state: &View<'_>,
+    actors: &[u8],
+    fresh: bool,
     share: &mut Share<E>,
-) -> Result<(Number, bool), Ending>
+) -> Result<Option<(Number, bool)>, Ending>
     requires part { 0 < share.old.parts }
     requires client { shard.old.client ≡ team.now.checked.now.client }
-    requires kept { IsKept team.now.checked.now.client kept }
-    requires here { shard_of kept.state ≡ shard.old.number }
+    requires kept { IsKept team.now.checked.now.client (record { state = state.now; actors = actors.now }) }
+    requires here { shard_of state.now ≡ shard.old.number }
     ensures parts { share.new.parts ≡ share.old.parts }
-    ensures counted { OnOk result (share.new.amount ≡ share.old.amount + 1) }
+    ensures counted { IfOk result (λ o. IfSome o (λ _. share.new.amount ≡ share.old.amount + 1)) }
+    ensures full { IfOk result (λ o. o ≡ None → share.new.amount ≡ share.old.amount) }
     ensures uncounted { OnErr result (share.new.amount ≡ share.old.amount) }
-    ensures number { IfOk result (λ r. r.0.shard ≡ shard_of kept.state) }
+    ensures number { IfOk result (λ o. IfSome o (λ r. r.0.shard ≡ shard_of state.now)) }
     ensures ending { IfErr result (IsEndingOf team.now.checked.now.client) }
 {
-    match shard.meet(&kept.state, share) {
-        Ok(Some(number)) => return Ok((number, false)),
-        Ok(None) => {}
-        Err(_) => return Err(Ending::Memory),
+    if !fresh {
+        match shard.meet(near, state, share) {
+            Ok(Some(number)) => return Ok(Some((number, false))),
+            Ok(None) => {}
+            Err(_) => return Err(Ending::Memory),
+        }
     }
     let mut budget = lock(team.budget, team.rt);
     if !budget.is_for(team.limit) {
         return Err(Ending::Quiet);
     }
-    match shard.intern(&mut budget, kept, share) {
-        Ok(answer) => Ok(answer),
-        Err(InternError::Full(kept)) => Err(Ending::Full(kept)),
+    match shard.intern(&mut budget, near, state, actors, share) {
+        Ok(answer) => Ok(Some(answer)),
+        Err(InternError::Full) => Ok(None),
         Err(InternError::Memory) => Err(Ending::Memory),
     }
 }
 
-/// The number of a state, and whether it is new, by one entry of its shard's log.
-pub fn intern<U: Ledger, E: Ledger, R: Wait, W: Watch>(
+// The number of a state in its shard, and whether it is new, with where the shard has its parts; `None` where no unit is left.
+fn place<U: Search, E: Ledger, R: Wait, W: Watch>(
     team: &Team<'_, '_, U, E, R, W>,
-    kept: Kept,
+    near: &Key,
+    state: &View<'_>,
+    actors: &[u8],
+    fresh: bool,
     share: &mut Share<E>,
-) -> Result<(Number, bool), Ending>
+) -> Result<Option<(Number, bool, Key)>, Ending>
     requires part { 0 < share.old.parts }
-    requires kept { IsKept team.now.checked.now.client kept }
+    requires kept { IsKept team.now.checked.now.client (record { state = state.now; actors = actors.now }) }
     ensures parts { share.new.parts ≡ share.old.parts }
-    ensures counted { OnOk result (share.new.amount ≡ share.old.amount + 1) }
+    ensures counted { IfOk result (λ o. IfSome o (λ _. share.new.amount ≡ share.old.amount + 1)) }
+    ensures full { IfOk result (λ o. o ≡ None → share.new.amount ≡ share.old.amount) }
     ensures uncounted { OnErr result (share.new.amount ≡ share.old.amount) }
-    ensures number { IfOk result (λ r. r.0.shard ≡ shard_of kept.state) }
+    ensures number { IfOk result (λ o. IfSome o (λ r. r.0.shard ≡ shard_of state.now)) }
     ensures ending { IfErr result (IsEndingOf team.now.checked.now.client) }
 {
-    let number = shard_of(&kept.state);
+    let number = shard_of(state);
     let Some(cell) = team.shards.get(number as usize) else {
         return Err(Ending::Quiet);
     };
     let mut shard = lock(cell, team.rt);
-    if !shard.is_for(team.checked, team.table, number) {
+    if shard.table().number() != number {
         return Err(Ending::Quiet);
     }
-    number_in(team, &mut shard, kept, share)
+    shard.is_of(team.checked, team.table);
+    match number_in(team, &mut shard, near, state, actors, fresh, share)? {
+        Some((number, new)) => {
+            let there = shard.table().states().key(number.place);
+            Ok(Some((number, new, there)))
+        }
+        None => Ok(None),
+    }
+}
+
+// That no unit was left for a state.
+fn full_at(alloc: Global, desk: &Desk<'_>, held: u32) -> Ending
+    ensures { IsEndingOf desk.now.client result }
+{
+    match desk.kept(alloc, held) {
+        Ok(Some(kept)) => Ending::Full(kept),
+        _ => Ending::Memory,
+    }
+}
+
+/// The number of a state of the desk, and whether it is new, by one entry of its shard's log. One that is fresh is likely new; this
+/// decides only what is looked at first.
+pub fn intern<U: Search, E: Ledger, R: Wait, W: Watch>(
+    team: &Team<'_, '_, U, E, R, W>,
+    desk: &mut Desk<'_>,
+    held: u32,
+    fresh: bool,
+    share: &mut Share<E>,
+) -> Result<(Number, bool), Ending>
+    requires part { 0 < share.old.parts }
+    requires client { desk.old.client ≡ team.now.checked.now.client }
+    ensures parts { share.new.parts ≡ share.old.parts }
+    ensures desk { desk.new ≡ desk.old }
+    ensures counted { OnOk result (share.new.amount ≡ share.old.amount + 1) }
+    ensures uncounted { OnErr result (share.new.amount ≡ share.old.amount) }
+    ensures number { IfOk result (λ r. IsShardOf desk.old.states held r.0.shard) }
+    ensures ending { IfErr result (IsEndingOf team.now.checked.now.client) }
+{
+    let Some((state, actors)) = desk.lent(held) else {
+        return Err(Ending::Memory);
+    };
+    let shard = shard_of(&state);
+    let near = desk.near(shard, held);
+    match place(team, &near, &state, actors, fresh, share)? {
+        Some((number, new, there)) => {
+            desk.learn(shard, held, &there);
+            Ok((number, new))
+        }
+        None => Err(full_at(team.alloc, desk, held)),
+    }
 }
 
 /// Files the end of a ticket's state, by one entry of its shard's log. False where the table is not ready for it: then nothing
 /// changes.
-pub fn file<U: Ledger, E: Ledger, R: Wait, W: Watch>(
+pub fn file<U: Search, E: Ledger, R: Wait, W: Watch>(
     team: &Team<'_, '_, U, E, R, W>,
-    ticket: Number,
-    state: &State,
+    number: Number,
+    state: &View<'_>,
     filed: Filed,
     near: &[Near],
     share: &mut Share<E>,
 ) -> Result<bool, Ending>
     requires part { 0 < share.old.parts }
     requires end { IsEnd team.now.checked.now.client team.now.table.now state.now filed }
-    requires near { AreNear team.now.checked.now.client ticket.shard state.now filed near.now }
+    requires near { AreNear team.now.checked.now.client number.shard state.now filed near.now }
     ensures parts { share.new.parts ≡ share.old.parts }
     ensures counted { IfOk result (λ filed. MatchBool filed (share.new.amount ≡ share.old.amount + 1) (share.new.amount ≡ share.old.amount)) }
     ensures uncounted { OnErr result (share.new.amount ≡ share.old.amount) }
     ensures ending { IfErr result (IsEndingOf team.now.checked.now.client) }
 {
-    let Some(cell) = team.shards.get(ticket.shard as usize) else {
+    let Some(cell) = team.shards.get(number.shard as usize) else {
         return Ok(false);
     };
     let mut shard = lock(cell, team.rt);
-    if !shard.is_for(team.checked, team.table, ticket.shard) {
+    if shard.table().number() != number.shard {
         return Err(Ending::Quiet);
     }
-    match shard.finish(ticket.place, state, filed, near, share) {
+    shard.is_of(team.checked, team.table);
+    match shard.finish(number.place, state, filed, near, share) {
         Ok(()) => Ok(true),
         Err(FinishError::NotReady) => Ok(false),
         Err(FinishError::Memory) => Err(Ending::Memory),

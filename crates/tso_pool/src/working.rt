@@ -1,46 +1,37 @@
 //! What one worker does.
 
-ghost use Rattle.std.specs.Prelude.{◌≡◌, ◌+◌, ◌<◌, ◌≤◌, ℕ, IfErr, IfOk, IsTrue, List, OnOk, Some, length, slice_get};
-ghost use Rattle.tso_choose.specs.Choices.{AreChosen};
-ghost use Rattle.tso_choose.specs.declared.choice.Choice.{Choice as AChoice};
-ghost use Rattle.tso_compact.specs.Plans.{HasStep};
-ghost use Rattle.tso_judge.specs.Conditions.{IsOver};
+ghost use Rattle.std.specs.Prelude.{◌≡◌, ◌+◌, ◌<◌, ◌≤◌, IfErr, IfOk, IfSome, OnOk, length};
+ghost use Rattle.tso_judge.specs.Conditions.{HasNoStopped, IsExplained, IsOver};
+ghost use Rattle.tso_parts.specs.Numbers.{Extends};
+ghost use Rattle.tso_pool.specs.Desks.{AreNumberedAt, HasMovedAt, IsChosenAt, IsOverAt};
 ghost use Rattle.tso_pool.specs.Endings.{IsEndingOf};
-ghost use Rattle.tso_pool.specs.Numbering.{AreNumbered, HasMoved, IsCopy};
-ghost use Rattle.tso_table.specs.Leading.{IsKept};
+ghost use Rattle.tso_rec.specs.declared.record.End.TheVariants as ends;
+ghost use Rattle.tso_state.specs.WellFormed.{IsWellFormed};
+ghost use Rattle.tso_store.specs.Sheets.{CanStep};
 ghost use Rattle.tso_ticket.specs.Seats.{place_of};
 
+use crate::desk::Desk;
 use crate::ending::Ending;
 use crate::judging::judge_end;
 use crate::moves::Moves;
 use crate::sharing::{file, intern, take};
 use crate::team::Team;
+use crate::ticket::Ticket;
 use std::alloc::AllocError;
 use std::sync::Wait;
 use std::sync::atomic::Ordering;
 use std::sync::ledger::{Ledger, Share};
 use tso_cert::Watch;
 use tso_choose::{Choice, Choices, choose};
-use tso_compact::StepError;
-use tso_list::Seq;
+use tso_fifo::Order;
 use tso_rec::End;
-use tso_state::{Actor, State};
-use tso_table::{Filed, Kept, Number, shard_of};
+use tso_state::Actor;
+use tso_store::View;
+use tso_table::{Filed, Number, Numbers, Search};
 use tso_ticket::Seat;
 
-// A copy of a state that belongs to the shard.
-fn copy_here(state: &State, own: u8) -> Result<Option<State>, AllocError>
-    ensures { IfOk result (IsCopy own state.now) }
-{
-    if shard_of(state) != own {
-        return Ok(None);
-    }
-    let copy = state.clone()?;
-    Ok(Some(copy))
-}
-
 /// Hands out a ticket. It can't be lost: where the deque refuses it, it is on the own list.
-pub fn offer(seat: &mut Seat<Number>, ticket: Number) -> Result<(), AllocError>
+pub fn offer(seat: &mut Seat<Ticket>, ticket: Ticket) -> Result<(), AllocError>
     ensures { place_of seat.new ≡ place_of seat.old }
 {
     seat.make_room()?;
@@ -48,149 +39,227 @@ pub fn offer(seat: &mut Seat<Number>, ticket: Number) -> Result<(), AllocError>
     Ok(())
 }
 
+// Hands out a ticket for a new state of the desk, and calls a worker that has none.
+fn hand_out<U: Search, E: Ledger, R: Wait, W: Watch>(
+    team: &Team<'_, '_, U, E, R, W>,
+    desk: &mut Desk<'_>,
+    seat: &mut Seat<Ticket>,
+    ticket: Ticket,
+) -> Result<(), AllocError>
+    ensures desk { desk.new ≡ desk.old }
+    ensures place { place_of seat.new ≡ place_of seat.old }
+{
+    desk.hand_out(team.progress);
+    offer(seat, ticket)?;
+    team.resting.call(team.rt);
+    Ok(())
+}
+
 // Makes the state after a chosen step known, and hands out a ticket where it is new.
-fn follow<U: Ledger, E: Ledger, R: Wait, W: Watch>(
+fn follow<U: Search, E: Ledger, R: Wait, W: Watch>(
     team: &Team<'_, '_, U, E, R, W>,
     own: u8,
-    kept: &Kept,
+    desk: &mut Desk<'_>,
+    from: u32,
     actor: Actor,
     moves: &mut Moves,
-    seat: &mut Seat<Number>,
+    seat: &mut Seat<Ticket>,
     share: &mut Share<E>,
 ) -> Result<(), Ending>
     requires part { 0 < share.old.parts }
-    requires kept { IsKept team.now.checked.now.client kept.now }
-    requires step { HasStep team.now.checked.now.client kept.now.state actor }
+    requires client { desk.old.client ≡ team.now.checked.now.client }
+    requires step { CanStep desk.old.client desk.old.states from actor }
     ensures parts { share.new.parts ≡ share.old.parts }
     ensures place { place_of seat.new ≡ place_of seat.old }
+    ensures client { desk.new.client ≡ desk.old.client }
+    ensures extends { Extends desk.old.states desk.new.states }
     ensures counted { OnOk result (share.new.amount ≡ share.old.amount + 1) }
-    ensures moved { OnOk result (HasMoved team.now.checked.now.client own kept.now.state actor moves.old moves.new) }
+    ensures moved { OnOk result (HasMovedAt team.now.checked.now.client own desk.old.states from actor moves.old moves.new) }
     ensures ending { IfErr result (IsEndingOf team.now.checked.now.client) }
 {
-    let next = match kept.next(team.alloc, team.checked, actor) {
-        Ok(next) => next,
-        Err(StepError::Disabled) => unreachable!(),
-        Err(StepError::Memory) => return Err(Ending::Memory),
-    };
-    let copy = copy_here(&next.state, own)?;
-    let (number, new) = intern(team, next, share)?;
+    let (held, fresh) = desk.step(team.alloc, team.checked, from, actor)?;
+    let copy = desk.copy_in(team.alloc, held, own)?;
+    let (number, new) = intern(team, desk, held, fresh, share)?;
     moves.add(number, copy)?;
     if new {
-        team.progress.hand_out();
-        offer(seat, number)?;
-        team.resting.call(team.rt);
+        let worker = desk.worker();
+        let ticket = Ticket {
+            number,
+            worker,
+            held,
+        };
+        hand_out(team, desk, seat, ticket)?;
     }
     Ok(())
 }
 
 // The numbers of the states after all chosen steps.
-fn follow_all<U: Ledger, E: Ledger, R: Wait, W: Watch>(
+fn follow_all<U: Search, E: Ledger, R: Wait, W: Watch>(
     team: &Team<'_, '_, U, E, R, W>,
     own: u8,
-    kept: &Kept,
+    desk: &mut Desk<'_>,
+    from: u32,
     choices: &[Choice],
-    seat: &mut Seat<Number>,
+    seat: &mut Seat<Ticket>,
     share: &mut Share<E>,
 ) -> Result<Moves, Ending>
     requires part { 0 < share.old.parts }
-    requires kept { IsKept team.now.checked.now.client kept.now }
-    requires chosen { AreChosen team.now.checked.now.client team.now.table.now kept.now.state choices.now }
+    requires client { desk.old.client ≡ team.now.checked.now.client }
+    requires chosen { IsChosenAt team.now.checked.now.client team.now.table.now desk.old.states from choices.now }
     ensures parts { share.new.parts ≡ share.old.parts }
     ensures place { place_of seat.new ≡ place_of seat.old }
+    ensures client { desk.new.client ≡ desk.old.client }
+    ensures extends { Extends desk.old.states desk.new.states }
     ensures counted { OnOk result (share.new.amount ≡ share.old.amount + length choices.now) }
-    ensures numbered { IfOk result (AreNumbered team.now.checked.now.client own kept.now.state choices.now) }
+    ensures numbered { IfOk result (AreNumberedAt team.now.checked.now.client own desk.old.states from choices.now) }
     ensures all { IfOk result (λ m. length m.numbers ≡ length choices.now) }
     ensures ending { IfErr result (IsEndingOf team.now.checked.now.client) }
 {
     let mut moves = Moves::new(team.alloc);
     for choice in choices {
-        follow(team, own, kept, choice.actor, &mut moves, seat, share)?;
+        follow(team, own, desk, from, choice.actor, &mut moves, seat, share)?;
     }
     Ok(moves)
 }
 
 // Works a state with chosen actors.
-fn work_moves<U: Ledger, E: Ledger, R: Wait, W: Watch>(
+fn work_moves<U: Search, E: Ledger, R: Wait, W: Watch>(
     team: &Team<'_, '_, U, E, R, W>,
-    ticket: Number,
-    kept: &Kept,
+    number: Number,
+    desk: &mut Desk<'_>,
+    held: u32,
     choices: Choices,
-    seat: &mut Seat<Number>,
+    seat: &mut Seat<Ticket>,
     share: &mut Share<E>,
 ) -> Result<(), Ending>
     requires part { 0 < share.old.parts }
-    requires kept { IsKept team.now.checked.now.client kept.now }
-    requires chosen { AreChosen team.now.checked.now.client team.now.table.now kept.now.state choices }
+    requires client { desk.old.client ≡ team.now.checked.now.client }
+    requires chosen { IsChosenAt team.now.checked.now.client team.now.table.now desk.old.states held choices }
     requires some { 0 < length choices }
     ensures parts { share.new.parts ≡ share.old.parts }
     ensures place { place_of seat.new ≡ place_of seat.old }
+    ensures client { desk.new.client ≡ desk.old.client }
     ensures counted { OnOk result (share.old.amount + length choices ≤ share.new.amount) }
     ensures ending { IfErr result (IsEndingOf team.now.checked.now.client) }
 {
-    let own = ticket.shard;
-    let moves = follow_all(team, own, kept, choices.as_slice(), seat, share)?;
+    let own = number.shard;
+    let moves = follow_all(team, own, desk, held, choices.as_slice(), seat, share)?;
     let Moves { numbers, near } = moves;
     let end = End::Choices(choices);
     let filed = Filed { end, numbers };
-    file(team, ticket, &kept.state, filed, near.as_slice(), share)?;
+    let Some(state) = desk.view(held) else {
+        unreachable!()
+    };
+    file(team, number, &state, filed, near.as_slice(), share)?;
     Ok(())
 }
 
-// Works a state in which no actor has a step.
-fn work_end<U: Ledger, E: Ledger, R: Wait, W: Watch>(
+// Files that an order explains the calls of a state in which no actor has a step.
+fn file_order<U: Search, E: Ledger, R: Wait, W: Watch>(
     team: &Team<'_, '_, U, E, R, W>,
-    ticket: Number,
-    kept: Kept,
+    number: Number,
+    state: &View<'_>,
+    order: Order,
     share: &mut Share<E>,
 ) -> Result<(), Ending>
     requires part { 0 < share.old.parts }
-    requires kept { IsKept team.now.checked.now.client kept }
-    requires over { IsOver team.now.checked.now.client kept.state }
+    requires well_formed { IsWellFormed team.now.checked.now.client state.now }
+    requires over { IsOver team.now.checked.now.client state.now }
+    requires good { HasNoStopped state.now × IsExplained team.now.checked.now.client state.now (ends.Order order) }
     ensures parts { share.new.parts ≡ share.old.parts }
     ensures counted { OnOk result (share.old.amount ≤ share.new.amount) }
     ensures ending { IfErr result (IsEndingOf team.now.checked.now.client) }
 {
+    let end = End::Order(order);
+    let numbers = Numbers::new(team.alloc);
+    let filed = Filed { end, numbers };
+    file(team, number, state, filed, &[], share)?;
+    Ok(())
+}
+
+// Works a state in which no actor has a step.
+fn work_end<U: Search, E: Ledger, R: Wait, W: Watch>(
+    team: &Team<'_, '_, U, E, R, W>,
+    number: Number,
+    desk: &Desk<'_>,
+    held: u32,
+    share: &mut Share<E>,
+) -> Result<(), Ending>
+    requires part { 0 < share.old.parts }
+    requires client { desk.now.client ≡ team.now.checked.now.client }
+    requires over { IsOverAt team.now.checked.now.client desk.now.states held }
+    ensures parts { share.new.parts ≡ share.old.parts }
+    ensures counted { OnOk result (share.old.amount ≤ share.new.amount) }
+    ensures ending { IfErr result (IsEndingOf team.now.checked.now.client) }
+{
+    let Some(kept) = desk.kept(team.alloc, held)? else {
+        return Ok(());
+    };
     match judge_end(team.alloc, team.checked, &kept.state)? {
         Some(order) => {
-            let end = End::Order(order);
-            let numbers = Seq::new(team.alloc);
-            let filed = Filed { end, numbers };
-            file(team, ticket, &kept.state, filed, &[], share)?;
-            Ok(())
+            let Some(state) = desk.view(held) else {
+                unreachable!()
+            };
+            file_order(team, number, &state, order, share)
         }
         None => Err(Ending::Violation(kept)),
     }
 }
 
-// Works the state of a ticket.
-fn work_ticket<U: Ledger, E: Ledger, R: Wait, W: Watch>(
+// The chosen actors of a state of the desk, with their reasons. `None` where it has no such state.
+fn choices_at<U: Search, E: Ledger, R: Wait, W: Watch>(
     team: &Team<'_, '_, U, E, R, W>,
-    ticket: Number,
-    seat: &mut Seat<Number>,
+    desk: &Desk<'_>,
+    held: u32,
+) -> Result<Option<Choices>, AllocError>
+    requires client { desk.now.client ≡ team.now.checked.now.client }
+    ensures { IfOk result (λ o. IfSome o (IsChosenAt team.now.checked.now.client team.now.table.now desk.now.states held)) }
+{
+    match desk.lent(held) {
+        Some((state, _actors)) => {
+            let choices = choose(team.alloc, team.checked, team.table, &state)?;
+            Ok(Some(choices))
+        }
+        None => Ok(None),
+    }
+}
+
+// Works the state of a ticket.
+fn work_ticket<U: Search, E: Ledger, R: Wait, W: Watch>(
+    team: &Team<'_, '_, U, E, R, W>,
+    desk: &mut Desk<'_>,
+    ticket: Ticket,
+    seat: &mut Seat<Ticket>,
     share: &mut Share<E>,
 ) -> Result<(), Ending>
     requires part { 0 < share.old.parts }
+    requires client { desk.old.client ≡ team.now.checked.now.client }
     ensures parts { share.new.parts ≡ share.old.parts }
     ensures place { place_of seat.new ≡ place_of seat.old }
+    ensures client { desk.new.client ≡ desk.old.client }
     ensures counted { OnOk result (share.old.amount < share.new.amount) }
     ensures ending { IfErr result (IsEndingOf team.now.checked.now.client) }
 {
-    let Some(kept) = take(team, ticket, share)? else {
+    let Some(held) = take(team, desk, ticket, share)? else {
         return Ok(());
     };
-    let choices = choose(team.alloc, team.checked, team.table, &kept.state)?;
+    let Some(choices) = choices_at(team, desk, held)? else {
+        return Ok(());
+    };
     if choices.is_empty() {
-        return work_end(team, ticket, kept, share);
+        return work_end(team, ticket.number, desk, held, share);
     }
-    work_moves(team, ticket, &kept, choices, seat, share)
+    work_moves(team, ticket.number, desk, held, choices, seat, share)
 }
 
 // The next ticket, for which the worker may have to sleep. `None` where nothing is left to do, or an ending is noted.
-fn next_ticket<U: Ledger, E: Ledger, R: Wait, W: Watch>(
+fn next_ticket<U: Search, E: Ledger, R: Wait, W: Watch>(
     team: &Team<'_, '_, U, E, R, W>,
-    seat: &mut Seat<Number>,
-) -> Option<Number>
-    ensures { place_of seat.new ≡ place_of seat.old }
+    desk: &mut Desk<'_>,
+    seat: &mut Seat<Ticket>,
+) -> Option<Ticket>
+    ensures desk { desk.new ≡ desk.old }
+    ensures place { place_of seat.new ≡ place_of seat.old }
 {
     for _ in team.rt.forever() {
         if team.note.load(Ordering::SeqCst) {
@@ -199,6 +268,7 @@ fn next_ticket<U: Ledger, E: Ledger, R: Wait, W: Watch>(
         if let Some(ticket) = seat.find() {
             return Some(ticket);
         }
+        desk.settle(team.progress);
         if team.progress.is_over() {
             break;
         }
@@ -215,10 +285,34 @@ fn next_ticket<U: Ledger, E: Ledger, R: Wait, W: Watch>(
 }
 
 // Works tickets up to an ending that is not quiet, or until none is left.
-fn work_on<U: Ledger, E: Ledger, R: Wait, W: Watch>(
+fn work_on<U: Search, E: Ledger, R: Wait, W: Watch>(
+    team: &Team<'_, '_, U, E, R, W>,
+    desk: &mut Desk<'_>,
+    seat: &mut Seat<Ticket>,
+    share: &mut Share<E>,
+) -> Result<(), Ending>
+    requires part { 0 < share.old.parts }
+    requires client { desk.old.client ≡ team.now.checked.now.client }
+    ensures place { place_of seat.new ≡ place_of seat.old }
+    ensures parts { share.new.parts ≡ share.old.parts }
+    ensures ending { IfErr result (IsEndingOf team.now.checked.now.client) }
+{
+    for _ in team.rt.forever() {
+        let Some(ticket) = next_ticket(team, desk, seat) else {
+            break;
+        };
+        team.watch.at(team.rt, desk.worker());
+        work_ticket(team, desk, ticket, seat, share)?;
+        desk.leave(team.progress, team.watch);
+    }
+    Ok(())
+}
+
+// The same, from a desk without states on.
+fn work_anew<U: Search, E: Ledger, R: Wait, W: Watch>(
     team: &Team<'_, '_, U, E, R, W>,
     number: u64,
-    seat: &mut Seat<Number>,
+    seat: &mut Seat<Ticket>,
     share: &mut Share<E>,
 ) -> Result<(), Ending>
     requires part { 0 < share.old.parts }
@@ -226,25 +320,18 @@ fn work_on<U: Ledger, E: Ledger, R: Wait, W: Watch>(
     ensures parts { share.new.parts ≡ share.old.parts }
     ensures ending { IfErr result (IsEndingOf team.now.checked.now.client) }
 {
-    for _ in team.rt.forever() {
-        let Some(ticket) = next_ticket(team, seat) else {
-            break;
-        };
-        team.watch.at(team.rt, number);
-        work_ticket(team, ticket, seat, share)?;
-        team.progress.leave(team.watch);
-    }
-    Ok(())
+    let mut desk = Desk::new(team.alloc, team.checked, number)?;
+    work_on(team, &mut desk, seat, share)
 }
 
 /// Works tickets until as many are worked as were handed out, or an ending is noted. It notes an ending of its own, and lets the
 /// others end.
-pub fn work<U: Ledger, E: Ledger, R: Wait, W: Watch>(
+pub fn work<U: Search, E: Ledger, R: Wait, W: Watch>(
     team: &Team<'_, '_, U, E, R, W>,
     number: u64,
-    seat: Seat<Number>,
+    seat: Seat<Ticket>,
     share: Share<E>,
-) -> (Seat<Number>, Share<E>, Ending)
+) -> (Seat<Ticket>, Share<E>, Ending)
     requires part { 0 < share.parts }
     ensures place { place_of result.0 ≡ place_of seat }
     ensures parts { result.1.parts ≡ share.parts }
@@ -252,7 +339,7 @@ pub fn work<U: Ledger, E: Ledger, R: Wait, W: Watch>(
 {
     let mut seat = seat;
     let mut share = share;
-    let ending = match work_on(team, number, &mut seat, &mut share) {
+    let ending = match work_anew(team, number, &mut seat, &mut share) {
         Ok(()) => Ending::Quiet,
         Err(ending) => {
             team.note.store(true, Ordering::SeqCst);

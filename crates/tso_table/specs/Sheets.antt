@@ -77,7 +77,7 @@ pub record IsNewIn (old new : Sheet) (k : Kept) : Type 0 where
   pub states : new.rows.states ≡ old.rows.states ++ k.state ∷ []
   pub actors : new.actors ≡ old.actors ++ k.actors ∷ []
 
--- a state that is not there comes back where it may not be new
-abbrev pub IsFull : Type 0 → List State → Kept → InternError → Type 0
-IsFull Spent states kept (Full k) = (k ≡ kept) × Spent × IsNowhere states kept.state
-IsFull Spent states kept Memory = IsNowhere states kept.state
+-- why a state has no place: it is not there, and may not be new where it is full
+abbrev pub IsFull : Type 0 → List State → State → InternError → Type 0
+IsFull Spent states s Full = Spent × IsNowhere states s
+IsFull Spent states s Memory = IsNowhere states s

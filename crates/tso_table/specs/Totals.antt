@@ -8,7 +8,6 @@ use Rattle.tso_table.specs.declared.errors.FinishError.{FinishError}
 use Rattle.tso_table.specs.declared.errors.FinishError.TheVariants.{NotReady, Memory as Uncounted}
 use Rattle.tso_table.specs.declared.errors.InternError.{InternError}
 use Rattle.tso_table.specs.declared.errors.InternError.TheVariants.{Full, Memory}
-use Rattle.tso_table.specs.declared.kept.Kept.{Kept}
 
 -- how many entries a shard can count
 abbrev pub allotment : ℕ
@@ -38,11 +37,11 @@ abbrev pub all_entries : List Claims → ℕ
 all_entries [] = 0
 all_entries (x ∷ more) = x.entries + all_entries more
 
--- Why a state has no number: it is not there and the budget is empty, and it comes back; else it is not there and a growth was
--- refused, or no entry more can be counted.
-abbrev pub IsRefusal : Sheet → Purse → Kept → InternError → Type 0
-IsRefusal s b kept (Full k) = (k ≡ kept) × IsNowhere s.rows.states kept.state × (b.given ≡ b.limit)
-IsRefusal s b kept Memory = IsNowhere s.rows.states kept.state ⊎ (s.entries ≡ allotment)
+-- Why a state has no number: it is not there and the budget is empty; else it is not there and a growth was refused, or no entry
+-- more can be counted.
+abbrev pub IsRefusal : Sheet → Purse → State → InternError → Type 0
+IsRefusal t b s Full = IsNowhere t.rows.states s × (b.given ≡ b.limit)
+IsRefusal t b s Memory = IsNowhere t.rows.states s ⊎ (t.entries ≡ allotment)
 
 -- why an end is not filed: one thread's call is refused, or no entry more can be counted
 abbrev pub IsUnfiled : Sheet → Call → FinishError → Type 0

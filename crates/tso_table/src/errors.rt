@@ -1,14 +1,13 @@
 //! Refusals.
 
-use crate::kept::Kept;
 use thiserror::Error;
 
 /// Why a state is given no number.
-#[derive(Debug, Drop, Error)]
+#[derive(Clone, Copy, Debug, PartialEq, Eq, Error)]
 pub enum InternError {
-    /// The state is not there, and no unit is left. It is handed back.
+    /// The state is not there, and no unit is left.
     #[error("no state more is allowed")]
-    Full(Kept),
+    Full,
     /// A growth was refused, or there is no number left for an entry of the log.
     #[error("out of memory")]
     Memory,

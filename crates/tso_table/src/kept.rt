@@ -20,8 +20,8 @@ pub struct Kept {
     pub actors: Seq<u8>,
 }
 
-// The number of an actor.
-fn number_of(actor: Actor) -> u8
+/// The number of an actor.
+pub fn number_of(actor: Actor) -> u8
     requires { thread_of actor < 8 }
     ensures { result ≡ number_of actor }
 {
@@ -31,13 +31,14 @@ fn number_of(actor: Actor) -> u8
     }
 }
 
-// These numbers and one more, in one block.
-fn with_number(alloc: Global, numbers: &[u8], number: u8) -> Result<Seq<u8>, AllocError>
-    ensures { IfOk result (λ all. all ≡ numbers.now ++ number ∷ []) }
+// The numbers of these actors, and that of one more behind them, in one block.
+fn led_on(alloc: Global, actors: &[u8], actor: Actor) -> Result<Seq<u8>, AllocError>
+    requires { thread_of actor < 8 }
+    ensures { IfOk result (λ all. all ≡ actors.now ++ number_of actor ∷ []) }
 {
-    let mut all = Vec::with_capacity(alloc, numbers.len().saturating_add(1))?;
-    all.extend_from_slice(numbers)?;
-    all.push(number)?;
+    let mut all = Vec::with_capacity(alloc, actors.len().saturating_add(1))?;
+    all.extend_from_slice(actors)?;
+    all.push(number_of(actor))?;
     Ok(Seq::from_vec(all))
 }
 
@@ -68,7 +69,7 @@ impl Kept {
         ensures memory { result ≡ Err errors.Memory → HasStep checked.now.client self.now.state actor }
     {
         let state = step(alloc, checked, &self.state, actor)?;
-        let actors = with_number(alloc, self.actors.as_slice(), number_of(actor))?;
+        let actors = led_on(alloc, self.actors.as_slice(), actor)?;
         Ok(Kept { state, actors })
     }
 

@@ -1,6 +1,6 @@
 //! The slots and the states of a table, looked at and changed one by one.
 
-ghost use Rattle.std.specs.Prelude.{◌≡◌, ◌↔◌, ◌+◌, ◌<◌, ◌≤◌, ◌++◌, ◌∷◌, [], IsTrue, OnOk, Some, length, slice_get, slice_set};
+ghost use Rattle.std.specs.Prelude.{◌≡◌, ◌↔◌, ◌+◌, ◌<◌, ◌≤◌, ◌++◌, ◌∷◌, [], IsTrue, OnErr, OnOk, Some, length, slice_get, slice_set};
 ghost use Rattle.std.specs.Vec.{vec_capacity, vec_len};
 ghost use Rattle.tso_table.specs.OneThread.{are_there, is_this};
 ghost use Rattle.tso_table.specs.declared.slot.Slot.TheVariants as slots_of;
@@ -8,9 +8,9 @@ ghost use Rattle.tso_table.specs.declared.slot.Slot.TheVariants as slots_of;
 use crate::same::is_viewed;
 use crate::slot::{Near, Slot};
 use std::alloc::AllocError;
-use tso_list::Seq;
+use tso_paths::Paths;
 use tso_state::State;
-use tso_store::Store;
+use tso_store::{Store, View};
 
 /// Whether the slot at a place is `Waiting`.
 pub fn is_waiting(slots: &[Slot], place: u32) -> bool
@@ -40,18 +40,27 @@ pub fn set_slot(slots: &mut Vec<Slot>, place: u32, slot: Slot)
     slots[place as usize] = slot;
 }
 
-/// Makes room for one more of both.
+/// Keeps the actors that lead to one more state, and makes room for its slot.
 ///
-/// Errors: where a growth was refused. They stay.
-pub fn make_room(actors: &mut Vec<Seq<u8>>, slots: &mut Vec<Slot>) -> Result<(), AllocError>
-    ensures actors { actors.new.items ≡ actors.old.items }
+/// Errors: where a growth was refused. Both stay.
+pub fn make_room(actors: &mut Paths, slots: &mut Vec<Slot>, path: &[u8]) -> Result<(), AllocError>
     ensures slots { slots.new.items ≡ slots.old.items }
-    ensures actors_room { OnOk result (vec_len actors.new < vec_capacity actors.new) }
-    ensures slots_room { OnOk result (vec_len slots.new < vec_capacity slots.new) }
+    ensures room { OnOk result (vec_len slots.new < vec_capacity slots.new) }
+    ensures actors { OnOk result (actors.new ≡ actors.old ++ path.now ∷ []) }
+    ensures err { OnErr result (actors.new ≡ actors.old) }
 {
-    actors.reserve(1)?;
     slots.reserve(1)?;
-    Ok(())
+    actors.push(path)
+}
+
+/// Whether a place is that of the state that is seen. It takes no memory, and hashes nothing.
+pub fn is_there(store: &Store<'_>, place: u32, state: &View<'_>) -> bool
+    ensures { result ≡ is_this state.now (slice_get store.now.states place) }
+{
+    match store.view(place) {
+        Some(view) => view.is_same(state),
+        None => false,
+    }
 }
 
 /// Whether a place is that of the state. It takes no memory, and hashes nothing.

@@ -1,9 +1,10 @@
-//! All shards: taken apart, put together, and added up.
+//! All shards: taken apart, and added up.
 
-ghost use Rattle.std.specs.Prelude.{◌≡◌, ◌+◌, ◌*◌, ◌<◌, IfOk, IfSome, length, map};
+ghost use Rattle.std.specs.Prelude.{◌≡◌, ◌+◌, ◌*◌, ◌<◌, IfOk, length, map};
 ghost use Rattle.tso_table.specs.Totals.{all_entries, all_states, allotment, claims};
 
 use crate::budget::{ALLOTMENT, Budget};
+use crate::search::Search;
 use crate::shard::{Rest, Shard};
 use crate::table::Table;
 use std::alloc::{AllocError, Global};
@@ -12,7 +13,7 @@ use std::sync::ledger::{Ledger, Share};
 /// The tables of all shards, which several threads may look at, and the rests.
 ///
 /// Errors: where a growth was refused.
-pub fn open_all<'a, U: Ledger, E: Ledger>(
+pub fn open_all<'a, U: Search, E: Ledger>(
     alloc: Global,
     shards: Vec<Shard<'a, U, E>>,
 ) -> Result<(Vec<Table<'a>>, Vec<Rest<U, E>>), AllocError>
@@ -26,31 +27,6 @@ pub fn open_all<'a, U: Ledger, E: Ledger>(
         rests.push(rest)?;
     }
     Ok((tables, rests))
-}
-
-/// The shards of all tables, in their order. `None` where a rest is another table's.
-///
-/// Errors: where a growth was refused.
-pub fn close_all<'a, U: Ledger, E: Ledger>(
-    alloc: Global,
-    tables: Vec<Table<'a>>,
-    rests: Vec<Rest<U, E>>,
-) -> Result<Option<Vec<Shard<'a, U, E>>>, AllocError>
-    ensures { IfOk result (λ o. IfSome o (λ shards. shards.items ≡ tables.entry.items)) }
-{
-    let mut shards = Vec::new(alloc);
-    let mut rests = rests;
-    rests.reverse();
-    for table in tables {
-        let Some(rest) = rests.pop() else {
-            return Ok(None);
-        };
-        let Some(shard) = Shard::close(table, rest) else {
-            return Ok(None);
-        };
-        shards.push(shard)?;
-    }
-    Ok(Some(shards))
 }
 
 // The same, of any last ones of the shards: their amounts are lent to the shares, and given back.

@@ -1,6 +1,6 @@
 //! A shard: a table, with its shares of what the budget gives and of the entries. It is kept in a lock of its own.
 
-ghost use Rattle.std.specs.Prelude.{◌≡◌, ◌≢◌, ◌↔◌, ◌+◌, ◌<◌, ◌≤◌, [], length, IfErr, IfOk, IsTrue, MatchBool, MatchOption, OnErr, OnOk, false};
+ghost use Rattle.std.specs.Prelude.{◌≡◌, ◌↔◌, ◌+◌, ◌<◌, ◌≤◌, [], length, IfErr, IfOk, IsTrue, MatchBool, MatchOption, OnErr, OnOk, Some, false};
 ghost use Rattle.tso_parts.specs.Numbers.{IsNowhere};
 ghost use Rattle.tso_table.specs.Ends.{AreNear, IsEnd};
 ghost use Rattle.tso_table.specs.Leading.{IsKept, shard_of};
@@ -10,8 +10,8 @@ ghost use Rattle.tso_table.specs.Totals.{IsRefusal, IsUnfiled, allotment, claims
 
 use crate::budget::{ALLOTMENT, Budget};
 use crate::errors::{FinishError, InternError};
-use crate::kept::Kept;
 use crate::number::Number;
+use crate::search::Search;
 use crate::slot::{Filed, Near};
 use crate::table::Table;
 use std::alloc::{AllocError, Global};
@@ -19,19 +19,19 @@ use std::marker::Model;
 use std::sync::ledger::{Ledger, Share};
 use tso_flow::Checked;
 use tso_foot::Table as Footprints;
-use tso_state::State;
+use tso_store::{Key, View};
 
-/// Contracts see a shard as its table. Of the ledger of units it has as many as it has states, and of that of entries what is
-/// left of its allotment.
+/// Contracts see a shard as its table, which is of the client and the table of footprints of its search. Of the ledger of units it
+/// has as many as it has states, and of that of entries what is left of its allotment.
 #[derive(Drop)]
-pub struct Shard<'a, U: Ledger, E: Ledger> {
+pub struct Shard<'a, U: Search, E: Ledger> {
     table: Table<'a>,
     units: Share<U>,
     left: Share<E>,
 }
 
-impl<'a, U: Ledger, E: Ledger> Model for Shard<'a, U, E> {
-    ghost use Rattle.std.specs.Prelude.{◌≡◌, ◌+◌, length};
+impl<'a, U: Search, E: Ledger> Model for Shard<'a, U, E> {
+    ghost use Rattle.std.specs.Prelude.{◌≡◌, ◌+◌, Some, length};
     ghost use Rattle.tso_table.specs.Sheets.{Sheet};
     ghost use Rattle.tso_table.specs.Totals.{allotment};
 
@@ -39,10 +39,10 @@ impl<'a, U: Ledger, E: Ledger> Model for Shard<'a, U, E> {
 
     ghost view = { λ s. s.table };
 
-    ghost invariant = { λ s. (s.units.parts ≡ 1) × (s.units.amount ≡ length s.table.rows.states) × (s.left.parts ≡ 1) × (s.left.amount + s.table.entries ≡ allotment) };
+    ghost invariant = { λ s. (s.units.parts ≡ 1) × (s.units.amount ≡ length s.table.rows.states) × (s.left.parts ≡ 1) × (s.left.amount + s.table.entries ≡ allotment) × (U.client ≡ Some s.table.client) × (U.table ≡ Some s.table.table) };
 }
 
-impl<'a, U: Ledger, E: Ledger> Shard<'a, U, E> {
+impl<'a, U: Search, E: Ledger> Shard<'a, U, E> {
     /// A shard with no state, whose table hashes by this seed.
     pub fn new(
         alloc: Global,
@@ -55,6 +55,8 @@ impl<'a, U: Ledger, E: Ledger> Shard<'a, U, E> {
     ) -> Self
         requires units { (units.parts ≡ 1) × (units.amount ≡ 0) }
         requires left { (left.parts ≡ 1) × (left.amount ≡ allotment) }
+        requires client { U.client ≡ Some checked.now.client }
+        requires table { U.table ≡ Some table.now }
         ensures of { (result.client ≡ checked.now.client) × (result.table ≡ table.now) × (result.number ≡ number) }
         ensures rows { (result.rows ≡ no_rows) × (result.actors ≡ []) × (result.entries ≡ 0) }
     {
@@ -76,12 +78,24 @@ impl<'a, U: Ledger, E: Ledger> Shard<'a, U, E> {
         &self.table
     }
 
-    /// The number of a state that is there, counted as a call. Where it is not there nothing changes.
+    /// A shard is of the client and the table of footprints of its search, so these are its own. This function does nothing when
+    /// it runs.
+    pub fn is_of(&self, checked: &Checked, table: &Footprints)
+        requires client { U.client ≡ Some checked.now.client }
+        requires table { U.table ≡ Some table.now }
+        ensures { (self.now.client ≡ checked.now.client) × (self.now.table ≡ table.now) }
+    {
+        let _number = self.table.number();
+    }
+
+    /// The number of a state that is there, counted as a call. Where it is not there nothing changes. Its parts are looked for
+    /// where `near` says first.
     ///
     /// Errors: where no entry more can be counted. Nothing changes.
     pub fn meet(
         &mut self,
-        state: &State,
+        near: &Key,
+        state: &View<'_>,
         share: &mut Share<E>,
     ) -> Result<Option<Number>, AllocError>
         requires part { 0 < share.old.parts }
@@ -96,7 +110,7 @@ impl<'a, U: Ledger, E: Ledger> Shard<'a, U, E> {
             return Err(AllocError);
         }
         let shard = self.table.number();
-        match self.table.meet(state) {
+        match self.table.meet(near, state) {
             Some(place) => {
                 self.left.transfer(share, 1);
                 Ok(Some(Number { shard, place }))
@@ -105,30 +119,33 @@ impl<'a, U: Ledger, E: Ledger> Shard<'a, U, E> {
         }
     }
 
-    /// Gives a state its number. True where it is new: then it takes a unit, and waits.
+    /// Gives a state its number, with the actors that lead to it. True where it is new: then it takes a unit, and waits. What is
+    /// new of it is copied, and its parts are looked for where `near` says first.
     ///
     /// Errors: `Full` exactly where the state is not there and the budget is empty; `Memory` where it is not there and a growth
     /// was refused, or no entry more can be counted. Nothing changes.
     pub fn intern(
         &mut self,
         budget: &mut Budget<U, E>,
-        kept: Kept,
+        near: &Key,
+        state: &View<'_>,
+        actors: &[u8],
         share: &mut Share<E>,
     ) -> Result<(Number, bool), InternError>
-        requires leads { IsKept self.old.client kept }
-        requires here { shard_of kept.state ≡ self.old.number }
+        requires leads { IsKept self.old.client (record { state = state.now; actors = actors.now }) }
+        requires here { shard_of state.now ≡ self.old.number }
         requires part { 0 < share.old.parts }
-        ensures made { IfOk result (λ r. Makes self.old.rows (Call.intern kept.state) self.new.rows (Reply.placed r.0.place r.1)) }
+        ensures made { IfOk result (λ r. Makes self.old.rows (Call.intern state.now) self.new.rows (Reply.placed r.0.place r.1)) }
         ensures number { IfOk result (λ r. r.0.shard ≡ self.old.number) }
         ensures new { IfOk result (λ r. MatchBool r.1
-            (IsNewIn self.old self.new kept × (budget.old.given < budget.old.limit) × (budget.new.given ≡ budget.old.given + 1))
+            (IsNewIn self.old self.new (record { state = state.now; actors = actors.now }) × (budget.old.given < budget.old.limit) × (budget.new.given ≡ budget.old.given + 1))
             (IsSameButCounted self.old self.new × (budget.new.given ≡ budget.old.given))) }
         ensures counts { OnOk result ((self.new.entries ≡ self.old.entries + 1) × (share.new.amount ≡ share.old.amount + 1)) }
         ensures of { IsForSame self.old self.new }
         ensures limit { budget.new.limit ≡ budget.old.limit }
         ensures parts { share.new.parts ≡ share.old.parts }
         ensures err { OnErr result ((self.new ≡ self.old) × (budget.new ≡ budget.old) × (share.new.amount ≡ share.old.amount)) }
-        ensures refused { IfErr result (IsRefusal self.old budget.old kept) }
+        ensures refused { IfErr result (IsRefusal self.old budget.old state.now) }
     {
         if self.table.log_len() == ALLOTMENT {
             return Err(InternError::Memory);
@@ -136,7 +153,7 @@ impl<'a, U: Ledger, E: Ledger> Shard<'a, U, E> {
         budget.bound(&mut self.units);
         let room = budget.has_unit();
         let shard = self.table.number();
-        match self.table.intern(kept, room) {
+        match self.table.intern(near, state, actors, room) {
             Ok((place, new)) => {
                 if new {
                     budget.give(&mut self.units);
@@ -175,7 +192,7 @@ impl<'a, U: Ledger, E: Ledger> Shard<'a, U, E> {
     pub fn finish(
         &mut self,
         place: u32,
-        state: &State,
+        state: &View<'_>,
         filed: Filed,
         near: &[Near],
         share: &mut Share<E>,
@@ -215,23 +232,6 @@ impl<'a, U: Ledger, E: Ledger> Shard<'a, U, E> {
         };
         (table, rest)
     }
-
-    /// The shard of a table and a rest. `None` exactly where the rest is another table's.
-    pub fn close(table: Table<'a>, rest: Rest<U, E>) -> Option<Self>
-        ensures { MatchOption result (rest ≢ claims table.entry) (λ shard. (shard ≡ table.entry) × (rest ≡ claims table.entry)) }
-    {
-        if !rest.is_of(&table) {
-            return None;
-        }
-        let Rest {
-            number: _,
-            states: _,
-            entries: _,
-            units,
-            left,
-        } = rest;
-        Some(Shard { table, units, left })
-    }
 }
 
 /// What a shard has beside its table.
@@ -253,15 +253,4 @@ impl<U: Ledger, E: Ledger> Model for Rest<U, E> {
     ghost view = { λ r. record { number = r.number; states = r.states; entries = r.entries } };
 
     ghost invariant = { λ r. (r.units.parts ≡ 1) × (r.units.amount ≡ r.states) × (r.left.parts ≡ 1) × (r.left.amount + r.entries ≡ allotment) };
-}
-
-impl<U: Ledger, E: Ledger> Rest<U, E> {
-    // Whether it is this table's.
-    fn is_of(&self, table: &Table<'_>) -> bool
-        ensures { IsTrue result ↔ (self.now ≡ claims table.now) }
-    {
-        self.number == table.number()
-            && self.states == table.len()
-            && self.entries == table.log_len()
-    }
 }

@@ -1,15 +1,18 @@
 //! What is kept with each state of a table.
 
 use crate::number::Number;
-use tso_list::Seq;
 use tso_rec::End;
+use tso_short::Short;
 use tso_state::State;
+
+/// The numbers of the states after chosen steps, in the order of the choices. Up to two lie in the value itself.
+pub type Numbers = Short<Number, 2>;
 
 /// The end of a state's record, with the number of the state after each chosen step, in the order of the choices.
 #[derive(Debug, Drop)]
 pub struct Filed {
     pub end: End,
-    pub numbers: Seq<Number>,
+    pub numbers: Numbers,
 }
 
 /// How far a state is worked.

@@ -11,7 +11,7 @@ ghost use Rattle.tso_table.specs.declared.errors.InternError.TheVariants as refu
 
 use crate::errors::InternError;
 use crate::kept::Kept;
-use crate::rows::{are_there, is_at, is_claimed, is_waiting, make_room, set_slot};
+use crate::rows::{are_there, is_claimed, is_there, is_waiting, make_room, set_slot};
 use crate::same::{are_same_footprints, is_same_client};
 use crate::slot::{Filed, Near, Slot};
 use std::alloc::{AllocError, Global};
@@ -19,8 +19,9 @@ use std::marker::Model;
 use tso_flow::Checked;
 use tso_foot::Table as Footprints;
 use tso_list::Seq;
+use tso_paths::Paths;
 use tso_state::State;
-use tso_store::{AddError, Store};
+use tso_store::{AddError, Key, Store, View};
 
 /// States by their places, in the order in which they came, with the actors that lead to each and how far it is worked.
 /// Contracts see also how many calls were answered.
@@ -30,7 +31,7 @@ pub struct Table<'a> {
     table: &'a Footprints,
     number: u8,
     store: Store<'a>,
-    actors: Vec<Seq<u8>>,
+    actors: Paths,
     slots: Vec<Slot>,
     entries: u64,
     unfinished: usize,
@@ -42,9 +43,9 @@ impl<'a> Model for Table<'a> {
 
     ghost Value = { Sheet };
 
-    ghost view = { λ t. record { client = t.checked.now.client; table = t.table.now; number = t.number; rows = record { states = t.store.states; slots = t.slots.items }; actors = t.actors.items; entries = t.entries } };
+    ghost view = { λ t. record { client = t.checked.now.client; table = t.table.now; number = t.number; rows = record { states = t.store.states; slots = t.slots.items }; actors = t.actors; entries = t.entries } };
 
-    ghost invariant = { λ t. (t.store.client ≡ t.checked.now.client) × IsSound t.checked.now.client t.table.now t.number (record { states = t.store.states; slots = t.slots.items }) t.actors.items t.unfinished t.entries };
+    ghost invariant = { λ t. (t.store.client ≡ t.checked.now.client) × IsSound t.checked.now.client t.table.now t.number (record { states = t.store.states; slots = t.slots.items }) t.actors t.unfinished t.entries };
 }
 
 impl<'a> Table<'a> {
@@ -64,7 +65,7 @@ impl<'a> Table<'a> {
             table,
             number,
             store: Store::new(alloc, checked, seed),
-            actors: Vec::new(alloc),
+            actors: Paths::new(alloc),
             slots: Vec::new(alloc),
             entries: 0,
             unfinished: 0,
@@ -141,73 +142,108 @@ impl<'a> Table<'a> {
         let Some(state) = self.store.state(alloc, place)? else {
             return Ok(None);
         };
-        let actors = self.actors[place as usize].copied()?;
+        let Some(path) = self.actors.get(place as usize) else {
+            return Ok(None);
+        };
+        let actors = Seq::from_slice(alloc, path)?;
         Ok(Some(Kept { state, actors }))
     }
 
-    /// The place of a state that is there, counted as a call. Where it is not there nothing changes.
-    pub fn meet(&mut self, state: &State) -> Option<u32>
+    /// The state at a place, seen where it is kept, with the actors that lead to it. It takes no memory.
+    pub fn lent(&self, place: u32) -> Option<(View<'_>, &[u8])>
+        ensures lent { MatchOption result (length self.now.rows.states ≤ place) (λ l. IsKeptIn self.now.rows.states self.now.actors place (record { state = l.0; actors = l.1.now })) }
+        ensures leads { IfSome result (λ l. IsKept self.now.client (record { state = l.0; actors = l.1.now })) }
+    {
+        match self.store.view(place) {
+            Some(view) => match self.actors.get(place as usize) {
+                Some(actors) => Some((view, actors)),
+                None => None,
+            },
+            None => None,
+        }
+    }
+
+    /// The states by their places, in the store in which they are kept.
+    pub fn states(&self) -> &Store<'a>
+        ensures { (result.now.client ≡ self.now.client) × (result.now.states ≡ self.now.rows.states) }
+    {
+        &self.store
+    }
+
+    /// The place of a state that is there, counted as a call. Where it is not there nothing changes. Its parts are looked for
+    /// where `near` says first.
+    pub fn meet(&mut self, near: &Key, state: &View<'_>) -> Option<u32>
         requires more { self.old.entries + 1 < 2 ^ 64 }
         ensures met { MatchOption result
             (IsNowhere self.old.rows.states state.now × (self.new ≡ self.old))
             (λ n. Makes self.old.rows (Call.intern state.now) self.new.rows (Reply.placed n false) × IsSameButCounted self.old self.new × (self.new.entries ≡ self.old.entries + 1)) }
         ensures of { IsForSame self.old self.new }
     {
-        let place = self.store.find(state)?;
+        let place = self.store.find_view(near, state)?;
         self.store.states_differ();
         self.entries += 1;
         Some(place)
     }
 
-    /// Gives a state its place. True where it is new, which it may be only where `room` says so; it waits then.
+    /// Gives a state its place, with the actors that lead to it. True where it is new, which it may be only where `room` says so;
+    /// it waits then. What is new of it is copied, and its parts are looked for where `near` says first.
     ///
     /// Errors: `Full` where the state is not there and may not be new; `Memory` where it is not there, may be new, and a growth
     /// was refused. The table stays, and a state that is there is never refused.
-    pub fn intern(&mut self, kept: Kept, room: bool) -> Result<(u32, bool), InternError>
-        requires leads { IsKept self.old.client kept }
-        requires here { shard_of kept.state ≡ self.old.number }
+    pub fn intern(
+        &mut self,
+        near: &Key,
+        state: &View<'_>,
+        actors: &[u8],
+        room: bool,
+    ) -> Result<(u32, bool), InternError>
+        requires leads { IsKept self.old.client (record { state = state.now; actors = actors.now }) }
+        requires here { shard_of state.now ≡ self.old.number }
         requires more { self.old.entries + 1 < 2 ^ 64 }
         requires small { room ≡ true → length self.old.rows.states + 1 < 2 ^ 32 }
-        ensures made { IfOk result (λ r. Makes self.old.rows (Call.intern kept.state) self.new.rows (Reply.placed r.0 r.1)) }
-        ensures new { IfOk result (λ r. MatchBool r.1 (IsNewIn self.old self.new kept × (room ≡ true)) (IsSameButCounted self.old self.new)) }
+        ensures made { IfOk result (λ r. Makes self.old.rows (Call.intern state.now) self.new.rows (Reply.placed r.0 r.1)) }
+        ensures new { IfOk result (λ r. MatchBool r.1 (IsNewIn self.old self.new (record { state = state.now; actors = actors.now }) × (room ≡ true)) (IsSameButCounted self.old self.new)) }
         ensures of { IsForSame self.old self.new }
         ensures entries { OnOk result (self.new.entries ≡ self.old.entries + 1) }
         ensures err { OnErr result (self.new ≡ self.old) }
-        ensures full { IfErr result (IsFull (room ≡ false) self.old.rows.states kept) }
+        ensures full { IfErr result (IsFull (room ≡ false) self.old.rows.states state.now) }
     {
         if room {
-            return self.take_in(kept);
+            return self.take_in(near, state, actors);
         }
-        match self.meet(&kept.state) {
+        match self.meet(near, state) {
             Some(place) => Ok((place, false)),
-            None => Err(InternError::Full(kept)),
+            None => Err(InternError::Full),
         }
     }
 
     // Gives a state its place, also where it is new.
-    fn take_in(&mut self, kept: Kept) -> Result<(u32, bool), InternError>
-        requires leads { IsKept self.old.client kept }
-        requires here { shard_of kept.state ≡ self.old.number }
+    fn take_in(
+        &mut self,
+        near: &Key,
+        state: &View<'_>,
+        actors: &[u8],
+    ) -> Result<(u32, bool), InternError>
+        requires leads { IsKept self.old.client (record { state = state.now; actors = actors.now }) }
+        requires here { shard_of state.now ≡ self.old.number }
         requires more { self.old.entries + 1 < 2 ^ 64 }
         requires small { length self.old.rows.states + 1 < 2 ^ 32 }
-        ensures made { IfOk result (λ r. Makes self.old.rows (Call.intern kept.state) self.new.rows (Reply.placed r.0 r.1)) }
-        ensures new { IfOk result (λ r. MatchBool r.1 (IsNewIn self.old self.new kept) (IsSameButCounted self.old self.new)) }
+        ensures made { IfOk result (λ r. Makes self.old.rows (Call.intern state.now) self.new.rows (Reply.placed r.0 r.1)) }
+        ensures new { IfOk result (λ r. MatchBool r.1 (IsNewIn self.old self.new (record { state = state.now; actors = actors.now })) (IsSameButCounted self.old self.new)) }
         ensures of { IsForSame self.old self.new }
         ensures entries { OnOk result (self.new.entries ≡ self.old.entries + 1) }
         ensures err { OnErr result (self.new ≡ self.old) }
-        ensures memory { IfErr result (λ e. (e ≡ refusals.Memory) × IsNowhere self.old.rows.states kept.state) }
+        ensures memory { IfErr result (λ e. (e ≡ refusals.Memory) × IsNowhere self.old.rows.states state.now) }
     {
-        if make_room(&mut self.actors, &mut self.slots).is_err() {
-            return match self.meet(&kept.state) {
+        let Ok(()) = make_room(&mut self.actors, &mut self.slots, actors) else {
+            return match self.meet(near, state) {
                 Some(place) => Ok((place, false)),
                 None => Err(InternError::Memory),
             };
-        }
-        match self.store.add(&kept.state) {
+        };
+        match self.store.add_view(near, state) {
             Ok((place, true)) => {
                 self.store.states_differ();
-                let Kept { state: _, actors } = kept;
-                self.actors.push_reserved(actors);
                 self.slots.push_reserved(Slot::Waiting);
                 self.unfinished += 1;
                 self.entries += 1;
@@ -215,11 +251,15 @@ impl<'a> Table<'a> {
             }
             Ok((place, false)) => {
                 self.store.states_differ();
+                self.actors.pop();
                 self.entries += 1;
                 Ok((place, false))
             }
             Err(AddError::Misfit) => unreachable!(),
-            Err(_) => Err(InternError::Memory),
+            Err(_) => {
+                self.actors.pop();
+                Err(InternError::Memory)
+            }
         }
     }
 
@@ -242,7 +282,7 @@ impl<'a> Table<'a> {
 
     /// Files an end under the place of its state, given those of its successors that belong to this shard. False, and no change,
     /// where the state is not the one at the place, or is not claimed, or one of these successors is not at its place.
-    pub fn finish(&mut self, place: u32, state: &State, filed: Filed, near: &[Near]) -> bool
+    pub fn finish(&mut self, place: u32, state: &View<'_>, filed: Filed, near: &[Near]) -> bool
         requires end { IsEnd self.old.client self.old.table state.now filed }
         requires near { AreNear self.old.client self.old.number state.now filed near.now }
         requires more { self.old.entries + 1 < 2 ^ 64 }
@@ -255,7 +295,7 @@ impl<'a> Table<'a> {
         if !is_claimed(self.slots.as_slice(), place) {
             return false;
         }
-        if !is_at(&self.store, place, state) {
+        if !is_there(&self.store, place, state) {
             return false;
         }
         if !are_there(&self.store, near) {

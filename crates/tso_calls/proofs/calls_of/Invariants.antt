@@ -1,4 +1,11 @@
+use Rattle.std.proofs.Common.{Some}
 use Rattle.tso_calls.proofs.calls_of.Given as goal
+
+abbrev pub ghosts-call_all-U-Search : goal.ghosts-call_all-U-Search
+ghosts-call_all-U-Search a = record {
+  client = Some a.checked.now.client;
+  table = Some a.table.now;
+}
 
 abbrev pub ghosts-call_all-U-Ledger : goal.ghosts-call_all-U-Ledger
 ghosts-call_all-U-Ledger a = record { name = a.units.name; parts = a.units.parts }

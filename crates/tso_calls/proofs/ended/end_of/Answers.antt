@@ -10,6 +10,6 @@ returns-clause-end c =
     let client = c.args.checked.now.client in
     let same : c.as_slice.result.now ≡ c.in_ok-choices.choices = c.as_slice.ensures in
     let some : 0 < length c.in_ok-choices.choices = grind (arith, nat_tests) in
-    chosen_end client c.args.table.now c.args.own c.args.kept.now c.in_ok-choices.choices c.in_ok-moves.moves c.requires c.in_ok-choices.ensures some
+    chosen_end client c.args.table.now c.args.own c.args.kept.now.state c.in_ok-choices.choices c.in_ok-moves.moves c.requires.plausible.well_formed c.in_ok-choices.ensures some
     (subst (λ (xs : List Choice). AreNumbered client c.args.own c.args.kept.now.state xs c.in_ok-moves.moves) same c.in_ok-moves.ensures.numbered)
     (c.in_ok-moves.ensures.all ∙ ap (λ (xs : List Choice). length xs) same)

@@ -1,15 +1,12 @@
-use Rattle.std.proofs.Common.{below_more, arith}
-use Rattle.std.proofs.lemmas.Option.{slice_get_within}
+use Rattle.std.proofs.Common.{arith}
+use Rattle.tso_explore.proofs.SearchLemmas.{ok_as}
+use Rattle.tso_explore.proofs.TaskLemmas.{all_worked}
 use Rattle.tso_explore.proofs.closing.are_worked.Goals as goal
 
-pub states-preserved : goal.states-preserved
-states-preserved c = record {
-  low = omega (arith, c.states-test.true, c.len.ensures);
-  worked = below_more _ _ c.states.invariant.worked (c.in_ok-is_worked.ensures c.if-not-branch.false);
-}
+pub run_by-requires-clause-ready : goal.run_by-requires-clause-ready
+run_by-requires-clause-ready g c = λ k within. record { client = c.requires.client; begun = c.requires.begun; ordered = omega arith; there = omega (arith, c.len.ensures) }
 
 pub returns : goal.returns
-returns c = λ _. record {
-  begun = c.requires.begun;
-  worked = λ n s at. let lt = slice_get_within c.args.store.now.states n s at in c.states.invariant.worked n (omega (arith, lt, c.states-test.false, c.len.ensures)) s at;
-}
+returns g c =
+    ok_as c.run_by.result c.run_by.ensures
+    (λ worked all is. all_worked c.args.checked.now.client c.args.table.now c.args.store.now.states c.len.result c.requires.begun c.len.ensures (all is))

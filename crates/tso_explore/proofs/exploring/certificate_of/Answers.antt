@@ -4,11 +4,11 @@ use Rattle.tso_explore.proofs.CuttingLemmas.{all_numbers, certificate_is_valid, 
 use Rattle.tso_explore.specs.Cutting.{AreNumbers, AreRising, IsCut}
 use Rattle.tso_explore.proofs.exploring.certificate_of.Goals as goal
 
-pub tree_of-requires-clause-numbers : goal.tree_of-requires-clause-numbers
-tree_of-requires-clause-numbers c = subst (AreNumbers c.args.store.now.states) (sym c.as_slice.ensures.value) (all_numbers c.args.store.now.states c.in_ok-numbers.numbers.items c.in_ok-numbers.ensures)
+pub cut-requires-clause-numbers : goal.cut-requires-clause-numbers
+cut-requires-clause-numbers c = subst (AreNumbers c.args.store.now.states) (sym c.as_slice.ensures.value) (all_numbers c.args.store.now.states c.in_ok-numbers.numbers.items c.in_ok-numbers.ensures)
 
-pub tree_of-requires-clause-rising : goal.tree_of-requires-clause-rising
-tree_of-requires-clause-rising c = subst (AreRising c.args.store.now.states) (sym c.as_slice.ensures.value) (strictly_rising c.args.store.now.states c.in_ok-numbers.numbers.items c.in_ok-numbers.ensures c.states_differ.ensures)
+pub cut-requires-clause-rising : goal.cut-requires-clause-rising
+cut-requires-clause-rising c = subst (AreRising c.args.store.now.states) (sym c.as_slice.ensures.value) (strictly_rising c.args.store.now.states c.in_ok-numbers.numbers.items c.in_ok-numbers.ensures c.states_differ.ensures)
 
 pub returns : goal.returns
 returns c =

@@ -3,8 +3,8 @@ use Rattle.tso_state.specs.Actors.{number_of}
 use Rattle.tso_table.proofs.KeptLemmas.{has_histories, next_is_kept, small_thread}
 use Rattle.tso_table.proofs.kept.Kept.next.Goals as goal
 
-pub number_of-requires : goal.number_of-requires
-number_of-requires c = small_thread c.args.checked.now.client c.args.self.now c.in_ok-state.state c.args.actor c.requires c.in_ok-state.ensures.ok
+pub led_on-requires : goal.led_on-requires
+led_on-requires c = small_thread c.args.checked.now.client c.args.self.now c.in_ok-state.state c.args.actor c.requires c.in_ok-state.ensures.ok
 
 pub returns-clause-kept : goal.returns-clause-kept
 returns-clause-kept c =

@@ -14,7 +14,7 @@ invariant_of-self c =
     let r : Rows = record { states = i.store.states; slots = i.slots.items } in
     let waits_not = is_not_so c.is_waiting.result c.is_waiting.ensures c.if-not-is_waiting.true in (
       c.self.invariant.0,
-      sound_same i.checked.now.client i.table.now i.number r i.actors.items i.unfinished i.entries (claim c.args.place) (taken false) c.self.invariant.1
+      sound_same i.checked.now.client i.table.now i.number r i.actors i.unfinished i.entries (claim c.args.place) (taken false) c.self.invariant.1
           (makes_claim_no r c.args.place (λ e. waits_not (ap (λ (xs : List Slot). slice_get xs c.args.place) c.as_slice.ensures.value ∙ e))),
     )
 
@@ -29,6 +29,6 @@ invariant_of-self-2 c =
     let r : Rows = record { states = i.store.states; slots = i.slots.items } in
     let waits = is_so c.is_waiting.result c.is_waiting.ensures c.if-not-is_waiting.false in (
       c.self.invariant.0,
-      rw c.set_slot.ensures (sound_claim i.checked.now.client i.table.now i.number r i.actors.items i.unfinished i.entries c.args.place c.self.invariant.1
+      rw c.set_slot.ensures (sound_claim i.checked.now.client i.table.now i.number r i.actors i.unfinished i.entries c.args.place c.self.invariant.1
           (ap (λ (xs : List Slot). slice_get xs c.args.place) (sym c.as_slice.ensures.value) ∙ waits)),
     )

@@ -11,7 +11,7 @@ overflow_sub-self c =
     let i = c.self.inside in
     let r : Rows = record { states = i.store.states; slots = i.slots.items } in
     let claimed = is_so c.is_claimed.result c.is_claimed.ensures c.if-not-is_claimed.false in
-    some_open i.checked.now.client i.table.now i.number r i.actors.items i.unfinished i.entries c.args.place c.self.invariant.1
+    some_open i.checked.now.client i.table.now i.number r i.actors i.unfinished i.entries c.args.place c.self.invariant.1
     (ap (λ (xs : List Slot). slice_get xs c.args.place) (sym c.as_slice.ensures.value) ∙ claimed)
 
 pub invariant_of-self : goal.invariant_of-self
@@ -20,12 +20,12 @@ invariant_of-self c =
     let r : Rows = record { states = i.store.states; slots = i.slots.items } in
     let claimed = is_so c.is_claimed.result c.is_claimed.ensures c.if-not-is_claimed.false in
     let at = ap (λ (xs : List Slot). slice_get xs c.args.place) (sym c.as_slice.ensures.value) ∙ claimed in
-    let this : is_this c.args.state.now (slice_get i.store.states c.args.place) ≡ true = sym c.is_at.ensures ∙ c.if-not-is_at.false in
+    let this : is_this c.args.state.now (slice_get i.store.states c.args.place) ≡ true = sym c.is_there.ensures ∙ c.if-not-is_there.false in
     let there : are_there i.store.states c.args.near.now ≡ true = sym c.are_there.ensures ∙ c.if-not-are_there.false in
     let end : IsEnd i.checked.now.client i.table.now c.args.state.now c.args.filed = rw (← c.self.view_is) at c.requires.end in
     let near : AreNear i.checked.now.client i.number c.args.state.now c.args.filed c.args.near.now = rw (← c.self.view_is) at c.requires.near in
-    let some : 1 ≤ i.unfinished = some_open i.checked.now.client i.table.now i.number r i.actors.items i.unfinished i.entries c.args.place c.self.invariant.1 at in (
+    let some : 1 ≤ i.unfinished = some_open i.checked.now.client i.table.now i.number r i.actors i.unfinished i.entries c.args.place c.self.invariant.1 at in (
       c.self.invariant.0,
-      rw c.set_slot.ensures (sound_finish i.checked.now.client i.table.now i.number r i.actors.items i.unfinished (i.unfinished - 1) i.entries c.args.place c.args.state.now c.args.filed c.args.near.now c.self.invariant.1
+      rw c.set_slot.ensures (sound_finish i.checked.now.client i.table.now i.number r i.actors i.unfinished (i.unfinished - 1) i.entries c.args.place c.args.state.now c.args.filed c.args.near.now c.self.invariant.1
           at this there end near (omega (arith, some))),
     )

@@ -10,7 +10,7 @@ invariant_of-self c =
     let r : Rows = record { states = i.store.states; slots = i.slots.items } in
     let at : slice_get i.store.states c.in_ok-place.place ≡ Some c.args.state.now = search rules in (
       c.self.invariant.0,
-      sound_same i.checked.now.client i.table.now i.number r i.actors.items i.unfinished i.entries (intern c.args.state.now) (placed c.in_ok-place.place false) c.self.invariant.1
+      sound_same i.checked.now.client i.table.now i.number r i.actors i.unfinished i.entries (intern c.args.state.now) (placed c.in_ok-place.place false) c.self.invariant.1
           (makes_old r c.args.state.now c.in_ok-place.place c.states_differ.ensures at),
     )
 

@@ -1,0 +1,77 @@
+-- What several threads do by halves, put together.
+use Rattle.std.proofs.Common.{◌≡◌, ◌∙◌, ℕ, ◌+◌, ◌/◌, ◌<◌, ◌≤◌, inl, inr, List, length, take, drop, get_or, Some, slice_get, refl, sym, ap, subst, arith}
+use Rattle.std.proofs.lemmas.Bool.{cases_lt}
+use Rattle.std.proofs.lemmas.Option.{slice_get_within}
+use Rattle.tso_cert.specs.Trees.{Tree, fork}
+use Rattle.tso_explore.proofs.CuttingLemmas.{first_high, forked, numbers_high, numbers_low, rising_high, rising_low}
+use Rattle.tso_explore.specs.Searched.{AreSearched, AreWorkedBetween, HasBegun, IsWorkedAt}
+use Rattle.tso_explore.specs.Tasks.{AreHalvesAsked, AreHalvesCut, AreWorkedIn, CanBeAsked, CanBeCut, IsCutOf, Numbered, Range, asked, uncut}
+use Rattle.tso_foot.specs.declared.table.Table.{Table}
+use Rattle.tso_prog.specs.declared.client.Client.{Client}
+use Rattle.tso_state.specs.declared.state.State.{State}
+
+-- ---- trees of records
+
+-- the numbers of the right half
+back : (whole left right : Numbered) → AreHalvesCut whole left right → right.numbers ≡ drop (length whole.numbers / 2) whole.numbers
+back whole left right halves = ap (λ (u : Numbered). u.numbers) halves.right_is
+
+-- the first of them is that of a state
+pub first_right : (whole left right : Numbered) → CanBeCut whole → AreHalvesCut whole left right → get_or right.numbers 0 0 < length whole.states
+first_right whole left right ready halves = first_high whole.states whole.numbers right.numbers (length whole.numbers / 2) (back whole left right halves) halves.many refl ready.numbers
+
+pub fork_of_halves : (whole left right : Numbered) (one two : Tree) (s : State) → CanBeCut whole → AreHalvesCut whole left right → IsCutOf left one → IsCutOf right two
+    → slice_get whole.states (get_or right.numbers 0 0) ≡ Some s → IsCutOf whole (fork one s two)
+fork_of_halves whole left right one two s ready halves first second at =
+    let h = length whole.numbers / 2 in
+    let low = take h whole.numbers in
+    let high = drop h whole.numbers in
+    let P : Numbered → Type 0 = λ u. IsCutOf u one in
+    let Q : Numbered → Type 0 = λ u. IsCutOf u two in
+    let here : slice_get whole.states (get_or high 0 0) ≡ Some s = ap (λ (ns : List ℕ). slice_get whole.states (get_or ns 0 0)) (sym (back whole left right halves)) ∙ at in
+    forked whole.client whole.table whole.states whole.numbers low high h s one two refl refl halves.many refl ready.rising (subst P halves.left_is first) (subst Q halves.right_is second) here
+
+-- numbers cut in two
+pub cut_in_two : (c : Client) (t : Table) (states : List State) (ns low high : List ℕ) → 64 < length ns → low ≡ take (length ns / 2) ns → high ≡ drop (length ns / 2) ns → CanBeCut (uncut c t states ns)
+    → AreHalvesCut (uncut c t states ns) (uncut c t states low) (uncut c t states high) × CanBeCut (uncut c t states low) × CanBeCut (uncut c t states high)
+cut_in_two c t states ns low high many front rest ready = (
+  record { many = many; left_is = ap (uncut c t states) front; right_is = ap (uncut c t states) rest },
+  record { searched = ready.searched; numbers = numbers_low states ns low (length ns / 2) front ready.numbers; rising = rising_low states ns low (length ns / 2) front ready.rising },
+  record { searched = ready.searched; numbers = numbers_high states ns high (length ns / 2) rest ready.numbers; rising = rising_high states ns high (length ns / 2) rest ready.rising },
+)
+
+-- ---- whether states are worked
+
+pub both_worked : (whole left right : Range) → AreHalvesAsked whole left right → AreWorkedIn left → AreWorkedIn right → AreWorkedIn whole
+both_worked whole left right halves first second =
+    let P : Range → Type 0 = AreWorkedIn in
+    let low = subst P halves.left_is first in
+    let high = subst P halves.right_is second in
+    λ n from to. elim (cases_lt n halves.middle) [
+      | inl less ↦ low n from less
+      | inr ge ↦ high n ge to
+    ]
+
+-- a range cut in two
+pub asked_in_two : (kept c : Client) (t : Table) (states : List State) (from middle to : ℕ) → from ≤ middle → middle ≤ to → CanBeAsked kept (asked c t states from to)
+    → AreHalvesAsked (asked c t states from to) (asked c t states from middle) (asked c t states middle to) × CanBeAsked kept (asked c t states from middle) × CanBeAsked kept (asked c t states middle to)
+asked_in_two kept c t states from middle to low high ready =
+    let there = ready.there in (
+      record { middle = middle; left_is = refl; right_is = refl },
+      record { client = ready.client; begun = ready.begun; ordered = low; there = omega (arith, high, there) },
+      record { client = ready.client; begun = ready.begun; ordered = high; there = there },
+    )
+
+-- and one more
+pub one_more_worked : (c : Client) (t : Table) (states : List State) (from to : ℕ) → AreWorkedBetween c t states from to → IsWorkedAt c t states to → AreWorkedBetween c t states from (to + 1)
+one_more_worked c t states from to all one n low high s at = elim (cases_lt n to) [
+  | inl less ↦ all n low less s at
+  | inr ge ↦ let same : n ≡ to = omega (arith, ge, high) in one s (ap (slice_get states) (sym same) ∙ at)
+]
+
+-- all of them
+pub all_worked : (c : Client) (t : Table) (states : List State) (count : ℕ) → HasBegun c states → count ≡ length states → AreWorkedBetween c t states 0 count → AreSearched c t states
+all_worked c t states count begun is worked = record {
+  begun = begun;
+  worked = λ n s at. let lt = slice_get_within states n s at in worked n (omega arith) (omega (arith, lt, is)) s at;
+}

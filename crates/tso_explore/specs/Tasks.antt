@@ -1,0 +1,64 @@
+-- What several threads do by halves, once a search is over. Nothing here need be believed: it serves the code.
+use Rattle.std.specs.Prelude.{◌≡◌, ◌/◌, ◌<◌, ◌≤◌, ℕ, List, drop, length, take}
+use Rattle.tso_cert.specs.Trees.{Tree}
+use Rattle.tso_explore.specs.Cutting.{AreNumbers, AreRising, IsCut}
+use Rattle.tso_explore.specs.Searched.{AreSearched, AreWorkedBetween, HasBegun}
+use Rattle.tso_foot.specs.declared.table.Table.{Table}
+use Rattle.tso_prog.specs.declared.client.Client.{Client}
+use Rattle.tso_state.specs.declared.state.State.{State}
+
+-- ---- trees of records
+
+-- states of a search whose records are to be cut, by their numbers
+pub record Numbered : Type 0 where
+  pub client : Client
+  pub table : Table
+  pub states : List State
+  pub numbers : List ℕ
+
+abbrev pub uncut : Client → Table → List State → List ℕ → Numbered
+uncut c t states ns = record { client = c; table = t; states = states; numbers = ns }
+
+-- all states are worked, and those with these numbers rise
+pub record CanBeCut (u : Numbered) : Type 0 where
+  pub searched : AreSearched u.client u.table u.states
+  pub numbers : AreNumbers u.states u.numbers
+  pub rising : AreRising u.states u.numbers
+
+abbrev pub IsCutOf : Numbered → Tree → Type 0
+IsCutOf u tree = IsCut u.client u.table u.states u.numbers tree
+
+-- more than a leaf: one has the first half of the numbers, rounded down, the other the rest
+pub record AreHalvesCut (whole left right : Numbered) : Type 0 where
+  pub many : 64 < length whole.numbers
+  pub left_is : left ≡ uncut whole.client whole.table whole.states (take (length whole.numbers / 2) whole.numbers)
+  pub right_is : right ≡ uncut whole.client whole.table whole.states (drop (length whole.numbers / 2) whole.numbers)
+
+-- ---- whether states are worked
+
+-- states of which is asked, with numbers from one up to another
+pub record Range : Type 0 where
+  pub client : Client
+  pub table : Table
+  pub states : List State
+  pub from : ℕ
+  pub to : ℕ
+
+abbrev pub asked : Client → Table → List State → ℕ → ℕ → Range
+asked c t states from to = record { client = c; table = t; states = states; from = from; to = to }
+
+-- a store of this client has such states, all of them met
+pub record CanBeAsked (kept : Client) (r : Range) : Type 0 where
+  pub client : kept ≡ r.client
+  pub begun : HasBegun r.client r.states
+  pub ordered : r.from ≤ r.to
+  pub there : r.to ≤ length r.states
+
+abbrev pub AreWorkedIn : Range → Type 0
+AreWorkedIn r = AreWorkedBetween r.client r.table r.states r.from r.to
+
+-- one has those up to a number, the other those from there on
+pub record AreHalvesAsked (whole left right : Range) : Type 0 where
+  pub middle : ℕ
+  pub left_is : left ≡ asked whole.client whole.table whole.states whole.from middle
+  pub right_is : right ≡ asked whole.client whole.table whole.states middle whole.to

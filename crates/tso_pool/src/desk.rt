@@ -1,0 +1,274 @@
+//! The states that one worker has met.
+
+ghost use Rattle.std.specs.Prelude.{◌≡◌, [], IfOk, IfSome, Some, slice_get};
+ghost use Rattle.std.specs.Option.{option_copied};
+ghost use Rattle.tso_parts.specs.Numbers.{Extends};
+ghost use Rattle.tso_pool.specs.Numbering.{IsCopy};
+ghost use Rattle.tso_store.specs.Sheets.{CanStep, IsKeptSuccessor};
+ghost use Rattle.tso_state.specs.declared.state.State.{State as StateValue};
+ghost use Rattle.tso_table.specs.Leading.{IsKept};
+
+use crate::finds::Finds;
+use crate::progress::{Progress, Tally};
+use std::alloc::{AllocError, Global};
+use std::marker::Model;
+use tso_cert::Watch;
+use tso_flow::Checked;
+use tso_list::Seq;
+use tso_paths::Paths;
+use tso_state::{Actor, State};
+use tso_store::{Key, NO_KEY, Store, View};
+use tso_table::{Kept, SHARDS, number_of, shard_of};
+
+/// The states that one worker has met, in a store of its own, in which it takes its steps; the actors that lead to each; and
+/// where the shards have their parts. Contracts see the client and the states.
+#[derive(Drop)]
+pub struct Desk<'c> {
+    worker: u64,
+    store: Store<'c>,
+    paths: Paths,
+    finds: Vec<Finds>,
+    tally: Tally,
+}
+
+impl<'c> Model for Desk<'c> {
+    ghost use Rattle.tso_pool.specs.Desks.{AreLed, Sheet};
+
+    ghost Value = { Sheet };
+
+    ghost view = { λ d. record { client = d.store.client; states = d.store.states } };
+
+    ghost invariant = { λ d. AreLed d.store.client d.store.states d.paths };
+}
+
+// That nothing is known of any shard.
+fn no_finds(alloc: Global) -> Result<Vec<Finds>, AllocError> {
+    let mut finds = Vec::new(alloc);
+    for _ in 0..SHARDS {
+        finds.push(Finds::new(alloc))?;
+    }
+    Ok(finds)
+}
+
+impl<'c> Desk<'c> {
+    /// A desk of a worker, without states.
+    ///
+    /// Errors: where a growth was refused.
+    pub fn new(alloc: Global, checked: &'c Checked, worker: u64) -> Result<Self, AllocError>
+        ensures client { IfOk result (λ d. d.client ≡ checked.now.client) }
+        ensures states { IfOk result (λ d. d.states ≡ []) }
+    {
+        Ok(Desk {
+            worker,
+            store: Store::new(alloc, checked, 0),
+            paths: Paths::new(alloc),
+            finds: no_finds(alloc)?,
+            tally: Tally::new(),
+        })
+    }
+
+    /// The number of its worker.
+    pub fn worker(&self) -> u64 {
+        self.worker
+    }
+
+    /// Its worker hands out one ticket more.
+    pub fn hand_out(&mut self, progress: &Progress)
+        ensures { self.new ≡ self.old }
+    {
+        progress.hand_out(&mut self.tally);
+    }
+
+    /// Its worker has worked one ticket more, of which the watch is told now and then.
+    pub fn leave<W: Watch>(&mut self, progress: &Progress, watch: &W)
+        ensures { self.new ≡ self.old }
+    {
+        progress.leave(&mut self.tally, watch);
+    }
+
+    /// Its worker has no ticket, and tells the others all that it has counted.
+    pub fn settle(&mut self, progress: &Progress)
+        ensures { self.new ≡ self.old }
+    {
+        progress.settle(&mut self.tally);
+    }
+
+    /// A state, seen where it is kept, if there are so many.
+    pub fn view(&self, number: u32) -> Option<View<'_>>
+        ensures { result ≡ slice_get self.now.states number }
+    {
+        self.store.view(number)
+    }
+
+    /// A state, with the actors that lead to it. `None` where there is no such state, or where a growth for its actors was refused.
+    pub fn lent(&self, number: u32) -> Option<(View<'_>, &[u8])>
+        ensures state { IfSome result (λ l. slice_get self.now.states number ≡ Some l.0) }
+        ensures leads { IfSome result (λ l. IsKept self.now.client (record { state = l.0; actors = l.1.now })) }
+    {
+        match self.store.view(number) {
+            Some(view) => match self.paths.get(number as usize) {
+                Some(path) => Some((view, path)),
+                None => None,
+            },
+            None => None,
+        }
+    }
+
+    /// A copy of a state, with the actors that lead to it. `None` as for `lent`.
+    ///
+    /// Errors: where a growth was refused.
+    pub fn kept(&self, alloc: Global, number: u32) -> Result<Option<Kept>, AllocError>
+        ensures state { IfOk result (λ o. IfSome o (λ k. slice_get self.now.states number ≡ Some k.state)) }
+        ensures leads { IfOk result (λ o. IfSome o (IsKept self.now.client)) }
+    {
+        let Some(state) = self.store.state(alloc, number)? else {
+            return Ok(None);
+        };
+        match self.paths.get(number as usize) {
+            Some(path) => {
+                let actors = Seq::from_slice(alloc, path)?;
+                Ok(Some(Kept { state, actors }))
+            }
+            None => Ok(None),
+        }
+    }
+
+    /// A copy of a state, if it belongs to the shard.
+    ///
+    /// Errors: where a growth was refused.
+    pub fn copy_in(
+        &self,
+        alloc: Global,
+        number: u32,
+        shard: u8,
+    ) -> Result<Option<State>, AllocError>
+        ensures { IfOk result (λ copy. (s : StateValue) → slice_get self.now.states number ≡ Some s → IsCopy shard s copy) }
+    {
+        let Some(view) = self.store.view(number) else {
+            return Ok(None);
+        };
+        if shard_of(&view) != shard {
+            return Ok(None);
+        }
+        self.store.state(alloc, number)
+    }
+
+    // Keeps the actors that lead to a state that came last.
+    fn keep_path(&mut self, number: u32, path: &[u8]) -> Result<(), AllocError>
+        requires { (s : StateValue) → slice_get self.old.states number ≡ Some s → IsKept self.old.client (record { state = s; actors = path.now }) }
+        ensures { self.new ≡ self.old }
+    {
+        let Some(_state) = self.store.view(number) else {
+            return Err(AllocError);
+        };
+        if self.paths.len() != number as usize {
+            return Err(AllocError);
+        }
+        self.paths.push(path)?;
+        Ok(())
+    }
+
+    /// Takes in a state that is seen elsewhere, with the actors that lead to it.
+    ///
+    /// Errors: where a growth was refused. Each state keeps its number.
+    pub fn take_in(&mut self, state: &View<'_>, actors: &[u8]) -> Result<u32, AllocError>
+        requires { IsKept self.old.client (record { state = state.now; actors = actors.now }) }
+        ensures extends { Extends self.old.states self.new.states }
+        ensures client { self.new.client ≡ self.old.client }
+        ensures state { IfOk result (λ n. slice_get self.new.states n ≡ Some state.now) }
+    {
+        match self.store.add_view(&NO_KEY, state) {
+            Ok((number, true)) => {
+                self.keep_path(number, actors)?;
+                Ok(number)
+            }
+            Ok((number, false)) => Ok(number),
+            Err(_) => Err(AllocError),
+        }
+    }
+
+    /// Takes in the initial state of the client.
+    ///
+    /// Errors: where a growth was refused.
+    pub fn begin(&mut self, alloc: Global, checked: &Checked) -> Result<u32, AllocError>
+        requires { self.old.client ≡ checked.now.client }
+        ensures client { self.new.client ≡ self.old.client }
+    {
+        let Kept { state, actors } = Kept::initial(alloc, checked)?;
+        match self.store.add(&state) {
+            Ok((number, true)) => {
+                self.keep_path(number, actors.as_slice())?;
+                Ok(number)
+            }
+            Ok((number, false)) => Ok(number),
+            Err(_) => Err(AllocError),
+        }
+    }
+
+    /// The number of the state after an actor's step from a state, and whether it is new to the desk.
+    ///
+    /// Errors: where a growth was refused. Each state keeps its number.
+    pub fn step(
+        &mut self,
+        alloc: Global,
+        checked: &Checked,
+        from: u32,
+        actor: Actor,
+    ) -> Result<(u32, bool), AllocError>
+        requires client { self.old.client ≡ checked.now.client }
+        requires step { CanStep self.old.client self.old.states from actor }
+        ensures extends { Extends self.old.states self.new.states }
+        ensures client { self.new.client ≡ self.old.client }
+        ensures step { IfOk result (λ r. IsKeptSuccessor self.old.client self.new.states from actor r.0) }
+    {
+        match self.store.successor(alloc, from, actor) {
+            Ok(Some((number, true))) => {
+                self.lead_on(checked, number, from, actor)?;
+                Ok((number, true))
+            }
+            Ok(Some((number, false))) => Ok((number, false)),
+            Ok(None) => unreachable!(),
+            Err(_) => Err(AllocError),
+        }
+    }
+
+    // Keeps the actors that lead to the state after an actor's step, which came last.
+    fn lead_on(
+        &mut self,
+        checked: &Checked,
+        number: u32,
+        from: u32,
+        actor: Actor,
+    ) -> Result<(), AllocError>
+        requires client { self.old.client ≡ checked.now.client }
+        requires step { IsKeptSuccessor self.old.client self.old.states from actor number }
+        ensures { self.new ≡ self.old }
+    {
+        if self.paths.len() != number as usize {
+            return Err(AllocError);
+        }
+        if from >= number {
+            return Err(AllocError);
+        }
+        let _there = self.paths.push_longer(from as usize, number_of(actor))?;
+        Ok(())
+    }
+
+    /// Where a shard has the parts of a state, as far as that is known.
+    pub fn near(&self, shard: u8, number: u32) -> Key {
+        match self.finds.get(shard as usize) {
+            Some(finds) => finds.near(&self.store.key(number)),
+            None => NO_KEY,
+        }
+    }
+
+    /// Learns where a shard has the parts of a state.
+    pub fn learn(&mut self, shard: u8, number: u32, there: &Key)
+        ensures { self.new ≡ self.old }
+    {
+        let own = self.store.key(number);
+        if let Some(finds) = self.finds.get_mut(shard as usize) {
+            finds.learn(&own, there);
+        }
+    }
+}
