@@ -9,10 +9,8 @@ ghost use Rattle.tso_state.specs.declared.state.State.{State as StateValue};
 ghost use Rattle.tso_table.specs.Leading.{IsKept};
 
 use crate::finds::Finds;
-use crate::progress::{Progress, Tally};
 use std::alloc::{AllocError, Global};
 use std::marker::Model;
-use tso_cert::Watch;
 use tso_flow::Checked;
 use tso_list::Seq;
 use tso_paths::Paths;
@@ -28,7 +26,6 @@ pub struct Desk<'c> {
     store: Store<'c>,
     paths: Paths,
     finds: Vec<Finds>,
-    tally: Tally,
 }
 
 impl<'c> Model for Desk<'c> {
@@ -63,34 +60,12 @@ impl<'c> Desk<'c> {
             store: Store::new(alloc, checked, 0),
             paths: Paths::new(alloc),
             finds: no_finds(alloc)?,
-            tally: Tally::new(),
         })
     }
 
     /// The number of its worker.
     pub fn worker(&self) -> u64 {
         self.worker
-    }
-
-    /// Its worker hands out one ticket more.
-    pub fn hand_out(&mut self, progress: &Progress)
-        ensures { self.new ≡ self.old }
-    {
-        progress.hand_out(&mut self.tally);
-    }
-
-    /// Its worker has worked one ticket more, of which the watch is told now and then.
-    pub fn leave<W: Watch>(&mut self, progress: &Progress, watch: &W)
-        ensures { self.new ≡ self.old }
-    {
-        progress.leave(&mut self.tally, watch);
-    }
-
-    /// Its worker has no ticket, and tells the others all that it has counted.
-    pub fn settle(&mut self, progress: &Progress)
-        ensures { self.new ≡ self.old }
-    {
-        progress.settle(&mut self.tally);
     }
 
     /// A state, seen where it is kept, if there are so many.

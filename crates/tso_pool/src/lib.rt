@@ -23,7 +23,7 @@ pub use ending::Ending;
 pub use gathering::gather;
 pub use judging::judge_end;
 pub use moves::Moves;
-pub use progress::{Progress, Tally};
+pub use progress::Progress;
 pub use resting::Resting;
 pub use searching::search;
 pub use sharing::{file, intern, take};

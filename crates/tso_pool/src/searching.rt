@@ -156,7 +156,7 @@ fn search_as<
     let budget = Mutex::new(budget);
     let note = AtomicBool::new(false);
     let progress = Progress::new();
-    progress.begin();
+    progress.hand_out();
     let resting = Resting::new();
     let team = Team {
         rt,

@@ -42,14 +42,12 @@ pub fn offer(seat: &mut Seat<Ticket>, ticket: Ticket) -> Result<(), AllocError>
 // Hands out a ticket for a new state of the desk, and calls a worker that has none.
 fn hand_out<U: Search, E: Ledger, R: Wait, W: Watch>(
     team: &Team<'_, '_, U, E, R, W>,
-    desk: &mut Desk<'_>,
     seat: &mut Seat<Ticket>,
     ticket: Ticket,
 ) -> Result<(), AllocError>
-    ensures desk { desk.new ≡ desk.old }
-    ensures place { place_of seat.new ≡ place_of seat.old }
+    ensures { place_of seat.new ≡ place_of seat.old }
 {
-    desk.hand_out(team.progress);
+    team.progress.hand_out();
     offer(seat, ticket)?;
     team.resting.call(team.rt);
     Ok(())
@@ -88,7 +86,7 @@ fn follow<U: Search, E: Ledger, R: Wait, W: Watch>(
             worker,
             held,
         };
-        hand_out(team, desk, seat, ticket)?;
+        hand_out(team, seat, ticket)?;
     }
     Ok(())
 }
@@ -255,11 +253,9 @@ fn work_ticket<U: Search, E: Ledger, R: Wait, W: Watch>(
 // The next ticket, for which the worker may have to sleep. `None` where nothing is left to do, or an ending is noted.
 fn next_ticket<U: Search, E: Ledger, R: Wait, W: Watch>(
     team: &Team<'_, '_, U, E, R, W>,
-    desk: &mut Desk<'_>,
     seat: &mut Seat<Ticket>,
 ) -> Option<Ticket>
-    ensures desk { desk.new ≡ desk.old }
-    ensures place { place_of seat.new ≡ place_of seat.old }
+    ensures { place_of seat.new ≡ place_of seat.old }
 {
     for _ in team.rt.forever() {
         if team.note.load(Ordering::SeqCst) {
@@ -268,7 +264,6 @@ fn next_ticket<U: Search, E: Ledger, R: Wait, W: Watch>(
         if let Some(ticket) = seat.find() {
             return Some(ticket);
         }
-        desk.settle(team.progress);
         if team.progress.is_over() {
             break;
         }
@@ -298,12 +293,12 @@ fn work_on<U: Search, E: Ledger, R: Wait, W: Watch>(
     ensures ending { IfErr result (IsEndingOf team.now.checked.now.client) }
 {
     for _ in team.rt.forever() {
-        let Some(ticket) = next_ticket(team, desk, seat) else {
+        let Some(ticket) = next_ticket(team, seat) else {
             break;
         };
         team.watch.at(team.rt, desk.worker());
         work_ticket(team, desk, ticket, seat, share)?;
-        desk.leave(team.progress, team.watch);
+        team.progress.leave(team.watch);
     }
     Ok(())
 }

@@ -3,4 +3,4 @@ use Rattle.tso_ticket.specs.Seats.{place_of}
 use Rattle.tso_pool.proofs.working.next_ticket.Given as goal
 
 abbrev pub invariant-loop : goal.invariant-loop
-invariant-loop g l = (goal.iterator-loop g).can_next l.iterator' × (goal.iterator-loop g).is_finite l.iterator' × (place_of l.seat ≡ place_of l.fn.seat) × (l.desk ≡ l.fn.desk)
+invariant-loop g l = (goal.iterator-loop g).can_next l.iterator' × (goal.iterator-loop g).is_finite l.iterator' × (place_of l.seat ≡ place_of l.fn.seat)
