@@ -65,7 +65,7 @@ fn add_copies<T: Exact + Hash + Clone + Drop>(
     Ok(numbers)
 }
 
-/// The numbers of the parts of another store, which are kept where they are new. Each is hashed once.
+/// The numbers of the parts of another store, which are kept where they are new.
 pub fn add_parts(alloc: Global, parts: &mut Parts, others: &Parts) -> Result<PartNumbers, Refused>
     ensures numbers { IfOk result (AreNumbersIn others.now parts.new) }
     ensures grows { Grows parts.old parts.new }
