@@ -1,5 +1,5 @@
 -- What contracts see of a worker's desk, and what is true of it.
-use Rattle.std.specs.Prelude.{◌≡◌, ◌≤◌, ℕ, List, length, Some, slice_get}
+use Rattle.std.specs.Prelude.{◌≡◌, ℕ, List, [], length, Some, slice_get}
 use Rattle.tso_choose.specs.Choices.{AreChosen}
 use Rattle.tso_choose.specs.declared.choice.Choice.{Choice}
 use Rattle.tso_compact.specs.Laws.{IsPlausible}
@@ -19,10 +19,16 @@ pub record Sheet : Type 0 where
   pub client : Client
   pub states : List State
 
--- the actors that are kept with the first of the states lead to them
+-- the actors that are kept with each of the states lead to it
 pub record AreLed (c : Client) (states : List State) (paths : List (List ℕ)) : Type 0 where
-  pub few : length paths ≤ length states
+  pub all : length paths ≡ length states
   pub led : (n : ℕ) (k : Kept) → IsKeptIn states paths n k → IsKept c k
+
+-- state n is the initial one: no actors lead to it
+pub record IsInitialAt (c : Client) (states : List State) (n : ℕ) : Type 0 where
+  pub state : State
+  pub at : slice_get states n ≡ Some state
+  pub initial : IsKept c (record { state = state; actors = [] })
 
 -- state n is well-formed, with each running call on a path of its procedure, and these are its chosen actors
 pub record IsChosenAt (c : Client) (t : Table) (states : List State) (n : ℕ) (choices : List Choice) : Type 0 where

@@ -1,8 +1,8 @@
 //! The states that one worker has met.
 
-ghost use Rattle.std.specs.Prelude.{◌≡◌, [], IfOk, IfSome, Some, slice_get};
-ghost use Rattle.std.specs.Option.{option_copied};
+ghost use Rattle.std.specs.Prelude.{◌≡◌, ◌↔◌, ◌<◌, ◌≤◌, [], IfOk, IfSome, IsTrue, None, Some, length, slice_get};
 ghost use Rattle.tso_parts.specs.Numbers.{Extends};
+ghost use Rattle.tso_pool.specs.Desks.{IsInitialAt};
 ghost use Rattle.tso_pool.specs.Numbering.{IsCopy};
 ghost use Rattle.tso_store.specs.Sheets.{CanStep, IsKeptSuccessor};
 ghost use Rattle.tso_state.specs.declared.state.State.{State as StateValue};
@@ -75,8 +75,16 @@ impl<'c> Desk<'c> {
         self.store.view(number)
     }
 
-    /// A state, with the actors that lead to it. `None` where there is no such state, or where a growth for its actors was refused.
+    /// Whether there are so many states.
+    pub fn has(&self, number: u32) -> bool
+        ensures { IsTrue result ↔ (number < length self.now.states) }
+    {
+        (number as usize) < self.store.len()
+    }
+
+    /// A state, with the actors that lead to it. `None` exactly where there is no such state.
     pub fn lent(&self, number: u32) -> Option<(View<'_>, &[u8])>
+        ensures none { result ≡ None → length self.now.states ≤ number }
         ensures state { IfSome result (λ l. slice_get self.now.states number ≡ Some l.0) }
         ensures leads { IfSome result (λ l. IsKept self.now.client (record { state = l.0; actors = l.1.now })) }
     {
@@ -89,10 +97,11 @@ impl<'c> Desk<'c> {
         }
     }
 
-    /// A copy of a state, with the actors that lead to it. `None` as for `lent`.
+    /// A copy of a state, with the actors that lead to it. `None` exactly where there is no such state.
     ///
     /// Errors: where a growth was refused.
     pub fn kept(&self, alloc: Global, number: u32) -> Result<Option<Kept>, AllocError>
+        ensures none { IfOk result (λ o. o ≡ None → length self.now.states ≤ number) }
         ensures state { IfOk result (λ o. IfSome o (λ k. slice_get self.now.states number ≡ Some k.state)) }
         ensures leads { IfOk result (λ o. IfSome o (IsKept self.now.client)) }
     {
@@ -128,21 +137,6 @@ impl<'c> Desk<'c> {
         self.store.state(alloc, number)
     }
 
-    // Keeps the actors that lead to a state that came last.
-    fn keep_path(&mut self, number: u32, path: &[u8]) -> Result<(), AllocError>
-        requires { (s : StateValue) → slice_get self.old.states number ≡ Some s → IsKept self.old.client (record { state = s; actors = path.now }) }
-        ensures { self.new ≡ self.old }
-    {
-        let Some(_state) = self.store.view(number) else {
-            return Err(AllocError);
-        };
-        if self.paths.len() != number as usize {
-            return Err(AllocError);
-        }
-        self.paths.push(path)?;
-        Ok(())
-    }
-
     /// Takes in a state that is seen elsewhere, with the actors that lead to it.
     ///
     /// Errors: where a growth was refused. Each state keeps its number.
@@ -152,31 +146,41 @@ impl<'c> Desk<'c> {
         ensures client { self.new.client ≡ self.old.client }
         ensures state { IfOk result (λ n. slice_get self.new.states n ≡ Some state.now) }
     {
+        self.paths.push(actors)?;
         match self.store.add_view(&NO_KEY, state) {
-            Ok((number, true)) => {
-                self.keep_path(number, actors)?;
+            Ok((number, true)) => Ok(number),
+            Ok((number, false)) => {
+                self.paths.pop();
                 Ok(number)
             }
-            Ok((number, false)) => Ok(number),
-            Err(_) => Err(AllocError),
+            Err(_) => {
+                self.paths.pop();
+                Err(AllocError)
+            }
         }
     }
 
-    /// Takes in the initial state of the client.
+    /// Takes in the initial state of the client, to which no actors lead.
     ///
-    /// Errors: where a growth was refused.
+    /// Errors: where a growth was refused. Each state keeps its number.
     pub fn begin(&mut self, alloc: Global, checked: &Checked) -> Result<u32, AllocError>
         requires { self.old.client ≡ checked.now.client }
+        ensures extends { Extends self.old.states self.new.states }
         ensures client { self.new.client ≡ self.old.client }
+        ensures initial { IfOk result (IsInitialAt self.new.client self.new.states) }
     {
         let Kept { state, actors } = Kept::initial(alloc, checked)?;
+        self.paths.push(actors.as_slice())?;
         match self.store.add(&state) {
-            Ok((number, true)) => {
-                self.keep_path(number, actors.as_slice())?;
+            Ok((number, true)) => Ok(number),
+            Ok((number, false)) => {
+                self.paths.pop();
                 Ok(number)
             }
-            Ok((number, false)) => Ok(number),
-            Err(_) => Err(AllocError),
+            Err(_) => {
+                self.paths.pop();
+                Err(AllocError)
+            }
         }
     }
 
@@ -196,37 +200,21 @@ impl<'c> Desk<'c> {
         ensures client { self.new.client ≡ self.old.client }
         ensures step { IfOk result (λ r. IsKeptSuccessor self.old.client self.new.states from actor r.0) }
     {
+        if !self.paths.push_longer(from as usize, number_of(actor))? {
+            unreachable!();
+        }
         match self.store.successor(alloc, from, actor) {
-            Ok(Some((number, true))) => {
-                self.lead_on(checked, number, from, actor)?;
-                Ok((number, true))
+            Ok(Some((number, true))) => Ok((number, true)),
+            Ok(Some((number, false))) => {
+                self.paths.pop();
+                Ok((number, false))
             }
-            Ok(Some((number, false))) => Ok((number, false)),
             Ok(None) => unreachable!(),
-            Err(_) => Err(AllocError),
+            Err(_) => {
+                self.paths.pop();
+                Err(AllocError)
+            }
         }
-    }
-
-    // Keeps the actors that lead to the state after an actor's step, which came last.
-    fn lead_on(
-        &mut self,
-        checked: &Checked,
-        number: u32,
-        from: u32,
-        actor: Actor,
-    ) -> Result<(), AllocError>
-        requires client { self.old.client ≡ checked.now.client }
-        requires step { IsKeptSuccessor self.old.client self.old.states from actor number }
-        ensures { self.new ≡ self.old }
-    {
-        if self.paths.len() != number as usize {
-            return Err(AllocError);
-        }
-        if from >= number {
-            return Err(AllocError);
-        }
-        let _there = self.paths.push_longer(from as usize, number_of(actor))?;
-        Ok(())
     }
 
     /// Where a shard has the parts of a state, as far as that is known.

@@ -1,11 +1,11 @@
 //! What a worker does under a lock. It has one shard's lock at a time, and the budget's only while it has that.
 
-ghost use Rattle.std.specs.Prelude.{◌≡◌, ◌+◌, ◌<◌, IfErr, IfOk, IfSome, MatchBool, OnErr, OnOk};
-ghost use Rattle.tso_parts.specs.Numbers.{Extends};
+ghost use Rattle.std.specs.Prelude.{◌≡◌, ◌+◌, ◌<◌, IfErr, IfOk, IfSome, MatchBool, MatchOption, OnErr, OnOk, length};
 ghost use Rattle.tso_pool.specs.Desks.{IsShardOf};
 ghost use Rattle.tso_pool.specs.Endings.{IsEndingOf};
 ghost use Rattle.tso_table.specs.Ends.{AreNear, IsEnd};
 ghost use Rattle.tso_table.specs.Leading.{IsKept, shard_of};
+ghost use Rattle.tso_table.specs.Sheets.{IsForSame};
 
 use crate::desk::Desk;
 use crate::ending::Ending;
@@ -17,16 +17,17 @@ use std::sync::Wait;
 use std::sync::ledger::{Ledger, Share};
 use tso_cert::Watch;
 use tso_store::{Key, View};
-use tso_table::{Filed, FinishError, InternError, Near, Number, Search, Shard, Table, shard_of};
+use tso_table::{Filed, FinishError, Near, Number, Search, Shard, Table, shard_of};
 
 // Where the desk has the state of a ticket, which it takes in where another's desk has it. `None` where the table has no such
 // state.
 fn held_by(desk: &mut Desk<'_>, table: &Table<'_>, ticket: Ticket) -> Result<Option<u32>, Ending>
     requires { table.now.client ≡ desk.old.client }
     ensures client { desk.new.client ≡ desk.old.client }
+    ensures there { IfOk result (λ o. IfSome o (λ held. held < length desk.new.states)) }
     ensures ending { IfErr result (IsEndingOf desk.old.client) }
 {
-    if ticket.worker == desk.worker() {
+    if ticket.worker == desk.worker() && desk.has(ticket.held) {
         return Ok(Some(ticket.held));
     }
     match table.lent(ticket.number.place) {
@@ -50,6 +51,7 @@ pub fn take<U: Search, E: Ledger, R: Wait, W: Watch>(
     requires client { desk.old.client ≡ team.now.checked.now.client }
     ensures parts { share.new.parts ≡ share.old.parts }
     ensures client { desk.new.client ≡ desk.old.client }
+    ensures there { IfOk result (λ o. IfSome o (λ held. held < length desk.new.states)) }
     ensures counted { OnOk result (share.new.amount ≡ share.old.amount + 1) }
     ensures uncounted { OnErr result (share.new.amount ≡ share.old.amount) }
     ensures ending { IfErr result (IsEndingOf team.now.checked.now.client) }
@@ -67,8 +69,90 @@ pub fn take<U: Search, E: Ledger, R: Wait, W: Watch>(
     }
 }
 
-// The number of a state in its shard, and whether it is new; `None` where no unit is left. Only a new one needs the budget: one
-// that is not fresh is looked up first.
+// Takes a unit for a new state. False where none is left.
+fn afford<U: Search, E: Ledger, R: Wait, W: Watch>(
+    team: &Team<'_, '_, U, E, R, W>,
+    shard: &mut Shard<'_, U, E>,
+) -> Result<bool, Ending>
+    ensures sheet { shard.new.sheet ≡ shard.old.sheet }
+    ensures spare { IfOk result (λ is_afforded. MatchBool is_afforded (0 < shard.new.spare) ((shard.old.spare ≡ 0) × (shard.new.spare ≡ 0))) }
+    ensures ending { IfErr result (IsEndingOf team.now.checked.now.client) }
+{
+    if shard.has_spare() {
+        return Ok(true);
+    }
+    let mut budget = lock(team.budget, team.rt);
+    if !budget.is_for(team.limit) {
+        return Err(Ending::Quiet);
+    }
+    Ok(shard.afford(&mut budget))
+}
+
+// Gives back a unit that no state has taken.
+fn give_back<U: Search, E: Ledger, R: Wait, W: Watch>(
+    team: &Team<'_, '_, U, E, R, W>,
+    shard: &mut Shard<'_, U, E>,
+)
+    ensures sheet { shard.new.sheet ≡ shard.old.sheet }
+    ensures none { shard.new.spare ≡ 0 }
+{
+    if shard.has_spare() {
+        let mut budget = lock(team.budget, team.rt);
+        shard.give_back(&mut budget);
+    }
+}
+
+// The number of a state that is there, which is not new; `None` where it is not there.
+fn met<U: Search, E: Ledger, R: Wait, W: Watch>(
+    team: &Team<'_, '_, U, E, R, W>,
+    shard: &mut Shard<'_, U, E>,
+    near: &Key,
+    state: &View<'_>,
+    share: &mut Share<E>,
+) -> Result<Option<(Number, bool)>, Ending>
+    requires part { 0 < share.old.parts }
+    ensures same { IsForSame shard.old.sheet shard.new.sheet }
+    ensures parts { share.new.parts ≡ share.old.parts }
+    ensures counted { IfOk result (λ o. MatchOption o (share.new.amount ≡ share.old.amount) (λ r. (share.new.amount ≡ share.old.amount + 1) × (r.0.shard ≡ shard.old.sheet.number))) }
+    ensures uncounted { OnErr result (share.new.amount ≡ share.old.amount) }
+    ensures ending { IfErr result (IsEndingOf team.now.checked.now.client) }
+{
+    match shard.meet(near, state, share) {
+        Ok(Some(number)) => Ok(Some((number, false))),
+        Ok(None) => Ok(None),
+        Err(_) => Err(Ending::Memory),
+    }
+}
+
+// The number of a state, and whether it is new, where the shard has a unit to spare. What no state has taken is given back.
+fn put_in<U: Search, E: Ledger, R: Wait, W: Watch>(
+    team: &Team<'_, '_, U, E, R, W>,
+    shard: &mut Shard<'_, U, E>,
+    near: &Key,
+    state: &View<'_>,
+    actors: &[u8],
+    share: &mut Share<E>,
+) -> Result<(Number, bool), Ending>
+    requires part { 0 < share.old.parts }
+    requires spare { 0 < shard.old.spare }
+    requires kept { IsKept shard.old.sheet.client (record { state = state.now; actors = actors.now }) }
+    requires here { shard_of state.now ≡ shard.old.sheet.number }
+    ensures parts { share.new.parts ≡ share.old.parts }
+    ensures counted { IfOk result (λ r. (share.new.amount ≡ share.old.amount + 1) × (r.0.shard ≡ shard.old.sheet.number)) }
+    ensures uncounted { OnErr result (share.new.amount ≡ share.old.amount) }
+    ensures ending { IfErr result (IsEndingOf team.now.checked.now.client) }
+{
+    let placed = shard.put(near, state, actors, share);
+    give_back(team, shard);
+    match placed {
+        Ok(answer) => Ok(answer),
+        Err(_) => Err(Ending::Memory),
+    }
+}
+
+// The number of a state in its shard, and whether it is new; `None` where no unit is left. Only a new one needs the budget, for as
+// long as it takes to take a unit: one that is not fresh is looked up first, and one that is, and is there after all, gives its
+// unit back.
 fn number_in<U: Search, E: Ledger, R: Wait, W: Watch>(
     team: &Team<'_, '_, U, E, R, W>,
     shard: &mut Shard<'_, U, E>,
@@ -79,9 +163,9 @@ fn number_in<U: Search, E: Ledger, R: Wait, W: Watch>(
     share: &mut Share<E>,
 ) -> Result<Option<(Number, bool)>, Ending>
     requires part { 0 < share.old.parts }
-    requires client { shard.old.client ≡ team.now.checked.now.client }
+    requires client { shard.old.sheet.client ≡ team.now.checked.now.client }
     requires kept { IsKept team.now.checked.now.client (record { state = state.now; actors = actors.now }) }
-    requires here { shard_of state.now ≡ shard.old.number }
+    requires here { shard_of state.now ≡ shard.old.sheet.number }
     ensures parts { share.new.parts ≡ share.old.parts }
     ensures counted { IfOk result (λ o. IfSome o (λ _. share.new.amount ≡ share.old.amount + 1)) }
     ensures full { IfOk result (λ o. o ≡ None → share.new.amount ≡ share.old.amount) }
@@ -90,21 +174,15 @@ fn number_in<U: Search, E: Ledger, R: Wait, W: Watch>(
     ensures ending { IfErr result (IsEndingOf team.now.checked.now.client) }
 {
     if !fresh {
-        match shard.meet(near, state, share) {
-            Ok(Some(number)) => return Ok(Some((number, false))),
-            Ok(None) => {}
-            Err(_) => return Err(Ending::Memory),
+        if let Some(answer) = met(team, shard, near, state, share)? {
+            return Ok(Some(answer));
         }
     }
-    let mut budget = lock(team.budget, team.rt);
-    if !budget.is_for(team.limit) {
-        return Err(Ending::Quiet);
+    if !afford(team, shard)? {
+        return met(team, shard, near, state, share);
     }
-    match shard.intern(&mut budget, near, state, actors, share) {
-        Ok(answer) => Ok(Some(answer)),
-        Err(InternError::Full) => Ok(None),
-        Err(InternError::Memory) => Err(Ending::Memory),
-    }
+    let answer = put_in(team, shard, near, state, actors, share)?;
+    Ok(Some(answer))
 }
 
 // The number of a state in its shard, and whether it is new, with where the shard has its parts; `None` where no unit is left.
@@ -145,11 +223,13 @@ fn place<U: Search, E: Ledger, R: Wait, W: Watch>(
 
 // That no unit was left for a state.
 fn full_at(alloc: Global, desk: &Desk<'_>, held: u32) -> Ending
+    requires { held < length desk.now.states }
     ensures { IsEndingOf desk.now.client result }
 {
     match desk.kept(alloc, held) {
         Ok(Some(kept)) => Ending::Full(kept),
-        _ => Ending::Memory,
+        Ok(None) => unreachable!(),
+        Err(_) => Ending::Memory,
     }
 }
 
@@ -164,6 +244,7 @@ pub fn intern<U: Search, E: Ledger, R: Wait, W: Watch>(
 ) -> Result<(Number, bool), Ending>
     requires part { 0 < share.old.parts }
     requires client { desk.old.client ≡ team.now.checked.now.client }
+    requires there { held < length desk.old.states }
     ensures parts { share.new.parts ≡ share.old.parts }
     ensures desk { desk.new ≡ desk.old }
     ensures counted { OnOk result (share.new.amount ≡ share.old.amount + 1) }
@@ -172,7 +253,7 @@ pub fn intern<U: Search, E: Ledger, R: Wait, W: Watch>(
     ensures ending { IfErr result (IsEndingOf team.now.checked.now.client) }
 {
     let Some((state, actors)) = desk.lent(held) else {
-        return Err(Ending::Memory);
+        unreachable!()
     };
     let shard = shard_of(&state);
     let near = desk.near(shard, held);

@@ -185,13 +185,14 @@ fn work_end<U: Search, E: Ledger, R: Wait, W: Watch>(
 ) -> Result<(), Ending>
     requires part { 0 < share.old.parts }
     requires client { desk.now.client ≡ team.now.checked.now.client }
+    requires there { held < length desk.now.states }
     requires over { IsOverAt team.now.checked.now.client desk.now.states held }
     ensures parts { share.new.parts ≡ share.old.parts }
     ensures counted { OnOk result (share.old.amount ≤ share.new.amount) }
     ensures ending { IfErr result (IsEndingOf team.now.checked.now.client) }
 {
     let Some(kept) = desk.kept(team.alloc, held)? else {
-        return Ok(());
+        unreachable!()
     };
     match judge_end(team.alloc, team.checked, &kept.state)? {
         Some(order) => {
@@ -204,22 +205,20 @@ fn work_end<U: Search, E: Ledger, R: Wait, W: Watch>(
     }
 }
 
-// The chosen actors of a state of the desk, with their reasons. `None` where it has no such state.
+// The chosen actors of a state of the desk, with their reasons.
 fn choices_at<U: Search, E: Ledger, R: Wait, W: Watch>(
     team: &Team<'_, '_, U, E, R, W>,
     desk: &Desk<'_>,
     held: u32,
-) -> Result<Option<Choices>, AllocError>
+) -> Result<Choices, AllocError>
     requires client { desk.now.client ≡ team.now.checked.now.client }
-    ensures { IfOk result (λ o. IfSome o (IsChosenAt team.now.checked.now.client team.now.table.now desk.now.states held)) }
+    requires there { held < length desk.now.states }
+    ensures { IfOk result (IsChosenAt team.now.checked.now.client team.now.table.now desk.now.states held) }
 {
-    match desk.lent(held) {
-        Some((state, _actors)) => {
-            let choices = choose(team.alloc, team.checked, team.table, &state)?;
-            Ok(Some(choices))
-        }
-        None => Ok(None),
-    }
+    let Some((state, _actors)) = desk.lent(held) else {
+        unreachable!()
+    };
+    choose(team.alloc, team.checked, team.table, &state)
 }
 
 // Works the state of a ticket.
@@ -241,9 +240,7 @@ fn work_ticket<U: Search, E: Ledger, R: Wait, W: Watch>(
     let Some(held) = take(team, desk, ticket, share)? else {
         return Ok(());
     };
-    let Some(choices) = choices_at(team, desk, held)? else {
-        return Ok(());
-    };
+    let choices = choices_at(team, desk, held)?;
     if choices.is_empty() {
         return work_end(team, ticket.number, desk, held, share);
     }

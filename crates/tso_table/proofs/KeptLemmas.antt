@@ -42,11 +42,14 @@ pub has_step : (c : Client) (s t : State) (a : Actor) → IsStep c s a t → Has
 has_step c s t a e = subst (λ (o : Option _). IsSome o) (sym e) refl
 
 -- who has a step is one of five threads
-pub small_thread : (c : Client) (k : Kept) (t : State) (a : Actor) → IsKept c k → IsStep c k.state a t → thread_of a < 8
-small_thread c k t a h step = elim (cases_lt (thread_of a) (length k.state.threads)) [
+pub small_actor : (c : Client) (k : Kept) (a : Actor) → IsKept c k → HasStep c k.state a → thread_of a < 8
+small_actor c k a h can = elim (cases_lt (thread_of a) (length k.state.threads)) [
   | inl less ↦ (let few = few_threads c in let n = h.plausible.well_formed.sizes.threads in omega (arith, less, few, n))
-  | inr ge ↦ absurd (no_thread c k.state a (slice_get_past k.state.threads (thread_of a) ge) (has_step c k.state t a step))
+  | inr ge ↦ absurd (no_thread c k.state a (slice_get_past k.state.threads (thread_of a) ge) can)
 ]
+
+pub small_thread : (c : Client) (k : Kept) (t : State) (a : Actor) → IsKept c k → IsStep c k.state a t → thread_of a < 8
+small_thread c k t a h step = small_actor c k a h (has_step c k.state t a step)
 
 at_number : (a : Actor) → actor_at (number_of a) ≡ a
 at_number (Exec i) = grind arith

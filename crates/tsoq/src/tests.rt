@@ -494,15 +494,25 @@ fn searches_want_a_program(rt: HostRuntime) -> Result<(), Fail> {
 
 #[test]
 fn sizes_are_told(rt: HostRuntime) -> Result<(), Fail> {
-    let words = [
-        "verify", "program", "--out", "cert", "--trace", "found", "--stats",
-    ];
-    let found = outcome_of(&rt, rt.alloc(), &words, ONE_REFUSAL.as_bytes(), b"")?;
-    assert_eq!(rt;
-        found.err.as_slice(),
-        b"states: 4\nrecords: 4\nbytes: 111\n".as_slice()
-    );
-    assert_eq!(rt; found.status, 0);
+    for workers in ["1", "2"] {
+        let words = [
+            "verify",
+            "program",
+            "--out",
+            "cert",
+            "--trace",
+            "found",
+            "--stats",
+            "--workers",
+            workers,
+        ];
+        let found = outcome_of(&rt, rt.alloc(), &words, ONE_REFUSAL.as_bytes(), b"")?;
+        assert_eq!(rt;
+            found.err.as_slice(),
+            b"states: 4\nrecords: 4\nbytes: 111\n".as_slice()
+        );
+        assert_eq!(rt; found.status, 0);
+    }
     Ok(())
 }
 
