@@ -32,6 +32,7 @@ use Rattle.tso_model.specs.Steps as model
 use Rattle.tso_parts.proofs.Distinct.{grown_extends}
 use Rattle.tso_parts.proofs.Marked.{new_item, of_longer, old_item}
 use Rattle.tso_parts.specs.Numbers.{Extends, IsNumbered, grown}
+use Rattle.tso_pool.proofs.DeskLemmas.{some_before}
 use Rattle.tso_prog.specs.declared.client.Client.{Client}
 use Rattle.tso_state.specs.Actors.{actor_of}
 use Rattle.tso_state.specs.Views.{state_of}
@@ -494,10 +495,5 @@ begun_union c old others new begun met within = record {
 -- each state of a sound table is met
 pub sound_met : (c : Client) (t : Table) (k : ℕ) (r : Rows) (actors : List (List ℕ)) (open_ones entries : ℕ) → IsSound c t k r actors open_ones entries → (n : ℕ) (s : State) → slice_get r.states n ≡ Some s → IsMet c s
 sound_met c t k r actors open_ones entries sound n s at =
-    let (path, there) = some_there actors n (let within = slice_get_within r.states n s at in let long = sound.paths in omega (arith, within, long)) in
+    let (path, there) = some_before actors n (let within = slice_get_within r.states n s at in let long = sound.paths in omega (arith, within, long)) in
     kept_is_met c (record { state = s; actors = path }) (sound.kept n (record { state = s; actors = path }) (record { state = at; actors_at = there }))
-  where
-    some_there : {X : Type 0} (xs : List X) (n : ℕ) → n < length xs → (x : X) × (slice_get xs n ≡ Some x)
-    some_there [] n lt = absurd (omega (arith, lt))
-    some_there (x ∷ xs) zero lt = (x, refl)
-    some_there (x ∷ xs) (suc n) lt = some_there xs n (omega (arith, lt))

@@ -25,7 +25,7 @@ use Rattle.tso_table.specs.declared.number.Number.{Number}
 pub none_led : (c : Client) → AreLed c [] []
 none_led c = record { all = refl; led = λ n k at. absurd (none-some k.state at.state) }
 
-some_before : {X : Type 0} (xs : List X) (n : ℕ) → n < length xs → (x : X) × (slice_get xs n ≡ Some x)
+pub some_before : {X : Type 0} (xs : List X) (n : ℕ) → n < length xs → (x : X) × (slice_get xs n ≡ Some x)
 some_before [] n lt = absurd (omega (arith, lt))
 some_before (x ∷ xs) zero lt = (x, refl)
 some_before (x ∷ xs) (suc n) lt = some_before xs n (omega (arith, lt))

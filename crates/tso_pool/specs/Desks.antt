@@ -14,8 +14,9 @@ use Rattle.tso_table.specs.Leading.{IsKept, shard_of}
 use Rattle.tso_table.specs.Sheets.{IsKeptIn}
 use Rattle.tso_table.specs.declared.kept.Kept.{Kept}
 
--- a client, and states of it
+-- the number of a worker, a client, and states of it
 pub record Sheet : Type 0 where
+  pub worker : ℕ
   pub client : Client
   pub states : List State
 

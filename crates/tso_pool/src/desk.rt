@@ -4,7 +4,7 @@ ghost use Rattle.std.specs.Prelude.{◌≡◌, ◌↔◌, ◌<◌, ◌≤◌, []
 ghost use Rattle.tso_parts.specs.Numbers.{Extends};
 ghost use Rattle.tso_pool.specs.Desks.{IsInitialAt};
 ghost use Rattle.tso_pool.specs.Numbering.{IsCopy};
-ghost use Rattle.tso_store.specs.Sheets.{CanStep, IsKeptSuccessor};
+ghost use Rattle.tso_store.specs.Sheets.{CanStep, IsSuccessor};
 ghost use Rattle.tso_state.specs.declared.state.State.{State as StateValue};
 ghost use Rattle.tso_table.specs.Leading.{IsKept};
 
@@ -19,7 +19,7 @@ use tso_store::{Key, NO_KEY, Store, View};
 use tso_table::{Kept, SHARDS, number_of, shard_of};
 
 /// The states that one worker has met, in a store of its own, in which it takes its steps; the actors that lead to each; and
-/// where the shards have their parts. Contracts see the client and the states.
+/// where the shards have their parts. Contracts see the worker's number, the client and the states.
 #[derive(Drop)]
 pub struct Desk<'c> {
     worker: u64,
@@ -33,7 +33,7 @@ impl<'c> Model for Desk<'c> {
 
     ghost Value = { Sheet };
 
-    ghost view = { λ d. record { client = d.store.client; states = d.store.states } };
+    ghost view = { λ d. record { worker = d.worker; client = d.store.client; states = d.store.states } };
 
     ghost invariant = { λ d. AreLed d.store.client d.store.states d.paths };
 }
@@ -52,6 +52,7 @@ impl<'c> Desk<'c> {
     ///
     /// Errors: where a growth was refused.
     pub fn new(alloc: Global, checked: &'c Checked, worker: u64) -> Result<Self, AllocError>
+        ensures worker { IfOk result (λ d. d.worker ≡ worker) }
         ensures client { IfOk result (λ d. d.client ≡ checked.now.client) }
         ensures states { IfOk result (λ d. d.states ≡ []) }
     {
@@ -64,7 +65,9 @@ impl<'c> Desk<'c> {
     }
 
     /// The number of its worker.
-    pub fn worker(&self) -> u64 {
+    pub fn worker(&self) -> u64
+        ensures { result ≡ self.now.worker }
+    {
         self.worker
     }
 
@@ -143,6 +146,7 @@ impl<'c> Desk<'c> {
     pub fn take_in(&mut self, state: &View<'_>, actors: &[u8]) -> Result<u32, AllocError>
         requires { IsKept self.old.client (record { state = state.now; actors = actors.now }) }
         ensures extends { Extends self.old.states self.new.states }
+        ensures worker { self.new.worker ≡ self.old.worker }
         ensures client { self.new.client ≡ self.old.client }
         ensures state { IfOk result (λ n. slice_get self.new.states n ≡ Some state.now) }
     {
@@ -166,6 +170,7 @@ impl<'c> Desk<'c> {
     pub fn begin(&mut self, alloc: Global, checked: &Checked) -> Result<u32, AllocError>
         requires { self.old.client ≡ checked.now.client }
         ensures extends { Extends self.old.states self.new.states }
+        ensures worker { self.new.worker ≡ self.old.worker }
         ensures client { self.new.client ≡ self.old.client }
         ensures initial { IfOk result (IsInitialAt self.new.client self.new.states) }
     {
@@ -197,8 +202,9 @@ impl<'c> Desk<'c> {
         requires client { self.old.client ≡ checked.now.client }
         requires step { CanStep self.old.client self.old.states from actor }
         ensures extends { Extends self.old.states self.new.states }
+        ensures worker { self.new.worker ≡ self.old.worker }
         ensures client { self.new.client ≡ self.old.client }
-        ensures step { IfOk result (λ r. IsKeptSuccessor self.old.client self.new.states from actor r.0) }
+        ensures step { IfOk result (IsSuccessor self.old.client self.old.states self.new.states from actor) }
     {
         if !self.paths.push_longer(from as usize, number_of(actor))? {
             unreachable!();

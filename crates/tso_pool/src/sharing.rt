@@ -23,6 +23,7 @@ use tso_table::{Filed, FinishError, Near, Number, Search, Shard, Table, shard_of
 // state.
 fn held_by(desk: &mut Desk<'_>, table: &Table<'_>, ticket: Ticket) -> Result<Option<u32>, Ending>
     requires { table.now.client ≡ desk.old.client }
+    ensures worker { desk.new.worker ≡ desk.old.worker }
     ensures client { desk.new.client ≡ desk.old.client }
     ensures there { IfOk result (λ o. IfSome o (λ held. held < length desk.new.states)) }
     ensures ending { IfErr result (IsEndingOf desk.old.client) }
@@ -50,6 +51,7 @@ pub fn take<U: Search, E: Ledger, R: Wait, W: Watch>(
     requires part { 0 < share.old.parts }
     requires client { desk.old.client ≡ team.now.checked.now.client }
     ensures parts { share.new.parts ≡ share.old.parts }
+    ensures worker { desk.new.worker ≡ desk.old.worker }
     ensures client { desk.new.client ≡ desk.old.client }
     ensures there { IfOk result (λ o. IfSome o (λ held. held < length desk.new.states)) }
     ensures counted { OnOk result (share.new.amount ≡ share.old.amount + 1) }

@@ -1,5 +1,5 @@
 -- States that are told apart by their order, and where they stand.
-use Rattle.std.proofs.Common.{◌≡◌, ◌∙◌, ℕ, zero, suc, ◌<◌, Bool, true, false, List, [], ◌∷◌, ◌++◌, length, Option, Some, None, position, slice_get, refl, sym, ap, arith}
+use Rattle.std.proofs.Common.{◌≡◌, ◌∙◌, ℕ, Bool, true, false, List, [], ◌∷◌, ◌++◌, length, Option, Some, None, position, slice_get, refl, sym, ap, arith}
 use Rattle.std.specs.Prelude.{IsTrue, MatchOption}
 use Rattle.std.specs.Ordering.{is_eq}
 use Rattle.std.proofs.lemmas.Bool.{false≢true}
@@ -51,16 +51,6 @@ same_test false s t h = by (is_same s t) refl
     by : (c : Bool) → is_same s t ≡ c → false ≡ is_same s t
     by true e = absurd (false≢true (h.1 (sym ((state_exact s t).0 e))))
     by false e = sym e
-
-pub same_lists : {X : Type 0} (xs ys : List X) → length xs ≡ length ys → ((k : ℕ) → k < length ys → slice_get xs k ≡ slice_get ys k) → xs ≡ ys
-same_lists [] [] long each = refl
-same_lists [] (y ∷ ys) long each = absurd (omega (arith, long))
-same_lists (x ∷ xs) [] long each = absurd (omega (arith, long))
-same_lists {X = X} (x ∷ xs) (y ∷ ys) long each =
-    let first : Some x ≡ Some y = each 0 (omega arith) in
-    let head : x ≡ y = cc in
-    let tail : xs ≡ ys = same_lists xs ys (omega (arith, long)) (λ k lt. each (suc k) (omega (arith, lt))) in
-    λ i. head i ∷ tail i
 
 -- from a test that says whether this is so
 pub is_so : {P : Type 0} (b : Bool) → (IsTrue b → P) × (P → IsTrue b) → b ≡ true → P

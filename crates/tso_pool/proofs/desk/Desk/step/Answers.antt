@@ -4,11 +4,11 @@ use Rattle.tso_flow.specs.Faults.{HasNoFault}
 use Rattle.tso_parts.proofs.Distinct.{grown_extends}
 use Rattle.tso_parts.specs.Numbers.{Extends}
 use Rattle.tso_paths.specs.Cuts.{IsLonger}
-use Rattle.tso_pool.proofs.DeskLemmas.{kept_after, led_stepped, led_unchanged, small_number}
+use Rattle.tso_pool.proofs.DeskLemmas.{led_stepped, led_unchanged, small_number}
 use Rattle.tso_pool.specs.Desks.{AreLed}
 use Rattle.tso_prog.specs.declared.client.Client.{Client}
 use Rattle.tso_state.specs.Actors.{number_of}
-use Rattle.tso_store.specs.Sheets.{CanStep, IsKeptSuccessor, IsSuccessor}
+use Rattle.tso_store.specs.Sheets.{CanStep, IsSuccessor}
 use Rattle.tso_pool.proofs.desk.Desk.step.Goals as goal
 
 pub number_of-requires : goal.number_of-requires
@@ -58,10 +58,3 @@ returns-in-Ok-Some-default-true-clause-extends c =
     let f : IsSuccessor i.store.client i.store.states c.successor.new.self.states c.args.from c.args.actor (c.in-Ok-Some-default-true.number, c.in-Ok-Some-default-true.field-0-0-1) = rw c.in-Ok-Some-default-true.field-0-is at c.in-Ok-Some-default-true.ensures.step in
     let E : Extends i.store.states c.successor.new.self.states = grown_extends i.store.states c.successor.new.self.states f.to _ f.added.kept in
     rw (← c.self.view_is) E
-
-pub returns-in-Ok-Some-default-true-clause-step : goal.returns-in-Ok-Some-default-true-clause-step
-returns-in-Ok-Some-default-true-clause-step c =
-    let i = c.self.inside in
-    let f : IsSuccessor i.store.client i.store.states c.successor.new.self.states c.args.from c.args.actor (c.in-Ok-Some-default-true.number, c.in-Ok-Some-default-true.field-0-0-1) = rw c.in-Ok-Some-default-true.field-0-is at c.in-Ok-Some-default-true.ensures.step in
-    let S : IsKeptSuccessor i.store.client c.successor.new.self.states c.args.from c.args.actor c.in-Ok-Some-default-true.number = kept_after i.store.client i.store.states c.successor.new.self.states c.args.from c.args.actor _ f in
-    rw (← c.self.view_is) S
