@@ -4,8 +4,8 @@ use Rattle.std.proofs.KnownBytes.{Appends-nil}
 use Rattle.std.proofs.lemmas.List.{append-nil}
 use Rattle.std.specs.Io.KnownBytes.{Appends}
 use Rattle.std.specs.Prelude.{OnErr}
-use Rattle.tso_write.proofs.BeginningLemmas.{beginning_behind, beginning_of_part}
-use Rattle.tso_write.specs.Beginnings.{AppendsBeginning}
+use Rattle.tso_list.proofs.BeginningLemmas.{beginning_behind, beginning_of_part}
+use Rattle.tso_list.specs.Beginnings.{AppendsBeginning}
 
 pub on_err : {A E : Type 0} {P : Type 0} (r : Result A E) → P → OnErr r P
 on_err (Ok x) p = tt

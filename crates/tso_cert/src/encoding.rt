@@ -3,7 +3,7 @@ ghost use Rattle.std.specs.Io.KnownBytes.{Appends};
 ghost use Rattle.std.specs.Prelude.{◌≡◌, ◌++◌, [], IfOk, OnErr, OnOk};
 ghost use Rattle.tso_cert.specs.Certificates.{certificate};
 ghost use Rattle.tso_cert.specs.Trees.{spelling_of, tree_of};
-ghost use Rattle.tso_write.specs.Beginnings.{AppendsBeginning};
+ghost use Rattle.tso_list.specs.Beginnings.{AppendsBeginning};
 
 use crate::cert::Cert;
 use crate::decoding::MAGIC;
@@ -12,7 +12,7 @@ use std::alloc::{AllocError, Global};
 use std::io::Write;
 use tso_code::Code;
 use tso_foot::Table;
-use tso_write::write_bytes;
+use tso_list::write_bytes;
 
 // Puts the spelling of a tree at the end.
 fn write_tree(cert: &Cert, out: &mut Vec<u8>) -> Result<(), AllocError>

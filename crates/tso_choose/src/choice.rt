@@ -4,8 +4,7 @@ ghost use Rattle.std.specs.Prelude.{◌≡◌};
 use std::alloc::{AllocError, Global};
 use std::default::MadeWith;
 use tso_indep::Reason;
-use tso_list::Exact;
-use tso_short::Short;
+use tso_list::{Exact, Short};
 use tso_state::Actor;
 
 /// A chosen actor, with one reason for each other thread, in the rising order of threads. It may be made of any parts.

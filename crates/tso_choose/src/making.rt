@@ -14,7 +14,7 @@ use tso_compact::{StepKind, kind};
 use tso_flow::Checked;
 use tso_foot::Table;
 use tso_indep::{Reason, is_reason};
-use tso_short::Short;
+use tso_list::Short;
 use tso_state::{Actor, Viewed};
 
 // Lists the actors of a set whose numbers are below `upto`, in rising order, from the beginning of `actors` on, and says how

@@ -11,8 +11,8 @@ use std::default::MadeWith;
 use tso_choose::Choice;
 use tso_fifo::Placed;
 use tso_indep::Reason;
+use tso_list::Short;
 use tso_prog::Answer;
-use tso_short::Short;
 use tso_state::Actor;
 
 impl Code for Reason {

@@ -8,8 +8,8 @@ use Rattle.tso_flow.specs.Faults.{HasNoFault}
 use Rattle.tso_parts.proofs.Distinct.{grown_extends}
 use Rattle.tso_parts.proofs.Marked.{of_longer}
 use Rattle.tso_parts.specs.Numbers.{Extends}
-use Rattle.tso_paths.proofs.Cutting.{popped}
-use Rattle.tso_paths.specs.Cuts.{IsLonger}
+use Rattle.tso_list.proofs.Cutting.{popped}
+use Rattle.tso_list.specs.Cuts.{IsLonger}
 use Rattle.tso_pool.specs.Desks.{AreLed, HasMovedAt, IsShardOf}
 use Rattle.tso_pool.specs.Numbering.{IsCopy, near_of}
 use Rattle.tso_pool.specs.declared.moves.Moves.{Moves}

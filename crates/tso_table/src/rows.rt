@@ -8,7 +8,7 @@ ghost use Rattle.tso_table.specs.declared.slot.Slot.TheVariants as slots_of;
 use crate::same::is_viewed;
 use crate::slot::{Near, Slot};
 use std::alloc::AllocError;
-use tso_paths::Paths;
+use tso_list::Paths;
 use tso_state::State;
 use tso_store::{Store, View};
 

@@ -1,8 +1,8 @@
 //! What is kept with each state of a table.
 
 use crate::number::Number;
+use tso_list::Short;
 use tso_rec::End;
-use tso_short::Short;
 use tso_state::State;
 
 /// The numbers of the states after chosen steps, in the order of the choices. Up to two lie in the value itself.

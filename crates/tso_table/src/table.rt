@@ -18,8 +18,7 @@ use std::alloc::{AllocError, Global};
 use std::marker::Model;
 use tso_flow::Checked;
 use tso_foot::Table as Footprints;
-use tso_list::Seq;
-use tso_paths::Paths;
+use tso_list::{Paths, Seq};
 use tso_state::State;
 use tso_store::{AddError, Key, Store, View};
 

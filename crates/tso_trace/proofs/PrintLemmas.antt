@@ -6,8 +6,8 @@ use Rattle.std.specs.Io.KnownBytes.{Appends}
 use Rattle.tso_prog.specs.declared.client.Array.{Array}
 use Rattle.tso_machine.specs.declared.label.Label.{Label}
 use Rattle.tso_trace.specs.Grammar.{ended, header, line_text, lines_text, trace_text}
-use Rattle.tso_write.proofs.BeginningLemmas.{beginning_behind, beginning_of_part}
-use Rattle.tso_write.specs.Beginnings.{AppendsBeginning}
+use Rattle.tso_list.proofs.BeginningLemmas.{beginning_behind, beginning_of_part}
+use Rattle.tso_list.specs.Beginnings.{AppendsBeginning}
 
 -- the next line
 pub printed_more : (arrays : List Array) (labels : List Label) (k : ℕ) (d : Label) (line : List ℕ) (a b c e : Option (List ℕ)) → k < length labels → line ≡ line_text arrays (get_or labels k d)

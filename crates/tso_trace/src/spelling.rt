@@ -6,15 +6,15 @@ ghost use Rattle.std.specs.List.{list_all};
 ghost use Rattle.tso_prog.specs.Limits.{is_short_name};
 ghost use Rattle.tso_trace.specs.Grammar.{access_text, answer_text, call_text, cell_text, fault_text, kind_text, line_text, lines_text};
 ghost use Rattle.tso_trace.specs.Parts.{has_words};
-ghost use Rattle.tso_write.specs.Beginnings.{AppendsBeginning};
+ghost use Rattle.tso_list.specs.Beginnings.{AppendsBeginning};
 
 use crate::cell::cell_of;
 use std::alloc::{AllocError, Global};
 use std::io;
 use std::io::Write;
+use tso_list::write_bytes;
 use tso_machine::{FaultKind, Label, LabelKind};
 use tso_prog::{Answer, Array, CallKind};
-use tso_write::write_bytes;
 
 // Adds the name of an array, whose bytes are ASCII.
 fn push_name(text: &mut String, name: &[u8]) -> Result<(), AllocError>

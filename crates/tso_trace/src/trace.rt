@@ -9,7 +9,7 @@ ghost use Rattle.tso_model.specs.Events.{events_of};
 ghost use Rattle.tso_model.specs.Linear.{IsLinearizable};
 ghost use Rattle.tso_trace.specs.Runs.{first_fault, queue_of, violation_of, IsErrorTrace, IsTraceFault};
 ghost use Rattle.tso_trace.specs.declared.trace.Violation.TheVariants.{NoOrder};
-ghost use Rattle.tso_write.specs.Beginnings.{AppendsBeginning};
+ghost use Rattle.tso_list.specs.Beginnings.{AppendsBeginning};
 
 use crate::fault::TraceFault;
 use crate::good::is_good;
@@ -20,9 +20,8 @@ use std::alloc::{AllocError, Global};
 use std::io;
 use std::io::Write;
 use tso_flow::Checked;
-use tso_list::Seq;
+use tso_list::{Seq, write_bytes};
 use tso_machine::Label;
-use tso_write::write_bytes;
 
 /// What is wrong with a run.
 #[derive(Clone, Copy, Debug, PartialEq, Eq)]

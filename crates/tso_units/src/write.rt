@@ -4,7 +4,7 @@ use std::alloc::Global;
 use std::io;
 use std::io::{Error, ErrorKind, Write};
 use std::test::Fail;
-use tso_write::*;
+use tso_list::*;
 
 // Takes so many bytes at a time, and fails once in its life, at this call.
 #[derive(Drop)]

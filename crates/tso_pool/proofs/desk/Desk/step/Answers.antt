@@ -3,7 +3,7 @@ use Rattle.std.proofs.lemmas.Option.{slice_get_within}
 use Rattle.tso_flow.specs.Faults.{HasNoFault}
 use Rattle.tso_parts.proofs.Distinct.{grown_extends}
 use Rattle.tso_parts.specs.Numbers.{Extends}
-use Rattle.tso_paths.specs.Cuts.{IsLonger}
+use Rattle.tso_list.specs.Cuts.{IsLonger}
 use Rattle.tso_pool.proofs.DeskLemmas.{led_stepped, led_unchanged, small_number}
 use Rattle.tso_pool.specs.Desks.{AreLed}
 use Rattle.tso_prog.specs.declared.client.Client.{Client}

@@ -1,5 +1,5 @@
 use Rattle.std.proofs.Common.{◌≡◌, ◌∙◌, ◌+◌, ◌<◌, ◌^◌, ◌++◌, ◌∷◌, [], List, ℕ, true, false, length, Some, slice_get, refl, sym, ap, arith, rules}
-use Rattle.tso_paths.proofs.Cutting.{popped}
+use Rattle.tso_list.proofs.Cutting.{popped}
 use Rattle.tso_state.specs.declared.state.State.{State}
 use Rattle.tso_table.proofs.RowLemmas.{makes_new, makes_old}
 use Rattle.tso_table.proofs.SoundLemmas.{few_open, sound_push, sound_same}
