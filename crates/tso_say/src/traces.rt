@@ -25,29 +25,19 @@ fn put_no_step(
     put_nexts(alloc, page, checked, before)
 }
 
-// The checked client of a program text, if it is one.
-fn checked_if(alloc: Global, program: &[u8]) -> Option<Checked> {
-    match tso_prog::read(alloc, program) {
-        Ok(client) => tso_flow::check(alloc, client).ok(),
-        Err(_) => None,
-    }
-}
-
 /// Says why a trace of a program is refused: the line with a mark, what each thread could have done there, and what the code means.
 ///
 /// Errors: where a growth was refused.
 pub fn put_trace(
     alloc: Global,
     page: &mut Page,
-    program: &[u8],
+    checked: &Checked,
     text: &[u8],
     fault: &TraceFault,
 ) -> Result<(), AllocError> {
     match fault {
         TraceFault::NotAStep { label } => {
-            if let Some(checked) = checked_if(alloc, program) {
-                put_no_step(alloc, page, &checked, text, *label)?;
-            }
+            put_no_step(alloc, page, checked, text, *label)?;
             put_meaning(alloc, page, "T01")
         }
         TraceFault::NoError => put_meaning(alloc, page, "T02"),

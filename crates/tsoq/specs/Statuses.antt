@@ -1,30 +1,9 @@
--- The status with which the program ends.
+-- The status with which a search ends.
 use Rattle.std.specs.Prelude.{ℕ}
-use Rattle.tso_check.specs.declared.verdict.Verdict.{Verdict}
-use Rattle.tso_check.specs.declared.verdict.Verdict.TheVariants.{Accepted, Rejected}
-use Rattle.tsoq.specs.declared.failure.Failure.{Failure}
-use Rattle.tsoq.specs.declared.failure.Failure.TheVariants.{Usage, NotText, Program, Trace, Limit, CannotRead, CannotWrite, CannotPrint, Memory}
 use Rattle.tsoq.specs.declared.report.Report.{Report}
 use Rattle.tsoq.specs.declared.report.Report.TheVariants.{Certified, Violated}
 
--- where it does not succeed
-abbrev pub status_of : Failure → ℕ
-status_of (Program fault) = 2
-status_of (Trace fault) = 3
-status_of Limit = 4
-status_of Memory = 5
-status_of (CannotRead path) = 6
-status_of (CannotWrite path) = 6
-status_of CannotPrint = 6
-status_of (Usage text) = 64
-status_of NotText = 64
-
--- with which a verdict on a certificate ends
-abbrev pub status_of_verdict : Verdict → ℕ
-status_of_verdict Accepted = 0
-status_of_verdict (Rejected code place) = 3
-
--- with which a report of a search ends
+-- by what is reported of it
 abbrev pub status_of_report : Report → ℕ
 status_of_report (Certified records bytes) = 0
 status_of_report (Violated violation labels bytes) = 1

@@ -1,16 +1,17 @@
 //! The words of the command line.
 
 use crate::asked::{Replay, replay_of, with_flags};
-use crate::explain::explain_command;
 use crate::help;
 use crate::limit::StateLimit;
-use crate::parse::{Parsing, parse_command};
-use crate::people::verbose;
-use clap::error::ErrorKind;
-use clap::{Arg, ArgAction, ArgMatches, Command, Error, value_parser};
+use crate::parse::{Parsing, parse_command, parsing_of};
+use clap::{Arg, ArgAction, ArgMatches, Command, value_parser};
 use std::alloc::{AllocError, Global};
 use tso_cert::Workers;
 use tso_explain::{Topic, find};
+use tso_front::{
+    Check, Ended, Failure, VERSION, check_arguments, check_of, ended_words, misused,
+    program_argument, workers_argument, workers_of,
+};
 
 /// What is searched, how far, and where what is found is written.
 #[derive(Clone, Copy, Debug)]
@@ -26,19 +27,11 @@ pub struct Search<'a> {
     pub progress: bool,
 }
 
-/// Which certificate is decided, for which program, by how many workers.
-#[derive(Clone, Copy, Debug)]
-pub struct Check<'a> {
-    pub program: &'a str,
-    pub cert: &'a str,
-    pub workers: Workers,
-}
-
 /// What the words ask for.
 #[derive(Debug, Drop)]
-pub enum Request<'a> {
-    /// Help, as this text.
-    Help(String),
+pub enum Asked<'a> {
+    /// Help, or the version.
+    Help(Ended),
     /// The search of a program's runs.
     Verify(Search<'a>),
     /// The verdict on a certificate.
@@ -51,24 +44,19 @@ pub enum Request<'a> {
     Explain(Topic),
 }
 
-/// Why the words ask for nothing.
+/// What the words ask for, and whether it is to be said in words, behind the promised lines, why.
 #[derive(Debug, Drop)]
-pub enum Misuse {
-    /// What is wrong with them.
-    Usage(String),
-    Memory,
+pub struct Request<'a> {
+    pub asked: Asked<'a>,
+    pub verbose: bool,
 }
 
-impl From<AllocError> for Misuse {
-    fn from(_e: AllocError) -> Misuse {
-        Misuse::Memory
-    }
-}
-
-fn program_argument<'a>(alloc: Global) -> Arg<'a> {
-    Arg::new(alloc, "FILE")
-        .required(true)
-        .help("the program text")
+// The flag that asks for words.
+fn verbose<'a>(alloc: Global) -> Arg<'a> {
+    Arg::new(alloc, "verbose")
+        .long("verbose")
+        .action(ArgAction::SetTrue)
+        .help("says on standard error, behind the promised lines, why")
 }
 
 // An option with a value, which has to be there.
@@ -78,17 +66,6 @@ fn path_option<'a>(alloc: Global, name: &'a str, value: &'a str, help: &'a str) 
         .value_name(value)
         .action(ArgAction::Set)
         .required(true)
-        .help(help)
-}
-
-// How many workers there are.
-fn workers_option<'a>(alloc: Global, help: &'a str) -> Arg<'a> {
-    Arg::new(alloc, "workers")
-        .long("workers")
-        .value_name("N")
-        .action(ArgAction::Set)
-        .value_parser(value_parser!(u64).range(1..=64))
-        .default_value("1")
         .help(help)
 }
 
@@ -116,22 +93,26 @@ fn verify_command<'a>(alloc: Global) -> Result<Command<'a>, AllocError> {
         .arg(program_argument(alloc))?
         .arg(path_option(alloc, "out", "CERT", "where the certificate is written"))?
         .arg(path_option(alloc, "trace", "TRACE", "where the trace is written"))?
-        .arg(workers_option(alloc, "how many workers search, 1 to 64"))?
+        .arg(workers_argument(alloc, "how many workers search, 1 to 64"))?
         .arg(states)?
         .arg(stats)?
         .arg(progress)
 }
 
 fn check_command<'a>(alloc: Global) -> Result<Command<'a>, AllocError> {
-    let cert = Arg::new(alloc, "CERT")
+    check_arguments(alloc, Command::new(alloc, "check").after_help(help::CHECK))
+}
+
+fn explain_command<'a>(alloc: Global) -> Result<Command<'a>, AllocError> {
+    let code = Arg::new(alloc, "CODE")
         .required(true)
-        .help("the certificate");
-    Command::new(alloc, "check")
-        .about("decides a certificate: where it is accepted, every run of the program is good")
-        .after_help(help::CHECK)
-        .arg(program_argument(alloc))?
-        .arg(cert)?
-        .arg(workers_option(alloc, "how many workers check, 1 to 64"))
+        .help("E01 to E14, K01 to K11 or T01 to T03");
+    Command::new(alloc, "explain")
+        .about(
+            "says what a code means, with a small text that is refused with it and the mended text",
+        )
+        .after_help(help::EXPLAIN)
+        .arg(code)
 }
 
 fn replay_command<'a>(alloc: Global) -> Result<Command<'a>, AllocError> {
@@ -155,13 +136,11 @@ fn replay_command<'a>(alloc: Global) -> Result<Command<'a>, AllocError> {
     with_flags(alloc, command)
 }
 
-/// All the words.
-///
-/// Errors: where a growth was refused.
-pub fn command<'a>(alloc: Global) -> Result<Command<'a>, AllocError> {
+// All the words.
+fn command<'a>(alloc: Global) -> Result<Command<'a>, AllocError> {
     Command::new(alloc, "tsoq")
         .about("checks lock-free ring queues under x86-TSO")
-        .version(help::VERSION)
+        .version(VERSION)
         .after_help(help::PROGRAM)
         .subcommand_required(true)
         .subcommand(verify_command(alloc)?.arg(verbose(alloc))?)?
@@ -171,40 +150,7 @@ pub fn command<'a>(alloc: Global) -> Result<Command<'a>, AllocError> {
         .subcommand(explain_command(alloc)?)
 }
 
-// What an error of the words says.
-fn error_request<'a>(alloc: Global, error: Error) -> Result<Request<'a>, Misuse> {
-    let text = error.to_string(alloc)?;
-    match error.kind() {
-        ErrorKind::DisplayHelp | ErrorKind::DisplayVersion => Ok(Request::Help(text)),
-        ErrorKind::OutOfMemory => Err(Misuse::Memory),
-        _ => Err(Misuse::Usage(text)),
-    }
-}
-
-// A usage fault of which this is said.
-fn misused(alloc: Global, text: &str) -> Misuse {
-    match String::from_str(alloc, text) {
-        Ok(text) => Misuse::Usage(text),
-        Err(_) => Misuse::Memory,
-    }
-}
-
-fn workers_of<'a>(alloc: Global, matches: &ArgMatches<'a>) -> Result<Workers, Misuse> {
-    let Some(workers) = Workers::new(matches.get_one::<u64>("workers").unwrap_or(0)) else {
-        return Err(misused(alloc, "there are 1 to 64 workers\n"));
-    };
-    Ok(workers)
-}
-
-fn check_of<'a>(alloc: Global, check: &ArgMatches<'a>) -> Result<Check<'a>, Misuse> {
-    Ok(Check {
-        program: check.get_str("FILE").unwrap_or(""),
-        cert: check.get_str("CERT").unwrap_or(""),
-        workers: workers_of(alloc, check)?,
-    })
-}
-
-fn search_of<'a>(alloc: Global, verify: &ArgMatches<'a>) -> Result<Search<'a>, Misuse> {
+fn search_of<'a>(alloc: Global, verify: &ArgMatches<'a>) -> Result<Search<'a>, Failure> {
     let workers = workers_of(alloc, verify)?;
     let Some(limit) = StateLimit::new(verify.get_one::<u64>("states").unwrap_or(0)) else {
         return Err(misused(alloc, "the limit is 1 to 4194304 states\n"));
@@ -221,9 +167,9 @@ fn search_of<'a>(alloc: Global, verify: &ArgMatches<'a>) -> Result<Search<'a>, M
 }
 
 // The code that is asked for.
-fn topic_of<'a>(alloc: Global, code: &str) -> Result<Request<'a>, Misuse> {
+fn topic_of(alloc: Global, code: &str) -> Result<Topic, Failure> {
     match find(code) {
-        Some(topic) => Ok(Request::Explain(topic)),
+        Some(topic) => Ok(topic),
         None => Err(misused(
             alloc,
             "the codes are E01 to E14, K01 to K11 and T01 to T03\n",
@@ -231,29 +177,38 @@ fn topic_of<'a>(alloc: Global, code: &str) -> Result<Request<'a>, Misuse> {
     }
 }
 
+// What a command with this name asks for.
+fn asked_of<'a>(alloc: Global, name: &str, found: &ArgMatches<'a>) -> Result<Asked<'a>, Failure> {
+    match name {
+        "verify" => Ok(Asked::Verify(search_of(alloc, found)?)),
+        "check" => Ok(Asked::Check(check_of(alloc, found)?)),
+        "replay" => Ok(Asked::Replay(replay_of(found))),
+        "parse" => Ok(Asked::Parse(parsing_of(found))),
+        _ => {
+            let code = found.get_str("CODE").unwrap_or("");
+            Ok(Asked::Explain(topic_of(alloc, code)?))
+        }
+    }
+}
+
 /// What the words ask for, the program's name first.
-pub fn request_of<'a>(alloc: Global, words: &'a [String]) -> Result<Request<'a>, Misuse> {
+///
+/// Errors: `Usage`; `Memory`.
+pub fn request_of<'a>(alloc: Global, words: &'a [String]) -> Result<Request<'a>, Failure> {
     let matches = match command(alloc)?.try_get_matches_from(words) {
         Ok(matches) => matches,
-        Err(error) => return error_request(alloc, error),
+        Err(error) => {
+            return Ok(Request {
+                asked: Asked::Help(ended_words(alloc, &error)?),
+                verbose: false,
+            });
+        }
     };
-    if let Some(verify) = matches.subcommand_matches("verify") {
-        return Ok(Request::Verify(search_of(alloc, verify)?));
-    }
-    if let Some(check) = matches.subcommand_matches("check") {
-        return Ok(Request::Check(check_of(alloc, check)?));
-    }
-    if let Some(parse) = matches.subcommand_matches("parse") {
-        return Ok(Request::Parse(Parsing {
-            program: parse.get_str("FILE").unwrap_or(""),
-            print: parse.get_flag("print"),
-        }));
-    }
-    if let Some(explain) = matches.subcommand_matches("explain") {
-        return topic_of(alloc, explain.get_str("CODE").unwrap_or(""));
-    }
-    let Some(replay) = matches.subcommand_matches("replay") else {
+    let Some((name, found)) = matches.subcommand() else {
         return Err(misused(alloc, "no command\n"));
     };
-    Ok(Request::Replay(replay_of(replay)))
+    Ok(Request {
+        asked: asked_of(alloc, name, found)?,
+        verbose: found.get_flag("verbose"),
+    })
 }

@@ -11,9 +11,6 @@ pub const PROGRAM: &str = "A first verdict, from the top of the repository:
 `tsoq COMMAND --help` says of each command what it reads and writes, and with which status it ends.
 docs/TUTORIAL.md leads from a queue of your own to its first verdict; docs/LANGUAGE.md has all that may stand in a text.";
 
-/// What `--version` prints behind the program's name.
-pub const VERSION: &str = "0.1.0";
-
 /// Help for `verify`.
 pub const VERIFY: &str =
     "Reads FILE, a program text: the push and the pop of a ring queue in Intel syntax, and the calls of a few

@@ -1,32 +1,9 @@
-//! The files of the system, and its standard error.
+//! The system's standard error, and its clock.
 
-use crate::files::Files;
 use crate::progress::{Distance, Listener};
-use std::io::{Eprint, Read, Write};
-use std::rt::Files as FileRuntime;
+use std::io::Eprint;
 use std::sync::atomic::{AtomicU64, Ordering};
 use std::time::{Clock, Duration};
-use std::{fs, io};
-
-/// Opens the system's files.
-#[derive(Drop)]
-pub struct HostFiles<'a, R: FileRuntime> {
-    pub rt: &'a R,
-}
-
-impl<'a, R: FileRuntime> Files for HostFiles<'a, R> {
-    type Reader = R::File;
-
-    type Writer = R::File;
-
-    fn open(&mut self, path: &str) -> io::Result<R::File> {
-        fs::open(self.rt, path)
-    }
-
-    fn create(&mut self, path: &str) -> io::Result<R::File> {
-        fs::create(self.rt, path)
-    }
-}
 
 /// Says on standard error how far a search has come, at most twice a second, by a clock that started when the program did.
 #[derive(Drop)]

@@ -1,69 +1,84 @@
 //! The file that shows a run as a page.
 
-use crate::failure::Failure;
-use crate::files::Files;
+use crate::asked::Replay;
 use crate::report::Wrong;
+use crate::show::show_failure;
 use std::alloc::Global;
-use std::io::{ErrorKind, Write};
+use std::io::Write;
+use tso_flow::Checked;
+use tso_front::{Failure, Files, Session, cannot_write};
 use tso_page::{Run, page_of};
 use tso_show::{Replayed, ShowError};
 
-// Why the page is not written, where a write of it gave this kind of error.
-fn write_failure(alloc: Global, path: &str, kind: ErrorKind) -> Failure {
-    if let ErrorKind::OutOfMemory = kind {
-        return Failure::Memory;
-    }
-    match String::from_str(alloc, path) {
-        Ok(path) => Failure::CannotWrite(path),
-        Err(_) => Failure::Memory,
-    }
-}
-
 // Writes these bytes to a new file.
-fn write_file<F: Files>(
-    alloc: Global,
-    files: &mut F,
+fn write_file<F: Files, O: Write, E: Write>(
+    session: &mut Session<'_, F, O, E>,
     path: &str,
     bytes: &[u8],
 ) -> Result<(), Failure> {
-    let mut file = match files.create(path) {
+    let mut file = match session.files.create(path) {
         Ok(file) => file,
-        Err(error) => return Err(write_failure(alloc, path, error.kind())),
+        Err(error) => return Err(cannot_write(session.alloc, path, error.kind())),
     };
     if let Err(error) = file.write_all(bytes) {
-        return Err(write_failure(alloc, path, error.kind()));
+        return Err(cannot_write(session.alloc, path, error.kind()));
     }
     match file.flush() {
         Ok(()) => Ok(()),
-        Err(error) => Err(write_failure(alloc, path, error.kind())),
+        Err(error) => Err(cannot_write(session.alloc, path, error.kind())),
     }
 }
 
-/// What is wrong with a run, in words, if something is.
-pub fn wrong_words(alloc: Global, run: &Replayed) -> Result<Option<String>, Failure> {
+// What is wrong with a run, in words, if something is.
+fn wrong_words(alloc: Global, run: &Replayed) -> Result<Option<String>, Failure> {
     match run.violation() {
         Some(violation) => Ok(Some(Wrong(violation).to_string(alloc)?)),
         None => Ok(None),
     }
 }
 
-// Why a page is not made. Its bytes are put together in memory, so that a write of them fails for want of memory alone.
-fn page_failure(error: ShowError) -> Failure {
-    match error {
-        ShowError::Write => Failure::Memory,
-        error => error.into(),
+// The page of a run. Its bytes are put together in memory, so that a write of them fails for want of memory alone.
+fn page_bytes(alloc: Global, run: &Run<'_>) -> Result<Vec<u8>, Failure> {
+    match page_of(alloc, run) {
+        Ok(bytes) => Ok(bytes),
+        Err(ShowError::Write) => Err(Failure::Memory),
+        Err(error) => Err(show_failure(&error)),
     }
 }
 
-/// Writes a run as a page to a new file.
-///
-/// Errors: `CannotWrite` where the file failed; `Memory`.
-pub fn write_page<F: Files>(
-    alloc: Global,
-    files: &mut F,
-    run: &Run<'_>,
+// Writes a run as a page to a new file.
+fn write_run<F: Files, O: Write, E: Write>(
+    session: &mut Session<'_, F, O, E>,
+    checked: &Checked,
+    program: &[u8],
+    run: &Replayed,
+    name: &str,
     path: &str,
 ) -> Result<(), Failure> {
-    let page = page_of(alloc, run).map_err(page_failure)?;
-    write_file(alloc, files, path, &page)
+    let words = wrong_words(session.alloc, run)?;
+    let shown = Run {
+        checked,
+        labels: run.labels(),
+        source: program,
+        name,
+        wrong: words.as_deref(),
+    };
+    let bytes = page_bytes(session.alloc, &shown)?;
+    write_file(session, path, &bytes)
+}
+
+/// Writes a run as a page to a new file, where that is asked for.
+///
+/// Errors: `CannotWrite` where the file failed; `Memory`.
+pub fn write_page<F: Files, O: Write, E: Write>(
+    session: &mut Session<'_, F, O, E>,
+    checked: &Checked,
+    program: &[u8],
+    run: &Replayed,
+    asked: &Replay<'_>,
+) -> Result<(), Failure> {
+    match asked.html {
+        Some(path) => write_run(session, checked, program, run, asked.program, path),
+        None => Ok(()),
+    }
 }

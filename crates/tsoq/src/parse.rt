@@ -4,11 +4,11 @@ ghost use Rattle.std.specs.Prelude.{IfOk};
 ghost use Rattle.std.specs.String.{string_bytes};
 ghost use Rattle.tsoq.specs.Parsed.{IsParsed};
 
-use crate::failure::Failure;
 use crate::help;
-use clap::{Arg, ArgAction, Command};
+use clap::{Arg, ArgAction, ArgMatches, Command};
 use std::alloc::{AllocError, Global};
 use tso_check::checked_of;
+use tso_front::{Failure, program_argument};
 use tso_say::parsed;
 
 /// A program text that is to be parsed, and whether its canonical text is printed.
@@ -32,9 +32,6 @@ pub fn parse(alloc: Global, program: &[u8], prints: bool) -> Result<String, Fail
 ///
 /// Errors: where a growth was refused.
 pub fn parse_command<'a>(alloc: Global) -> Result<Command<'a>, AllocError> {
-    let program = Arg::new(alloc, "FILE")
-        .required(true)
-        .help("the program text");
     let print = Arg::new(alloc, "print")
         .long("print")
         .action(ArgAction::SetTrue)
@@ -44,6 +41,14 @@ pub fn parse_command<'a>(alloc: Global) -> Result<Command<'a>, AllocError> {
             "reads a program, and says whether it is accepted and how many labels its runs have at most",
         )
         .after_help(help::PARSE)
-        .arg(program)?
+        .arg(program_argument(alloc))?
         .arg(print)
+}
+
+/// What the words of `parse` ask for.
+pub fn parsing_of<'a>(parse: &ArgMatches<'a>) -> Parsing<'a> {
+    Parsing {
+        program: parse.get_str("FILE").unwrap_or(""),
+        print: parse.get_flag("print"),
+    }
 }

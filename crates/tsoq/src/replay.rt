@@ -2,53 +2,66 @@
 
 ghost use Rattle.std.specs.Prelude.{◌≡◌, ◌+◌, ◌≤◌, length, IfOk, OnOk};
 
-use crate::failure::Failure;
 use crate::report::Wrong;
-use std::alloc::Global;
+use std::alloc::{AllocError, Global};
 use std::io::Write;
 use tso_flow::ProcedureKind;
+use tso_front::{Failure, Files, Session};
 use tso_list::Seq;
 use tso_machine::{Core, Machine, Running, Stage, Thread};
 use tso_prog::Array;
 use tso_trace::{Cursor, Trace, cell_name};
 
-/// Writes a text and a newline.
-pub fn put_line<W: Write>(out: &mut W, text: &str) -> Result<(), Failure> {
-    out.write_all(text.as_bytes())
-        .map_err(|_| Failure::CannotPrint)?;
-    out.write_all(b"\n").map_err(|_| Failure::CannotPrint)
+// Prints a text and a newline.
+fn put_line<F: Files, O: Write, E: Write>(
+    session: &mut Session<'_, F, O, E>,
+    text: &str,
+) -> Result<(), Failure> {
+    session.print(text)?;
+    session.print("\n")
 }
 
 // The labels up to this number, one a line behind its number.
-fn put_labels<W: Write>(
-    alloc: Global,
-    out: &mut W,
+fn put_labels<F: Files, O: Write, E: Write>(
+    session: &mut Session<'_, F, O, E>,
     trace: &Trace,
     to: usize,
 ) -> Result<(), Failure> {
     for number in 1..=to.min(trace.labels.len()) {
         let line = trace.line(number)?;
-        put_line(out, format!(in alloc; "{number:>6} {line}")?.as_str())?;
+        let text = format!(in session.alloc; "{number:>6} {line}")?;
+        put_line(session, text.as_str())?;
     }
     Ok(())
 }
 
+// A cell and its word.
+fn put_cell<F: Files, O: Write, E: Write>(
+    session: &mut Session<'_, F, O, E>,
+    arrays: &[Array],
+    before: &str,
+    place: usize,
+    word: u64,
+) -> Result<(), Failure> {
+    let cell = cell_name(session.alloc, arrays, place)?;
+    let text = format!(in session.alloc; "{before}{cell} = {word}")?;
+    put_line(session, text.as_str())
+}
+
 // Each word of memory.
-fn put_memory<W: Write>(
-    alloc: Global,
-    out: &mut W,
+fn put_memory<F: Files, O: Write, E: Write>(
+    session: &mut Session<'_, F, O, E>,
     arrays: &[Array],
     memory: &Seq<u64>,
 ) -> Result<(), Failure> {
     for (place, word) in memory.as_slice().iter().enumerate() {
-        let cell = cell_name(alloc, arrays, place)?;
-        put_line(out, format!(in alloc; "{cell} = {word}")?.as_str())?;
+        put_cell(session, arrays, "", place, *word)?;
     }
     Ok(())
 }
 
 // A running call by its procedure and its next instruction.
-fn push_running(text: &mut String, running: &Running) -> Result<(), Failure> {
+fn push_running(text: &mut String, running: &Running) -> Result<(), AllocError> {
     let pc = running.frame.pc;
     match running.procedure {
         ProcedureKind::Push => write!(text, "at push {pc}")?,
@@ -60,46 +73,46 @@ fn push_running(text: &mut String, running: &Running) -> Result<(), Failure> {
     Ok(())
 }
 
-// A thread's line, and a line for each entry of its buffer.
-fn put_thread<W: Write>(
-    alloc: Global,
-    out: &mut W,
-    arrays: &[Array],
-    number: usize,
-    thread: &Thread,
-) -> Result<(), Failure> {
+// What a thread is at.
+fn core_text(alloc: Global, number: usize, core: &Core) -> Result<String, AllocError> {
     let mut text = format!(in alloc; "thread {number} ")?;
-    match &thread.core {
+    match core {
         Core::Idle => text.push_str("idle")?,
         Core::Running(running) => push_running(&mut text, running)?,
         Core::Stopped => text.push_str("stopped")?,
     }
-    put_line(out, text.as_str())?;
+    Ok(text)
+}
+
+// A thread's line, and a line for each entry of its buffer.
+fn put_thread<F: Files, O: Write, E: Write>(
+    session: &mut Session<'_, F, O, E>,
+    arrays: &[Array],
+    number: usize,
+    thread: &Thread,
+) -> Result<(), Failure> {
+    let text = core_text(session.alloc, number, &thread.core)?;
+    put_line(session, text.as_str())?;
     for entry in thread.buffer.live() {
-        let cell = cell_name(alloc, arrays, entry.place)?;
-        let word = entry.word;
-        put_line(out, format!(in alloc; "  buffer {cell} = {word}")?.as_str())?;
+        put_cell(session, arrays, "  buffer ", entry.place, entry.word)?;
     }
     Ok(())
 }
 
-/// Writes each word of memory, and each thread with its store buffer.
-pub fn put_state<W: Write>(
-    alloc: Global,
-    out: &mut W,
+/// Prints after which label the state is, each word of memory, and each thread with its store buffer.
+pub fn put_state_after<F: Files, O: Write, E: Write>(
+    session: &mut Session<'_, F, O, E>,
     arrays: &[Array],
     machine: &Machine,
+    to: usize,
 ) -> Result<(), Failure> {
-    put_memory(alloc, out, arrays, &machine.memory)?;
+    let text = format!(in session.alloc; "state after {to}")?;
+    put_line(session, text.as_str())?;
+    put_memory(session, arrays, &machine.memory)?;
     for (number, thread) in machine.threads.as_slice().iter().enumerate() {
-        put_thread(alloc, out, arrays, number, thread)?;
+        put_thread(session, arrays, number, thread)?;
     }
     Ok(())
-}
-
-fn put_violation<W: Write>(alloc: Global, out: &mut W, trace: &Trace) -> Result<(), Failure> {
-    let wrong = Wrong(trace.violation());
-    put_line(out, format!(in alloc; "{wrong}")?.as_str())
 }
 
 // Takes so many labels.
@@ -139,9 +152,8 @@ fn walked<'a>(alloc: Global, trace: &'a Trace, to: usize) -> Result<Cursor<'a>, 
 }
 
 /// Prints the labels of a trace up to label `to`, or all, the state after them, and at the end what is wrong with the run.
-pub fn print_replay<W: Write>(
-    alloc: Global,
-    out: &mut W,
+pub fn print_replay<F: Files, O: Write, E: Write>(
+    session: &mut Session<'_, F, O, E>,
     trace: &Trace,
     to: Option<u64>,
 ) -> Result<(), Failure> {
@@ -150,17 +162,17 @@ pub fn print_replay<W: Write>(
         Some(to) => (to as usize).min(len),
         None => len,
     };
-    let cursor = walked(alloc, trace, to)?;
-    put_labels(alloc, out, trace, to)?;
-    put_line(out, format!(in alloc; "state after {to}")?.as_str())?;
-    put_state(
-        alloc,
-        out,
+    let cursor = walked(session.alloc, trace, to)?;
+    put_labels(session, trace, to)?;
+    put_state_after(
+        session,
         trace.checked.client.arrays.as_slice(),
         cursor.machine(),
+        to,
     )?;
     if to == len {
-        put_violation(alloc, out, trace)?;
+        session.print_shown(&Wrong(trace.violation()))?;
+        session.print("\n")?;
     }
     Ok(())
 }

@@ -1,151 +1,118 @@
 //! The program over its words, files and streams.
 
-ghost use Rattle.std.specs.Prelude.{◌≡◌};
-ghost use Rattle.tsoq.specs.Statuses.{status_of, status_of_verdict};
-
 use crate::asked::Replay;
-use crate::command::{Check, Misuse, Request, Search, request_of};
-use crate::failure::Failure;
-use crate::files::{FileFailure, Files, read_up_to};
-use crate::page::{write_page, wrong_words};
+use crate::command::{Asked, Request, Search, request_of};
+use crate::page::write_page;
 use crate::parse::{Parsing, parse};
 use crate::people::{tell, tell_verdict};
 use crate::progress::{Listener, Progress};
+use crate::report::Report;
 use crate::show::{print_run, run_of};
 use crate::verify::verify;
-use crate::words::words_of;
 use std::alloc::{Alloc, Global};
 use std::env::Env;
-use std::io::{BufWriter, Write};
+use std::io::Write;
 use std::sync::Wait;
 use std::thread::Threads;
-use tso_cert::NoWatch;
-use tso_check::{Verdict, check_with};
+use std::time::Duration;
+use tso_check::checked_of;
 use tso_explain::Topic;
-use tso_page::Run;
+use tso_front::{Check, Failure, Files, Session, check_bytes, reported, started, verdict_status};
 use tso_say::explanation;
-
-/// A program text has at most 65,536 bytes, so one more shows that it is too long.
-pub const PROGRAM_BYTES: usize = 65_537;
 
 /// A trace text has at most 64 MiB, so one byte more shows that it is too long.
 pub const TRACE_BYTES: usize = 64 * 1024 * 1024;
 
-// A file's bytes, or the failure that names it.
-fn read_file<F: Files>(
-    alloc: Global,
-    files: &mut F,
-    path: &str,
-    limit: usize,
-) -> Result<Vec<u8>, Failure> {
-    match read_up_to(alloc, files, path, limit) {
-        Ok(bytes) => Ok(bytes),
-        Err(FileFailure::Unreadable) => Err(Failure::CannotRead(String::from_str(alloc, path)?)),
-        Err(FileFailure::Memory) => Err(Failure::Memory),
-    }
-}
-
-fn print<O: Write>(out: &mut O, text: &str) -> Result<(), Failure> {
-    out.write_all(text.as_bytes())
-        .map_err(|_| Failure::CannotPrint)
-}
-
-// The status with which a verdict ends.
-fn verdict_status(verdict: Verdict) -> u8
-    ensures { result ≡ status_of_verdict verdict }
-{
-    match verdict {
-        Verdict::Accepted => 0,
-        Verdict::Rejected { .. } => 3,
-    }
+/// What was read of the files that a command names.
+#[derive(Drop)]
+pub struct Texts {
+    pub program: Vec<u8>,
+    /// The trace of a replay.
+    pub trace: Vec<u8>,
 }
 
 // The page is written first: where a file fails, nothing was printed.
-fn replay<F: Files, O: Write>(
-    alloc: Global,
-    files: &mut F,
-    out: &mut O,
+fn replay<F: Files, O: Write, E: Write>(
+    session: &mut Session<'_, F, O, E>,
+    texts: &mut Texts,
     asked: &Replay<'_>,
-) -> Result<(), Failure> {
-    let program = read_file(alloc, files, asked.program, PROGRAM_BYTES)?;
-    let text = read_file(alloc, files, asked.trace, TRACE_BYTES + 1)?;
-    let client = tso_prog::read(alloc, &program)?;
-    let checked = tso_flow::check(alloc, client)?;
-    let run = run_of(alloc, &checked, &text, TRACE_BYTES, asked.partial)?;
-    let name = String::from_str(alloc, asked.program)?;
-    let words = wrong_words(alloc, &run)?;
-    let wrong = words.as_deref();
-    let shown = Run {
-        checked: &checked,
-        labels: run.labels(),
-        source: program.as_slice(),
-        name: name.as_str(),
-        wrong,
-    };
-    if let Some(path) = asked.html {
-        write_page(alloc, files, &shown, path)?;
-    }
-    print_run(alloc, out, &checked, &program, &run, asked)
+) -> Result<u8, Failure> {
+    texts.program = session.read_program(asked.program)?;
+    texts.trace = session.read(asked.trace, TRACE_BYTES + 1)?;
+    let checked = checked_of(session.alloc, &texts.program)?;
+    let run = run_of(session.alloc, &checked, &texts.trace, TRACE_BYTES, asked.partial)?;
+    write_page(session, &checked, &texts.program, &run, asked)?;
+    print_run(session, &checked, &texts.program, &run, asked)?;
+    Ok(0)
 }
 
 fn check<R: Threads + Wait + Sync, F: Files, O: Write, E: Write>(
     rt: &R,
-    alloc: Global,
-    words: &[String],
-    files: &mut F,
-    out: &mut O,
-    err: &mut E,
-    check: &Check<'_>,
+    session: &mut Session<'_, F, O, E>,
+    texts: &mut Texts,
+    asked: &Check<'_>,
+    verbose: bool,
 ) -> Result<u8, Failure> {
-    let program = read_file(alloc, files, check.program, PROGRAM_BYTES)?;
-    let cert = read_file(alloc, files, check.cert, usize::MAX)?;
-    let verdict = check_with(rt, alloc, &program, &cert, check.workers, &NoWatch)?;
-    let line = verdict.to_string(alloc)?;
-    print(out, &line)?;
-    print(out, "\n")?;
-    out.flush().map_err(|_| Failure::CannotPrint)?;
-    tell_verdict(alloc, words, err, verdict);
+    texts.program = session.read_program(asked.program)?;
+    let verdict = check_bytes(rt, session, &texts.program, asked)?;
+    if verbose {
+        tell_verdict(session, verdict);
+    }
     Ok(verdict_status(verdict))
 }
 
-fn parse_file<F: Files, O: Write>(
-    alloc: Global,
-    files: &mut F,
-    out: &mut O,
-    asked: Parsing<'_>,
-) -> Result<(), Failure> {
-    let program = read_file(alloc, files, asked.program, PROGRAM_BYTES)?;
-    let text = parse(alloc, &program, asked.print)?;
-    print(out, &text)
+fn parse_file<F: Files, O: Write, E: Write>(
+    session: &mut Session<'_, F, O, E>,
+    texts: &mut Texts,
+    asked: &Parsing<'_>,
+) -> Result<u8, Failure> {
+    texts.program = session.read_program(asked.program)?;
+    let text = parse(session.alloc, &texts.program, asked.print)?;
+    session.print(text.as_str())?;
+    Ok(0)
 }
 
-fn explain<O: Write>(alloc: Global, out: &mut O, topic: Topic) -> Result<(), Failure> {
-    let page = explanation(alloc, topic)?;
-    out.write_all(&page.bytes).map_err(|_| Failure::CannotPrint)
+fn explain<F: Files, O: Write, E: Write>(
+    session: &mut Session<'_, F, O, E>,
+    topic: Topic,
+) -> Result<u8, Failure> {
+    let page = explanation(session.alloc, topic)?;
+    session.print_bytes(&page.bytes)?;
+    Ok(0)
+}
+
+// Says how much was met and written, and in what time.
+fn put_stats<F: Files, L: Listener, O: Write, E: Write>(
+    session: &mut Session<'_, F, O, E>,
+    watch: &Progress<'_, L>,
+    report: Report,
+    begun: Option<Duration>,
+) -> Result<(), Failure> {
+    let times = watch.times(begun);
+    session.flush()?;
+    let sizes = report.sizes(watch.states()).to_string(session.alloc)?;
+    session.note(sizes.as_bytes());
+    if let Some(times) = times {
+        let text = times.to_string(session.alloc)?;
+        session.note(text.as_bytes());
+    }
+    Ok(())
 }
 
 fn search<R: Threads + Wait + Sync, F: Files, L: Listener + Sync, O: Write, E: Write>(
     rt: &R,
-    alloc: Global,
-    files: &mut F,
+    session: &mut Session<'_, F, O, E>,
+    texts: &mut Texts,
     listener: &L,
-    out: &mut O,
-    err: &mut E,
-    search: &Search<'_>,
+    asked: &Search<'_>,
 ) -> Result<u8, Failure> {
     let begun = listener.elapsed();
-    let program = read_file(alloc, files, search.program, PROGRAM_BYTES)?;
-    let watch = Progress::new(listener, search.progress);
-    let report = verify(rt, alloc, files, &program, search, &watch)?;
-    let times = watch.times(begun);
-    print(out, &report.to_string(alloc)?)?;
-    if search.stats {
-        out.flush().map_err(|_| Failure::CannotPrint)?;
-        let sizes = report.sizes(watch.states()).to_string(alloc)?;
-        let _ = err.write_all(sizes.as_bytes());
-        if let Some(times) = times {
-            let _ = err.write_all(times.to_string(alloc)?.as_bytes());
-        }
+    texts.program = session.read_program(asked.program)?;
+    let watch = Progress::new(listener, asked.progress);
+    let report = verify(rt, session.alloc, session.files, &texts.program, asked, &watch)?;
+    session.print_shown(&report)?;
+    if asked.stats {
+        put_stats(session, &watch, report, begun)?;
     }
     Ok(report.status())
 }
@@ -153,61 +120,58 @@ fn search<R: Threads + Wait + Sync, F: Files, L: Listener + Sync, O: Write, E: W
 // Does what the words ask for, and gives the status.
 fn perform<R: Threads + Wait + Sync, F: Files, L: Listener + Sync, O: Write, E: Write>(
     rt: &R,
-    alloc: Global,
-    words: &[String],
-    files: &mut F,
+    session: &mut Session<'_, F, O, E>,
+    texts: &mut Texts,
     listener: &L,
-    out: &mut O,
-    err: &mut E,
+    request: &Request<'_>,
 ) -> Result<u8, Failure> {
-    match request_of(alloc, words) {
-        Ok(Request::Help(text)) => {
-            print(out, &text)?;
+    match &request.asked {
+        Asked::Help(text) => {
+            session.print(text.0.as_str())?;
             Ok(0)
         }
-        Ok(Request::Verify(asked)) => search(rt, alloc, files, listener, out, err, &asked),
-        Ok(Request::Check(asked)) => check(rt, alloc, words, files, out, err, &asked),
-        Ok(Request::Replay(asked)) => {
-            replay(alloc, files, out, &asked)?;
-            Ok(0)
-        }
-        Ok(Request::Parse(asked)) => {
-            parse_file(alloc, files, out, asked)?;
-            Ok(0)
-        }
-        Ok(Request::Explain(topic)) => {
-            explain(alloc, out, topic)?;
-            Ok(0)
-        }
-        Err(Misuse::Usage(text)) => Err(Failure::Usage(text)),
-        Err(Misuse::Memory) => Err(Failure::Memory),
+        Asked::Verify(asked) => search(rt, session, texts, listener, asked),
+        Asked::Check(asked) => check(rt, session, texts, asked, request.verbose),
+        Asked::Replay(asked) => replay(session, texts, asked),
+        Asked::Parse(asked) => parse_file(session, texts, asked),
+        Asked::Explain(topic) => explain(session, *topic),
     }
 }
 
 // The same, with all that was printed written out.
 fn perform_all<R: Threads + Wait + Sync, F: Files, L: Listener + Sync, O: Write, E: Write>(
     rt: &R,
-    alloc: Global,
-    words: &[String],
-    files: &mut F,
+    session: &mut Session<'_, F, O, E>,
+    texts: &mut Texts,
     listener: &L,
-    out: &mut O,
-    err: &mut E,
+    request: &Request<'_>,
 ) -> Result<u8, Failure> {
-    let status = perform(rt, alloc, words, files, listener, out, err)?;
-    out.flush().map_err(|_| Failure::CannotPrint)?;
+    let status = perform(rt, session, texts, listener, request)?;
+    session.flush()?;
     Ok(status)
 }
 
-// Says on standard error what failed, and gives the status.
-fn reported<E: Write>(alloc: Global, err: &mut E, failure: &Failure) -> u8
-    ensures { result ≡ status_of failure.now }
-{
-    if let Ok(text) = failure.to_string(alloc) {
-        let _ = err.write_all(text.as_bytes());
-        let _ = err.flush();
+// Does what the words ask for, and where it does not succeed says why.
+fn answer<R: Threads + Wait + Sync, F: Files, L: Listener + Sync, O: Write, E: Write>(
+    rt: &R,
+    session: &mut Session<'_, F, O, E>,
+    listener: &L,
+    request: &Request<'_>,
+) -> u8 {
+    let mut texts = Texts {
+        program: Vec::new(session.alloc),
+        trace: Vec::new(session.alloc),
+    };
+    match perform_all(rt, session, &mut texts, listener, request) {
+        Ok(status) => status,
+        Err(failure) => {
+            let status = session.report(&failure);
+            if request.verbose {
+                tell(session, &request.asked, &texts, &failure);
+            }
+            status
+        }
     }
-    failure.status()
 }
 
 /// Runs the program: its words, with its own name first; what opens its files; what hears of a search; its standard output and
@@ -221,25 +185,15 @@ pub fn run<R: Threads + Wait + Sync, F: Files, L: Listener + Sync, O: Write, E: 
     out: &mut O,
     err: &mut E,
 ) -> u8 {
-    match perform_all(rt, alloc, words, files, listener, out, err) {
-        Ok(status) => status,
-        Err(failure) => {
-            let status = reported(alloc, err, &failure);
-            tell(alloc, words, files, err, &failure);
-            status
-        }
-    }
-}
-
-// The words of the command line, and a buffer before standard output.
-fn started<R: Env + Alloc<A = Global>, O: Write + Drop>(
-    rt: &R,
-    out: O,
-) -> Result<(Vec<String>, BufWriter<O>), Failure> {
-    let words = words_of(rt)?;
-    match BufWriter::new(rt.alloc(), out) {
-        Ok(out) => Ok((words, out)),
-        Err(_) => Err(Failure::Memory),
+    let mut session = Session {
+        alloc,
+        files,
+        out,
+        err,
+    };
+    match request_of(alloc, words) {
+        Ok(request) => answer(rt, &mut session, listener, &request),
+        Err(failure) => session.report(&failure),
     }
 }
 
@@ -252,7 +206,14 @@ pub fn run_process<
     L: Listener + Sync,
     O: Write + Drop,
     E: Write,
->(rt: &R, system: &S, files: &mut F, listener: &L, out: O, err: &mut E) -> u8 {
+>(
+    rt: &R,
+    system: &S,
+    files: &mut F,
+    listener: &L,
+    out: O,
+    err: &mut E,
+) -> u8 {
     let alloc = system.alloc();
     match started(system, out) {
         Ok((words, mut out)) => {

@@ -1,23 +1,24 @@
 //! A replay that shows more than labels, the state and what is wrong.
 
 use crate::asked::Replay;
-use crate::failure::Failure;
 use crate::length::trace_within;
-use crate::replay::{print_replay, put_line, put_state};
+use crate::replay::{print_replay, put_state_after};
 use crate::report::Wrong;
 use std::alloc::Global;
 use std::io::Write;
 use tso_flow::Checked;
-use tso_show::{Replayed, ShowError, Walk, print_calls, print_labels, print_order, read_run};
+use tso_front::{Failure, Files, Session};
+use tso_show::{
+    Replayed, Show, ShowError, Walk, print_calls, print_labels, print_order, read_run,
+};
 use tso_trace::{TraceFault, Violation};
 
-impl From<ShowError> for Failure {
-    fn from(e: ShowError) -> Failure {
-        match e {
-            ShowError::NotAStep { label } => Failure::Trace(TraceFault::NotAStep { label }),
-            ShowError::Write => Failure::CannotPrint,
-            ShowError::Memory => Failure::Memory,
-        }
+/// Why a run is not shown to its end.
+pub fn show_failure(error: &ShowError) -> Failure {
+    match error {
+        ShowError::NotAStep { label } => Failure::Trace(TraceFault::NotAStep { label: *label }),
+        ShowError::Write => Failure::CannotPrint,
+        ShowError::Memory => Failure::Memory,
     }
 }
 
@@ -40,25 +41,44 @@ pub fn run_of(
 }
 
 // Prints what is wrong, or that nothing is.
-fn put_wrong<W: Write>(
-    alloc: Global,
-    out: &mut W,
+fn put_wrong<F: Files, O: Write, E: Write>(
+    session: &mut Session<'_, F, O, E>,
     violation: Option<Violation>,
 ) -> Result<(), Failure> {
     match violation {
-        Some(violation) => {
-            let wrong = Wrong(violation);
-            put_line(out, format!(in alloc; "{wrong}")?.as_str())
-        }
-        None => put_line(out, "no violation"),
+        Some(violation) => session.print_shown(&Wrong(violation))?,
+        None => session.print("no violation")?,
     }
+    session.print("\n")
+}
+
+// Prints the labels of a run up to a label, with what is shown of each.
+fn put_labels<F: Files, O: Write, E: Write>(
+    session: &mut Session<'_, F, O, E>,
+    walk: &mut Walk<'_>,
+    source: &[u8],
+    show: Show,
+    to: usize,
+) -> Result<(), Failure> {
+    print_labels(session.alloc, session.out, walk, source, show, to)
+        .map_err(|error| show_failure(&error))
+}
+
+// Prints the calls of a run that was walked, and how far they have an order.
+fn put_calls<F: Files, O: Write, E: Write>(
+    session: &mut Session<'_, F, O, E>,
+    walk: &Walk<'_>,
+) -> Result<(), Failure> {
+    if let Err(error) = print_calls(session.alloc, session.out, walk.taken()) {
+        return Err(show_failure(&error));
+    }
+    print_order(session.alloc, session.out, walk).map_err(|error| show_failure(&error))
 }
 
 // Prints the labels of a run up to label `to`, or all, with what is shown of each, and the state after them; at the end what
 // is wrong; and its calls, where they are asked for.
-fn print_shown<W: Write>(
-    alloc: Global,
-    out: &mut W,
+fn print_shown<F: Files, O: Write, E: Write>(
+    session: &mut Session<'_, F, O, E>,
     checked: &Checked,
     source: &[u8],
     run: &Replayed,
@@ -69,31 +89,28 @@ fn print_shown<W: Write>(
         Some(to) => (to as usize).min(labels.len()),
         None => labels.len(),
     };
-    let mut walk = Walk::new(alloc, checked, labels)?;
-    print_labels(alloc, out, &mut walk, source, asked.show, to)?;
-    put_line(out, format!(in alloc; "state after {to}")?.as_str())?;
-    put_state(alloc, out, checked.client.arrays.as_slice(), walk.machine())?;
+    let mut walk = Walk::new(session.alloc, checked, labels)?;
+    put_labels(session, &mut walk, source, asked.show, to)?;
+    put_state_after(session, checked.client.arrays.as_slice(), walk.machine(), to)?;
     if to == labels.len() {
-        put_wrong(alloc, out, run.violation())?;
+        put_wrong(session, run.violation())?;
     }
     if asked.history {
-        print_calls(alloc, out, walk.taken())?;
-        print_order(alloc, out, &walk)?;
+        put_calls(session, &walk)?;
     }
     Ok(())
 }
 
 /// Prints a run with all that is asked for. Where nothing is asked for, and something is wrong, it is `print_replay`.
-pub fn print_run<W: Write>(
-    alloc: Global,
-    out: &mut W,
+pub fn print_run<F: Files, O: Write, E: Write>(
+    session: &mut Session<'_, F, O, E>,
     checked: &Checked,
     source: &[u8],
     run: &Replayed,
     asked: &Replay<'_>,
 ) -> Result<(), Failure> {
     match run {
-        Replayed::Erring(trace) if asked.is_plain() => print_replay(alloc, out, trace, asked.to),
-        _ => print_shown(alloc, out, checked, source, run, asked),
+        Replayed::Erring(trace) if asked.is_plain() => print_replay(session, trace, asked.to),
+        _ => print_shown(session, checked, source, run, asked),
     }
 }

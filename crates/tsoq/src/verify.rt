@@ -7,36 +7,19 @@ ghost use Rattle.tsoq.specs.Reports.{IsOfLabels, IsOfRecords, IsReport};
 
 use crate::command::Search;
 use crate::counted::Counted;
-use crate::failure::Failure;
-use crate::files::Files;
 use crate::progress::{Listener, Progress};
 use crate::report::Report;
 use std::alloc::Global;
-use std::io::{BufWriter, ErrorKind, Write};
+use std::io::{BufWriter, Write};
 use std::sync::Wait;
 use std::thread::Threads;
-use std::{io, mem};
+use std::mem;
 use tso_cert::{Cert, WriteError};
 use tso_check::checked_of;
 use tso_explore::{Outcome, explore};
 use tso_foot::Table;
+use tso_front::{Failure, Files, cannot_write};
 use tso_trace::Trace;
-
-// The failure that names a file that is not written.
-fn cannot_write(alloc: Global, path: &str) -> Failure {
-    match String::from_str(alloc, path) {
-        Ok(path) => Failure::CannotWrite(path),
-        Err(_) => Failure::Memory,
-    }
-}
-
-// Why a file is not written, where a write of it gave this error.
-fn write_failure(alloc: Global, path: &str, error: &io::Error) -> Failure {
-    match error.kind() {
-        ErrorKind::OutOfMemory => Failure::Memory,
-        _ => cannot_write(alloc, path),
-    }
-}
 
 // A new file at this path, with a buffer before it.
 fn created<F: Files>(
@@ -44,12 +27,12 @@ fn created<F: Files>(
     files: &mut F,
     path: &str,
 ) -> Result<Counted<BufWriter<F::Writer>>, Failure> {
-    let Ok(file) = files.create(path) else {
-        return Err(cannot_write(alloc, path));
-    };
-    match BufWriter::new(alloc, file) {
-        Ok(out) => Ok(Counted { out, bytes: 0 }),
-        Err(_) => Err(Failure::Memory),
+    match files.create(path) {
+        Ok(file) => match BufWriter::new(alloc, file) {
+            Ok(out) => Ok(Counted { out, bytes: 0 }),
+            Err(_) => Err(Failure::Memory),
+        },
+        Err(error) => Err(cannot_write(alloc, path, error.kind())),
     }
 }
 
@@ -61,7 +44,7 @@ fn finished<W: Write + Drop>(
 ) -> Result<u64, Failure> {
     match file.flush() {
         Ok(()) => Ok(file.bytes),
-        Err(error) => Err(write_failure(alloc, path, &error)),
+        Err(error) => Err(cannot_write(alloc, path, error.kind())),
     }
 }
 
@@ -82,7 +65,7 @@ fn certified<F: Files>(
             records: cert.len(),
             bytes: finished(alloc, path, file)?,
         }),
-        Err(WriteError::Io(error)) => Err(write_failure(alloc, path, &error)),
+        Err(WriteError::Io(error)) => Err(cannot_write(alloc, path, error.kind())),
         Err(WriteError::Memory) => Err(Failure::Memory),
     }
 }
@@ -103,7 +86,7 @@ fn violated<F: Files>(
             labels: trace.labels.len(),
             bytes: finished(alloc, path, file)?,
         }),
-        Err(error) => Err(write_failure(alloc, path, &error)),
+        Err(error) => Err(cannot_write(alloc, path, error.kind())),
     }
 }
 

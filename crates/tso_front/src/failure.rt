@@ -1,13 +1,13 @@
 //! Why a command does not succeed, and its status.
 
 ghost use Rattle.std.specs.Prelude.{◌≡◌};
-ghost use Rattle.tsoq.specs.Statuses.{status_of};
+ghost use Rattle.tso_front.specs.Statuses.{status_of};
 
-use std::alloc::{AllocError, AllocFailed};
+use std::alloc::{AllocError, AllocFailed, Global};
 use std::fmt;
+use std::io::ErrorKind;
 use tso_check::CheckError;
-use tso_flow::FlowError;
-use tso_prog::{Fault, ReadError};
+use tso_prog::Fault;
 use tso_trace::TraceFault;
 
 /// Why a command does not succeed.
@@ -49,6 +49,33 @@ impl Failure {
     }
 }
 
+/// That the words are none of the program's, of which this is said.
+pub fn misused(alloc: Global, text: &str) -> Failure {
+    match String::from_str(alloc, text) {
+        Ok(text) => Failure::Usage(text),
+        Err(_) => Failure::Memory,
+    }
+}
+
+/// That a file is not read.
+pub fn cannot_read(alloc: Global, path: &str) -> Failure {
+    match String::from_str(alloc, path) {
+        Ok(path) => Failure::CannotRead(path),
+        Err(_) => Failure::Memory,
+    }
+}
+
+/// Why a file is not written, where opening it or a write gave this kind of error.
+pub fn cannot_write(alloc: Global, path: &str, kind: ErrorKind) -> Failure {
+    if let ErrorKind::OutOfMemory = kind {
+        return Failure::Memory;
+    }
+    match String::from_str(alloc, path) {
+        Ok(path) => Failure::CannotWrite(path),
+        Err(_) => Failure::Memory,
+    }
+}
+
 impl fmt::Display for Failure {
     fn fmt<W: fmt::Write>(&self, f: &mut fmt::Formatter<W>) -> fmt::Result {
         match self {
@@ -82,24 +109,6 @@ impl From<CheckError> for Failure {
         match e {
             CheckError::Program(fault) => Failure::Program(fault),
             CheckError::Memory => Failure::Memory,
-        }
-    }
-}
-
-impl From<ReadError> for Failure {
-    fn from(e: ReadError) -> Failure {
-        match e {
-            ReadError::Refused(fault) => Failure::Program(fault),
-            ReadError::Memory => Failure::Memory,
-        }
-    }
-}
-
-impl From<FlowError> for Failure {
-    fn from(e: FlowError) -> Failure {
-        match e {
-            FlowError::Refused(fault) => Failure::Program(fault),
-            FlowError::Memory => Failure::Memory,
         }
     }
 }

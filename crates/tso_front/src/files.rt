@@ -2,11 +2,12 @@
 
 ghost use Rattle.std.specs.Prelude.{◌≤◌, vec_len, IfOk};
 
-use std::alloc::{AllocError, Global};
+use crate::failure::{Failure, cannot_read};
+use std::alloc::Global;
 use std::io;
 use std::io::{ErrorKind, Read, Write};
 
-/// Opens files. Tests give one that keeps its files in memory.
+/// Opens files.
 pub trait Files {
     type Reader: Read + Drop;
 
@@ -19,33 +20,15 @@ pub trait Files {
     fn create(&mut self, path: &str) -> io::Result<Self::Writer>;
 }
 
-/// Why a file gave no bytes.
-#[derive(Debug, Drop)]
-pub enum FileFailure {
-    /// It could not be opened, or a read of it failed.
-    Unreadable,
-    /// A growth was refused.
-    Memory,
-}
-
-impl From<AllocError> for FileFailure {
-    fn from(_e: AllocError) -> FileFailure {
-        FileFailure::Memory
-    }
-}
-
-/// The first `limit` bytes of a file, all of it where it has fewer. A read that is interrupted is tried again.
-pub fn read_up_to<F: Files>(
+// The first `limit` bytes that a reader gives, all of them where it has fewer. A read that is interrupted is tried again.
+fn read_bytes<R: Read>(
     alloc: Global,
-    files: &mut F,
+    reader: &mut R,
     path: &str,
     limit: usize,
-) -> Result<Vec<u8>, FileFailure>
+) -> Result<Vec<u8>, Failure>
     ensures short { IfOk result (λ bytes. vec_len bytes ≤ limit) }
 {
-    let Ok(mut reader) = files.open(path) else {
-        return Err(FileFailure::Unreadable);
-    };
     let mut bytes = Vec::new(alloc);
     let mut buffer = [0u8; 4096];
     for _ in 0..u64::MAX {
@@ -57,7 +40,7 @@ pub fn read_up_to<F: Files>(
         let count = match reader.read(&mut buffer[..room]) {
             Ok(count) => count,
             Err(error) if error.kind() == ErrorKind::Interrupted => continue,
-            Err(_) => return Err(FileFailure::Unreadable),
+            Err(_) => return Err(cannot_read(alloc, path)),
         };
         if count == 0 {
             break;
@@ -65,4 +48,21 @@ pub fn read_up_to<F: Files>(
         bytes.extend_from_slice(&buffer[..count])?;
     }
     Ok(bytes)
+}
+
+/// The first `limit` bytes of a file, all of it where it has fewer.
+///
+/// Errors: `CannotRead` where it could not be opened or a read of it failed; `Memory`.
+pub fn read_up_to<F: Files>(
+    alloc: Global,
+    files: &mut F,
+    path: &str,
+    limit: usize,
+) -> Result<Vec<u8>, Failure>
+    ensures short { IfOk result (λ bytes. vec_len bytes ≤ limit) }
+{
+    match files.open(path) {
+        Ok(mut reader) => read_bytes(alloc, &mut reader, path, limit),
+        Err(_) => Err(cannot_read(alloc, path)),
+    }
 }

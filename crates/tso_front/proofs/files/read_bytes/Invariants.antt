@@ -1,5 +1,5 @@
 use Rattle.std.proofs.Common.{◌≤◌, vec_len}
-use Rattle.tsoq.proofs.files.read_up_to.Given as goal
+use Rattle.tso_front.proofs.files.read_bytes.Given as goal
 
 abbrev pub invariant-loop : goal.invariant-loop
 invariant-loop g l = vec_len l.bytes ≤ l.limit

@@ -1,0 +1,105 @@
+//! The verdict on a certificate.
+
+ghost use Rattle.std.specs.Prelude.{◌≡◌};
+ghost use Rattle.tso_front.specs.Statuses.{status_of_verdict};
+
+use crate::failure::{Failure, misused};
+use crate::files::Files;
+use crate::session::Session;
+use crate::words::program_argument;
+use clap::{Arg, ArgAction, ArgMatches, Command, value_parser};
+use std::alloc::{AllocError, Global};
+use std::io::Write;
+use std::sync::Wait;
+use std::thread::Threads;
+use tso_cert::{NoWatch, Workers};
+use tso_check::{Verdict, check_with};
+
+/// Which certificate is decided, for which program, by how many workers.
+#[derive(Clone, Copy, Debug)]
+pub struct Check<'a> {
+    pub program: &'a str,
+    pub cert: &'a str,
+    pub workers: Workers,
+}
+
+/// The option that says how many workers there are.
+pub fn workers_argument<'a>(alloc: Global, help: &'a str) -> Arg<'a> {
+    Arg::new(alloc, "workers")
+        .long("workers")
+        .value_name("N")
+        .action(ArgAction::Set)
+        .value_parser(value_parser!(u64).range(1..=64))
+        .default_value("1")
+        .help(help)
+}
+
+/// The command with the words of a check.
+///
+/// Errors: where a growth was refused.
+pub fn check_arguments<'a>(alloc: Global, command: Command<'a>) -> Result<Command<'a>, AllocError> {
+    let cert = Arg::new(alloc, "CERT")
+        .required(true)
+        .help("the certificate");
+    command
+        .about("decides a certificate: where it is accepted, every run of the program is good")
+        .arg(program_argument(alloc))?
+        .arg(cert)?
+        .arg(workers_argument(alloc, "how many workers check, 1 to 64"))
+}
+
+/// How many workers the words ask for.
+///
+/// Errors: `Usage` where there are not 1 to 64; `Memory`.
+pub fn workers_of<'a>(alloc: Global, matches: &ArgMatches<'a>) -> Result<Workers, Failure> {
+    let Some(workers) = Workers::new(matches.get_one::<u64>("workers").unwrap_or(0)) else {
+        return Err(misused(alloc, "there are 1 to 64 workers\n"));
+    };
+    Ok(workers)
+}
+
+/// What the words of a check ask for.
+///
+/// Errors: those of `workers_of`.
+pub fn check_of<'a>(alloc: Global, check: &ArgMatches<'a>) -> Result<Check<'a>, Failure> {
+    Ok(Check {
+        program: check.get_str("FILE").unwrap_or(""),
+        cert: check.get_str("CERT").unwrap_or(""),
+        workers: workers_of(alloc, check)?,
+    })
+}
+
+/// The status with which a verdict ends.
+pub fn verdict_status(verdict: Verdict) -> u8
+    ensures { result ≡ status_of_verdict verdict }
+{
+    match verdict {
+        Verdict::Accepted => 0,
+        Verdict::Rejected { .. } => 3,
+    }
+}
+
+// Prints the line of a verdict.
+fn put_verdict<F: Files, O: Write, E: Write>(
+    session: &mut Session<'_, F, O, E>,
+    verdict: Verdict,
+) -> Result<(), Failure> {
+    session.print_shown(&verdict)?;
+    session.print("\n")?;
+    session.flush()
+}
+
+/// Decides a certificate, whose bytes are in a file, for a program text, prints the verdict and gives it.
+///
+/// Errors: `CannotRead`; `Program` with the first fault of the text; `CannotPrint`; `Memory`.
+pub fn check_bytes<R: Threads + Wait + Sync, F: Files, O: Write, E: Write>(
+    rt: &R,
+    session: &mut Session<'_, F, O, E>,
+    program: &[u8],
+    asked: &Check<'_>,
+) -> Result<Verdict, Failure> {
+    let cert = session.read(asked.cert, usize::MAX)?;
+    let verdict = check_with(rt, session.alloc, program, &cert, asked.workers, &NoWatch)?;
+    put_verdict(session, verdict)?;
+    Ok(verdict)
+}

@@ -1,0 +1,21 @@
+//! What both programs begin with: the words of the command line, files by their paths, failures with their statuses, and the
+//! verdict on a certificate, which one of them gives and does nothing else.
+#![tactic(auto)]
+
+mod alone;
+mod checking;
+mod failure;
+mod files;
+mod host;
+mod session;
+mod words;
+
+pub use alone::{run_check, run_check_process};
+pub use checking::{
+    Check, check_arguments, check_bytes, check_of, verdict_status, workers_argument, workers_of,
+};
+pub use failure::{Failure, cannot_read, cannot_write, misused};
+pub use files::{Files, read_up_to};
+pub use host::HostFiles;
+pub use session::{Session, reported};
+pub use words::{Ended, VERSION, ended_words, program_argument, started};

@@ -1,0 +1,99 @@
+//! What a command runs with.
+
+ghost use Rattle.std.specs.Prelude.{◌≡◌, ◌≤◌, vec_len, IfOk};
+ghost use Rattle.tso_front.specs.Statuses.{status_of};
+
+use crate::failure::Failure;
+use crate::files::{Files, read_up_to};
+use std::alloc::Global;
+use std::fmt;
+use std::io::Write;
+
+/// A program text has at most 65,536 bytes, so one more shows that it is too long.
+pub const PROGRAM_BYTES: usize = 65_537;
+
+/// What a command runs with: where its memory comes from, what opens its files, standard output and standard error.
+#[derive(Drop)]
+pub struct Session<'a, F: Files, O: Write, E: Write> {
+    pub alloc: Global,
+    pub files: &'a mut F,
+    pub out: &'a mut O,
+    pub err: &'a mut E,
+}
+
+impl<F: Files, O: Write, E: Write> Session<'_, F, O, E> {
+    /// The first `limit` bytes of a file, all of it where it has fewer.
+    ///
+    /// Errors: `CannotRead`; `Memory`.
+    pub fn read(&mut self, path: &str, limit: usize) -> Result<Vec<u8>, Failure>
+        ensures short { IfOk result (λ bytes. vec_len bytes ≤ limit) }
+    {
+        read_up_to(self.alloc, self.files, path, limit)
+    }
+
+    /// The bytes of a program text, and one more where it is too long.
+    ///
+    /// Errors: `CannotRead`; `Memory`.
+    pub fn read_program(&mut self, path: &str) -> Result<Vec<u8>, Failure> {
+        self.read(path, PROGRAM_BYTES)
+    }
+
+    /// Writes bytes to standard output.
+    ///
+    /// Errors: `CannotPrint`.
+    pub fn print_bytes(&mut self, bytes: &[u8]) -> Result<(), Failure> {
+        match self.out.write_all(bytes) {
+            Ok(()) => Ok(()),
+            Err(_) => Err(Failure::CannotPrint),
+        }
+    }
+
+    /// Writes a text to standard output.
+    ///
+    /// Errors: `CannotPrint`.
+    pub fn print(&mut self, text: &str) -> Result<(), Failure> {
+        self.print_bytes(text.as_bytes())
+    }
+
+    /// Writes a value to standard output, as it is shown.
+    ///
+    /// Errors: `CannotPrint`; `Memory`.
+    pub fn print_shown<T: fmt::Display>(&mut self, value: &T) -> Result<(), Failure> {
+        let text = value.to_string(self.alloc)?;
+        self.print(text.as_str())
+    }
+
+    /// Has all that was written to standard output written out.
+    ///
+    /// Errors: `CannotPrint`.
+    pub fn flush(&mut self) -> Result<(), Failure> {
+        match self.out.flush() {
+            Ok(()) => Ok(()),
+            Err(_) => Err(Failure::CannotPrint),
+        }
+    }
+
+    /// Writes bytes to standard error. What fails there is not told.
+    pub fn note(&mut self, bytes: &[u8]) {
+        let _ = self.err.write_all(bytes);
+        let _ = self.err.flush();
+    }
+
+    /// Says on standard error what failed, and gives the status.
+    pub fn report(&mut self, failure: &Failure) -> u8
+        ensures { result ≡ status_of failure.now }
+    {
+        reported(self.alloc, self.err, failure)
+    }
+}
+
+/// Says on standard error what failed, and gives the status.
+pub fn reported<E: Write>(alloc: Global, err: &mut E, failure: &Failure) -> u8
+    ensures { result ≡ status_of failure.now }
+{
+    if let Ok(text) = failure.to_string(alloc) {
+        let _ = err.write_all(text.as_bytes());
+        let _ = err.flush();
+    }
+    failure.status()
+}

@@ -1,0 +1,23 @@
+//! The program `tsoq` over its words, files and streams.
+#![tactic(auto)]
+
+mod asked;
+mod command;
+mod counted;
+mod help;
+mod host;
+mod length;
+mod limit;
+mod page;
+mod parse;
+mod people;
+mod progress;
+mod replay;
+mod report;
+mod run;
+mod show;
+mod verify;
+
+pub use host::HostListener;
+pub use progress::{Distance, Listener};
+pub use run::{run, run_process};
