@@ -12,7 +12,8 @@ use std::io::Write;
 use std::sync::Wait;
 use std::thread::Threads;
 
-const HELP: &str = "Reads FILE, a program text, and CERT, a certificate, and trusts neither. Writes no file. Its lines and its status
+const HELP: &str =
+    "Reads FILE, a program text, and CERT, a certificate, and trusts neither. Writes no file. Its lines and its status
 are those of `tsoq check`; it has nothing else of that program.
 
 Status:
@@ -34,7 +35,7 @@ fn command<'a>(alloc: Global) -> Result<Command<'a>, AllocError> {
 // Decides the certificate that the words name, and gives the status.
 fn answer<R: Threads + Wait + Sync, F: Files, O: Write, E: Write>(
     rt: &R,
-    session: &mut Session<'_, F, O, E>,
+    session: &mut Session<'_, '_, '_, F, O, E>,
     asked: &Check<'_>,
 ) -> Result<u8, Failure> {
     let program = session.read_program(asked.program)?;
@@ -45,7 +46,7 @@ fn answer<R: Threads + Wait + Sync, F: Files, O: Write, E: Write>(
 // Does what the words ask for, and gives the status.
 fn perform<R: Threads + Wait + Sync, F: Files, O: Write, E: Write>(
     rt: &R,
-    session: &mut Session<'_, F, O, E>,
+    session: &mut Session<'_, '_, '_, F, O, E>,
     words: &[String],
 ) -> Result<u8, Failure> {
     let alloc = session.alloc;
@@ -92,13 +93,7 @@ pub fn run_check_process<
     F: Files,
     O: Write + Drop,
     E: Write,
->(
-    rt: &R,
-    system: &S,
-    files: &mut F,
-    out: O,
-    err: &mut E,
-) -> u8 {
+>(rt: &R, system: &S, files: &mut F, out: O, err: &mut E) -> u8 {
     let alloc = system.alloc();
     match started(system, out) {
         Ok((words, mut out)) => {

@@ -81,7 +81,7 @@ pub fn verdict_status(verdict: Verdict) -> u8
 
 // Prints the line of a verdict.
 fn put_verdict<F: Files, O: Write, E: Write>(
-    session: &mut Session<'_, F, O, E>,
+    session: &mut Session<'_, '_, '_, F, O, E>,
     verdict: Verdict,
 ) -> Result<(), Failure> {
     session.print_shown(&verdict)?;
@@ -94,7 +94,7 @@ fn put_verdict<F: Files, O: Write, E: Write>(
 /// Errors: `CannotRead`; `Program` with the first fault of the text; `CannotPrint`; `Memory`.
 pub fn check_bytes<R: Threads + Wait + Sync, F: Files, O: Write, E: Write>(
     rt: &R,
-    session: &mut Session<'_, F, O, E>,
+    session: &mut Session<'_, '_, '_, F, O, E>,
     program: &[u8],
     asked: &Check<'_>,
 ) -> Result<Verdict, Failure> {

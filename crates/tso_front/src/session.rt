@@ -14,14 +14,14 @@ pub const PROGRAM_BYTES: usize = 65_537;
 
 /// What a command runs with: where its memory comes from, what opens its files, standard output and standard error.
 #[derive(Drop)]
-pub struct Session<'a, F: Files, O: Write, E: Write> {
+pub struct Session<'f, 'o, 'e, F: Files, O: Write, E: Write> {
     pub alloc: Global,
-    pub files: &'a mut F,
-    pub out: &'a mut O,
-    pub err: &'a mut E,
+    pub files: &'f mut F,
+    pub out: &'o mut O,
+    pub err: &'e mut E,
 }
 
-impl<F: Files, O: Write, E: Write> Session<'_, F, O, E> {
+impl<F: Files, O: Write, E: Write> Session<'_, '_, '_, F, O, E> {
     /// The first `limit` bytes of a file, all of it where it has fewer.
     ///
     /// Errors: `CannotRead`; `Memory`.

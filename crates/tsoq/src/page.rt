@@ -12,7 +12,7 @@ use tso_show::{Replayed, ShowError};
 
 // Writes these bytes to a new file.
 fn write_file<F: Files, O: Write, E: Write>(
-    session: &mut Session<'_, F, O, E>,
+    session: &mut Session<'_, '_, '_, F, O, E>,
     path: &str,
     bytes: &[u8],
 ) -> Result<(), Failure> {
@@ -48,7 +48,7 @@ fn page_bytes(alloc: Global, run: &Run<'_>) -> Result<Vec<u8>, Failure> {
 
 // Writes a run as a page to a new file.
 fn write_run<F: Files, O: Write, E: Write>(
-    session: &mut Session<'_, F, O, E>,
+    session: &mut Session<'_, '_, '_, F, O, E>,
     checked: &Checked,
     program: &[u8],
     run: &Replayed,
@@ -71,7 +71,7 @@ fn write_run<F: Files, O: Write, E: Write>(
 ///
 /// Errors: `CannotWrite` where the file failed; `Memory`.
 pub fn write_page<F: Files, O: Write, E: Write>(
-    session: &mut Session<'_, F, O, E>,
+    session: &mut Session<'_, '_, '_, F, O, E>,
     checked: &Checked,
     program: &[u8],
     run: &Replayed,

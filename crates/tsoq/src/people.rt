@@ -35,7 +35,7 @@ fn paths_of<'a>(asked: &Asked<'a>) -> Option<Paths<'a>> {
 
 // That the program stands in the place of the other file, where that is so.
 fn put_swapped<F: Files, O: Write, E: Write>(
-    session: &mut Session<'_, F, O, E>,
+    session: &mut Session<'_, '_, '_, F, O, E>,
     page: &mut Page,
     paths: Paths<'_>,
 ) -> Result<(), AllocError> {
@@ -53,7 +53,7 @@ fn put_swapped<F: Files, O: Write, E: Write>(
 
 // Why the program of a command is refused.
 fn put_refused<F: Files, O: Write, E: Write>(
-    session: &mut Session<'_, F, O, E>,
+    session: &mut Session<'_, '_, '_, F, O, E>,
     page: &mut Page,
     asked: &Asked<'_>,
     texts: &Texts,
@@ -97,7 +97,7 @@ fn put_unreadable<F: Files>(
 
 // Why a command does not succeed.
 fn put_reason<F: Files, O: Write, E: Write>(
-    session: &mut Session<'_, F, O, E>,
+    session: &mut Session<'_, '_, '_, F, O, E>,
     page: &mut Page,
     asked: &Asked<'_>,
     texts: &Texts,
@@ -121,7 +121,7 @@ fn put_reason<F: Files, O: Write, E: Write>(
 
 /// Says in words why a command does not succeed.
 pub fn tell<F: Files, O: Write, E: Write>(
-    session: &mut Session<'_, F, O, E>,
+    session: &mut Session<'_, '_, '_, F, O, E>,
     asked: &Asked<'_>,
     texts: &Texts,
     failure: &Failure,
@@ -145,7 +145,7 @@ fn put_verdict(alloc: Global, page: &mut Page, verdict: Verdict) -> Result<(), A
 
 /// Says in words why a certificate is refused.
 pub fn tell_verdict<F: Files, O: Write, E: Write>(
-    session: &mut Session<'_, F, O, E>,
+    session: &mut Session<'_, '_, '_, F, O, E>,
     verdict: Verdict,
 ) {
     let mut page = Page::new(session.alloc);

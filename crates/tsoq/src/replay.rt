@@ -14,7 +14,7 @@ use tso_trace::{Cursor, Trace, cell_name};
 
 // Prints a text and a newline.
 fn put_line<F: Files, O: Write, E: Write>(
-    session: &mut Session<'_, F, O, E>,
+    session: &mut Session<'_, '_, '_, F, O, E>,
     text: &str,
 ) -> Result<(), Failure> {
     session.print(text)?;
@@ -23,7 +23,7 @@ fn put_line<F: Files, O: Write, E: Write>(
 
 // The labels up to this number, one a line behind its number.
 fn put_labels<F: Files, O: Write, E: Write>(
-    session: &mut Session<'_, F, O, E>,
+    session: &mut Session<'_, '_, '_, F, O, E>,
     trace: &Trace,
     to: usize,
 ) -> Result<(), Failure> {
@@ -37,7 +37,7 @@ fn put_labels<F: Files, O: Write, E: Write>(
 
 // A cell and its word.
 fn put_cell<F: Files, O: Write, E: Write>(
-    session: &mut Session<'_, F, O, E>,
+    session: &mut Session<'_, '_, '_, F, O, E>,
     arrays: &[Array],
     before: &str,
     place: usize,
@@ -50,7 +50,7 @@ fn put_cell<F: Files, O: Write, E: Write>(
 
 // Each word of memory.
 fn put_memory<F: Files, O: Write, E: Write>(
-    session: &mut Session<'_, F, O, E>,
+    session: &mut Session<'_, '_, '_, F, O, E>,
     arrays: &[Array],
     memory: &Seq<u64>,
 ) -> Result<(), Failure> {
@@ -86,7 +86,7 @@ fn core_text(alloc: Global, number: usize, core: &Core) -> Result<String, AllocE
 
 // A thread's line, and a line for each entry of its buffer.
 fn put_thread<F: Files, O: Write, E: Write>(
-    session: &mut Session<'_, F, O, E>,
+    session: &mut Session<'_, '_, '_, F, O, E>,
     arrays: &[Array],
     number: usize,
     thread: &Thread,
@@ -101,7 +101,7 @@ fn put_thread<F: Files, O: Write, E: Write>(
 
 /// Prints after which label the state is, each word of memory, and each thread with its store buffer.
 pub fn put_state_after<F: Files, O: Write, E: Write>(
-    session: &mut Session<'_, F, O, E>,
+    session: &mut Session<'_, '_, '_, F, O, E>,
     arrays: &[Array],
     machine: &Machine,
     to: usize,
@@ -153,7 +153,7 @@ fn walked<'a>(alloc: Global, trace: &'a Trace, to: usize) -> Result<Cursor<'a>, 
 
 /// Prints the labels of a trace up to label `to`, or all, the state after them, and at the end what is wrong with the run.
 pub fn print_replay<F: Files, O: Write, E: Write>(
-    session: &mut Session<'_, F, O, E>,
+    session: &mut Session<'_, '_, '_, F, O, E>,
     trace: &Trace,
     to: Option<u64>,
 ) -> Result<(), Failure> {

@@ -33,7 +33,7 @@ pub struct Texts {
 
 // The page is written first: where a file fails, nothing was printed.
 fn replay<F: Files, O: Write, E: Write>(
-    session: &mut Session<'_, F, O, E>,
+    session: &mut Session<'_, '_, '_, F, O, E>,
     texts: &mut Texts,
     asked: &Replay<'_>,
 ) -> Result<u8, Failure> {
@@ -48,7 +48,7 @@ fn replay<F: Files, O: Write, E: Write>(
 
 fn check<R: Threads + Wait + Sync, F: Files, O: Write, E: Write>(
     rt: &R,
-    session: &mut Session<'_, F, O, E>,
+    session: &mut Session<'_, '_, '_, F, O, E>,
     texts: &mut Texts,
     asked: &Check<'_>,
     verbose: bool,
@@ -62,7 +62,7 @@ fn check<R: Threads + Wait + Sync, F: Files, O: Write, E: Write>(
 }
 
 fn parse_file<F: Files, O: Write, E: Write>(
-    session: &mut Session<'_, F, O, E>,
+    session: &mut Session<'_, '_, '_, F, O, E>,
     texts: &mut Texts,
     asked: &Parsing<'_>,
 ) -> Result<u8, Failure> {
@@ -73,7 +73,7 @@ fn parse_file<F: Files, O: Write, E: Write>(
 }
 
 fn explain<F: Files, O: Write, E: Write>(
-    session: &mut Session<'_, F, O, E>,
+    session: &mut Session<'_, '_, '_, F, O, E>,
     topic: Topic,
 ) -> Result<u8, Failure> {
     let page = explanation(session.alloc, topic)?;
@@ -83,7 +83,7 @@ fn explain<F: Files, O: Write, E: Write>(
 
 // Says how much was met and written, and in what time.
 fn put_stats<F: Files, L: Listener, O: Write, E: Write>(
-    session: &mut Session<'_, F, O, E>,
+    session: &mut Session<'_, '_, '_, F, O, E>,
     watch: &Progress<'_, L>,
     report: Report,
     begun: Option<Duration>,
@@ -101,7 +101,7 @@ fn put_stats<F: Files, L: Listener, O: Write, E: Write>(
 
 fn search<R: Threads + Wait + Sync, F: Files, L: Listener + Sync, O: Write, E: Write>(
     rt: &R,
-    session: &mut Session<'_, F, O, E>,
+    session: &mut Session<'_, '_, '_, F, O, E>,
     texts: &mut Texts,
     listener: &L,
     asked: &Search<'_>,
@@ -120,7 +120,7 @@ fn search<R: Threads + Wait + Sync, F: Files, L: Listener + Sync, O: Write, E: W
 // Does what the words ask for, and gives the status.
 fn perform<R: Threads + Wait + Sync, F: Files, L: Listener + Sync, O: Write, E: Write>(
     rt: &R,
-    session: &mut Session<'_, F, O, E>,
+    session: &mut Session<'_, '_, '_, F, O, E>,
     texts: &mut Texts,
     listener: &L,
     request: &Request<'_>,
@@ -141,7 +141,7 @@ fn perform<R: Threads + Wait + Sync, F: Files, L: Listener + Sync, O: Write, E: 
 // The same, with all that was printed written out.
 fn perform_all<R: Threads + Wait + Sync, F: Files, L: Listener + Sync, O: Write, E: Write>(
     rt: &R,
-    session: &mut Session<'_, F, O, E>,
+    session: &mut Session<'_, '_, '_, F, O, E>,
     texts: &mut Texts,
     listener: &L,
     request: &Request<'_>,
@@ -154,7 +154,7 @@ fn perform_all<R: Threads + Wait + Sync, F: Files, L: Listener + Sync, O: Write,
 // Does what the words ask for, and where it does not succeed says why.
 fn answer<R: Threads + Wait + Sync, F: Files, L: Listener + Sync, O: Write, E: Write>(
     rt: &R,
-    session: &mut Session<'_, F, O, E>,
+    session: &mut Session<'_, '_, '_, F, O, E>,
     listener: &L,
     request: &Request<'_>,
 ) -> u8 {

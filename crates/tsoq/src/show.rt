@@ -42,7 +42,7 @@ pub fn run_of(
 
 // Prints what is wrong, or that nothing is.
 fn put_wrong<F: Files, O: Write, E: Write>(
-    session: &mut Session<'_, F, O, E>,
+    session: &mut Session<'_, '_, '_, F, O, E>,
     violation: Option<Violation>,
 ) -> Result<(), Failure> {
     match violation {
@@ -54,7 +54,7 @@ fn put_wrong<F: Files, O: Write, E: Write>(
 
 // Prints the labels of a run up to a label, with what is shown of each.
 fn put_labels<F: Files, O: Write, E: Write>(
-    session: &mut Session<'_, F, O, E>,
+    session: &mut Session<'_, '_, '_, F, O, E>,
     walk: &mut Walk<'_>,
     source: &[u8],
     show: Show,
@@ -66,7 +66,7 @@ fn put_labels<F: Files, O: Write, E: Write>(
 
 // Prints the calls of a run that was walked, and how far they have an order.
 fn put_calls<F: Files, O: Write, E: Write>(
-    session: &mut Session<'_, F, O, E>,
+    session: &mut Session<'_, '_, '_, F, O, E>,
     walk: &Walk<'_>,
 ) -> Result<(), Failure> {
     if let Err(error) = print_calls(session.alloc, session.out, walk.taken()) {
@@ -78,7 +78,7 @@ fn put_calls<F: Files, O: Write, E: Write>(
 // Prints the labels of a run up to label `to`, or all, with what is shown of each, and the state after them; at the end what
 // is wrong; and its calls, where they are asked for.
 fn print_shown<F: Files, O: Write, E: Write>(
-    session: &mut Session<'_, F, O, E>,
+    session: &mut Session<'_, '_, '_, F, O, E>,
     checked: &Checked,
     source: &[u8],
     run: &Replayed,
@@ -103,7 +103,7 @@ fn print_shown<F: Files, O: Write, E: Write>(
 
 /// Prints a run with all that is asked for. Where nothing is asked for, and something is wrong, it is `print_replay`.
 pub fn print_run<F: Files, O: Write, E: Write>(
-    session: &mut Session<'_, F, O, E>,
+    session: &mut Session<'_, '_, '_, F, O, E>,
     checked: &Checked,
     source: &[u8],
     run: &Replayed,
