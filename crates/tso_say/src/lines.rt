@@ -1,13 +1,15 @@
 //! Lines of a text behind their numbers, with marks under them.
 
 ghost use Rattle.std.specs.Prelude.{IfSome};
-ghost use Rattle.tso_hint.specs.Places.{IsPlaceIn};
+ghost use Rattle.tso_say.specs.Places.{IsPlaceIn};
 
 use crate::page::Page;
+use crate::place::{Place, place_of_fault, place_of_location};
+use crate::said::meaning;
+use crate::source::{line, shown, under};
+use crate::topic::find;
 use std::alloc::{AllocError, Global};
-use tso_explain::{find, meaning};
 use tso_flow::Location;
-use tso_hint::{Place, line, place_of_fault, place_of_location, shown, under};
 use tso_prog::Fault;
 
 // A mark under a place of the line above.

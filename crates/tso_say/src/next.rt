@@ -1,9 +1,9 @@
 //! What each thread has next, where a label of a trace is no step.
 
+use crate::ahead::{Next, buffer_next, core_next};
 use crate::page::Page;
 use std::alloc::{AllocError, Global};
 use tso_flow::Checked;
-use tso_hint::{Next, buffer_next, core_next};
 use tso_machine::{ApplyError, Label, LabelKind, Machine, apply, initial};
 use tso_trace::line_of;
 

@@ -2,8 +2,8 @@
 
 use crate::lines::{put_fault, put_meaning, put_number, put_read};
 use crate::page::Page;
+use crate::reading::{UnwrittenRead, location_word, unwritten};
 use std::alloc::{AllocError, Global};
-use tso_hint::{UnwrittenRead, location_word, unwritten};
 use tso_machine::procedure_of;
 use tso_prog::{Client, Code, Fault};
 

@@ -3,7 +3,7 @@
 use std::alloc::{Alloc, Global};
 use std::process::Abort;
 use std::test::Fail;
-use tso_explain::*;
+use tso_say::*;
 use tso_flow::FlowError;
 use tso_prog::{Code, ReadError};
 

@@ -2,7 +2,7 @@
 
 use std::alloc::Global;
 use std::test::Fail;
-use tso_page::*;
+use tso_show::*;
 use tso_samples::{LAMPORT, LAMPORT_TRACE};
 use tso_trace::labels_of;
 

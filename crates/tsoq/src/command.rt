@@ -10,7 +10,7 @@ use clap::error::ErrorKind;
 use clap::{Arg, ArgAction, ArgMatches, Command, Error, value_parser};
 use std::alloc::{AllocError, Global};
 use tso_cert::Workers;
-use tso_explain::{Topic, find};
+use tso_say::{Topic, find};
 
 /// What is searched, how far, and where what is found is written.
 #[derive(Clone, Copy, Debug)]

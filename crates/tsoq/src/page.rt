@@ -5,8 +5,7 @@ use crate::files::Files;
 use crate::report::Wrong;
 use std::alloc::Global;
 use std::io::{ErrorKind, Write};
-use tso_page::{Run, page_of};
-use tso_show::{Replayed, ShowError};
+use tso_show::{Replayed, Run, ShowError, page_of};
 
 // Why the page is not written, where a write of it gave this kind of error.
 fn write_failure(alloc: Global, path: &str, kind: ErrorKind) -> Failure {

@@ -21,9 +21,8 @@ use std::sync::Wait;
 use std::thread::Threads;
 use tso_cert::NoWatch;
 use tso_check::{Verdict, check_with};
-use tso_explain::Topic;
-use tso_page::Run;
-use tso_say::explanation;
+use tso_say::{Topic, explanation};
+use tso_show::Run;
 
 /// A program text has at most 65,536 bytes, so one more shows that it is too long.
 pub const PROGRAM_BYTES: usize = 65_537;
