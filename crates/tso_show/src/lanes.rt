@@ -8,7 +8,7 @@ use tso_machine::{Label, LabelKind, thread_count};
 use tso_prog::Client;
 
 /// A store, from the label that writes it to the one that drains it.
-#[derive(Clone, Copy, Debug, PartialEq, Eq)]
+#[derive(Clone, Copy)]
 struct Store {
     from: usize,
     to: usize,

@@ -60,21 +60,31 @@ fn put_history(alloc: Global, page: &mut Vec<u8>, walk: &Walk<'_>) -> Result<(),
     Ok(())
 }
 
+// Adds the head of the page and its heading.
+fn put_title(page: &mut Vec<u8>, name: &str) -> Result<(), AllocError> {
+    put(page, HEAD)?;
+    push_escaped(page, name.as_bytes())?;
+    put(page, STYLE)?;
+    push_escaped(page, name.as_bytes())?;
+    put(page, "</code></h1>\n")
+}
+
+// Adds what is wrong with a run.
+fn put_wrong(page: &mut Vec<u8>, wrong: Option<&str>) -> Result<(), AllocError> {
+    match wrong {
+        Some(wrong) => {
+            put(page, "<p class=\"wrong\">")?;
+            push_escaped(page, wrong.as_bytes())
+        }
+        None => put(page, "<p class=\"good\">no violation"),
+    }
+}
+
 // Adds all that stands before the lanes.
 fn put_heading(alloc: Global, page: &mut Vec<u8>, run: &Run<'_>) -> Result<(), AllocError> {
     let count = run.labels.len();
-    put(page, HEAD)?;
-    push_escaped(page, run.name.as_bytes())?;
-    put(page, STYLE)?;
-    push_escaped(page, run.name.as_bytes())?;
-    put(page, "</code></h1>\n")?;
-    match run.wrong {
-        Some(wrong) => {
-            put(page, "<p class=\"wrong\">")?;
-            push_escaped(page, wrong.as_bytes())?;
-        }
-        None => put(page, "<p class=\"good\">no violation")?,
-    }
+    put_title(page, run.name)?;
+    put_wrong(page, run.wrong)?;
     put(page, CONTROLS)?;
     put(
         page,

@@ -191,6 +191,20 @@ pub fn print_calls<W: Write>(
     Ok(())
 }
 
+// The call of this number among a thread's.
+fn call_of(calls: &[TimedCall], thread: usize, number: usize) -> Option<TimedCall> {
+    let mut before = number;
+    for call in calls {
+        if call.thread == thread {
+            if before == 0 {
+                return Some(*call);
+            }
+            before -= 1;
+        }
+    }
+    None
+}
+
 // Prints the calls of an order, each with its answer.
 fn put_order<W: Write>(
     alloc: Global,
@@ -201,8 +215,7 @@ fn put_order<W: Write>(
     for placed in order.as_slice() {
         let thread = placed.thread;
         let answer = Answered(placed.answer);
-        let mut of_thread = calls.iter().filter(|call| call.thread == thread);
-        if let Some(call) = of_thread.nth(placed.call) {
+        if let Some(call) = call_of(calls, thread, placed.call) {
             let asked = Asked(call.kind);
             put(
                 out,
