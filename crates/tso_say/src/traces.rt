@@ -33,6 +33,20 @@ fn checked_if(alloc: Global, program: &[u8]) -> Option<Checked> {
     }
 }
 
+// The same, where the program's text is one.
+fn put_wrong_step(
+    alloc: Global,
+    page: &mut Page,
+    program: &[u8],
+    text: &[u8],
+    label: usize,
+) -> Result<(), AllocError> {
+    match checked_if(alloc, program) {
+        Some(checked) => put_no_step(alloc, page, &checked, text, label),
+        None => Ok(()),
+    }
+}
+
 /// Says why a trace of a program is refused: the line with a mark, what each thread could have done there, and what the code means.
 ///
 /// Errors: where a growth was refused.
@@ -45,9 +59,7 @@ pub fn put_trace(
 ) -> Result<(), AllocError> {
     match fault {
         TraceFault::NotAStep { label } => {
-            if let Some(checked) = checked_if(alloc, program) {
-                put_no_step(alloc, page, &checked, text, *label)?;
-            }
+            put_wrong_step(alloc, page, program, text, *label)?;
             put_meaning(alloc, page, "T01")
         }
         TraceFault::NoError => put_meaning(alloc, page, "T02"),

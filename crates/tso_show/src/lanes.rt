@@ -59,8 +59,8 @@ fn class_of(kind: LabelKind) -> &'static str {
     }
 }
 
-// Adds a bar for a call.
-fn put_call(
+// Adds the beginning of a call's bar.
+fn put_bar(
     alloc: Global,
     page: &mut Vec<u8>,
     call: TimedCall,
@@ -76,21 +76,31 @@ fn put_call(
         format!(in alloc;
             "<div class=\"{class}\" style=\"--from:{from};--to:{to}\" title=\"{call}\">"
         )?.as_str(),
-    )?;
+    )
+}
+
+// Adds what stands in a call's bar.
+fn put_asked(alloc: Global, page: &mut Vec<u8>, call: TimedCall) -> Result<(), AllocError> {
     let asked = Asked(call.kind);
     match call.returns {
         Some(returned) => {
             let answer = Answered(returned.answer);
-            put(
-                page,
-                format!(in alloc; "{asked}: {answer}</div>\n")?.as_str(),
-            )
+            put(page, format!(in alloc; "{asked}: {answer}")?.as_str())
         }
-        None => put(
-            page,
-            format!(in alloc; "{asked}: pending</div>\n")?.as_str(),
-        ),
+        None => put(page, format!(in alloc; "{asked}: pending")?.as_str()),
     }
+}
+
+// Adds a bar for a call.
+fn put_call(
+    alloc: Global,
+    page: &mut Vec<u8>,
+    call: TimedCall,
+    count: usize,
+) -> Result<(), AllocError> {
+    put_bar(alloc, page, call, count)?;
+    put_asked(alloc, page, call)?;
+    put(page, "</div>\n")
 }
 
 fn put_calls(

@@ -107,6 +107,28 @@ fn put_body(alloc: Global, page: &mut Vec<u8>, run: &Run<'_>) -> Result<(), Allo
     put(page, HISTORY)
 }
 
+// Adds the data and what follows it.
+fn put_data(page: &mut Vec<u8>, data: &str) -> Result<(), AllocError> {
+    put(page, DATA)?;
+    push_data(page, data.as_bytes())?;
+    put(page, SCRIPT)
+}
+
+// Adds all of a page. The walk is at its end.
+fn put_page(
+    alloc: Global,
+    page: &mut Vec<u8>,
+    run: &Run<'_>,
+    walk: &Walk<'_>,
+    data: &str,
+) -> Result<(), ShowError> {
+    put_heading(alloc, page, run)?;
+    put_body(alloc, page, run)?;
+    put_history(alloc, page, walk)?;
+    put_data(page, data)?;
+    Ok(())
+}
+
 /// A run as one HTML file, which loads nothing from elsewhere: a lane for each thread with its calls as bars, memory and
 /// store buffers after each label, forwards and back by keys and a slider, and the program with its current line.
 ///
@@ -115,11 +137,6 @@ pub fn page_of(alloc: Global, run: &Run<'_>) -> Result<Vec<u8>, ShowError> {
     let mut walk = Walk::new(alloc, run.checked, run.labels)?;
     let data = data_of(alloc, &mut walk, run.labels.len())?;
     let mut page = Vec::new(alloc);
-    put_heading(alloc, &mut page, run)?;
-    put_body(alloc, &mut page, run)?;
-    put_history(alloc, &mut page, &walk)?;
-    put(&mut page, DATA)?;
-    push_data(&mut page, data.as_bytes())?;
-    put(&mut page, SCRIPT)?;
+    put_page(alloc, &mut page, run, &walk, data.as_str())?;
     Ok(page)
 }

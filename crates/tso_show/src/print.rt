@@ -134,6 +134,26 @@ fn put_site<W: Write>(
     }
 }
 
+// Prints a label behind its number, and the instruction that takes it where that is asked for.
+fn put_label<W: Write>(
+    alloc: Global,
+    out: &mut W,
+    source: &[u8],
+    number: usize,
+    line: &str,
+    site: Option<Site>,
+) -> Result<(), ShowError> {
+    if site.is_some() {
+        put(
+            out,
+            format!(in alloc; "{number:>6} {line:<28}  ")?.as_bytes(),
+        )?;
+        put_site(alloc, out, source, site)
+    } else {
+        put(out, format!(in alloc; "{number:>6} {line}")?.as_bytes())
+    }
+}
+
 // Prints a label behind its number, and what is shown beside and after it.
 fn put_moment<W: Write>(
     alloc: Global,
@@ -145,15 +165,8 @@ fn put_moment<W: Write>(
     moment: &Moment,
 ) -> Result<(), ShowError> {
     let line = line_of(alloc, client.arrays.as_slice(), moment.label)?;
-    if show.source && moment.site.is_some() {
-        put(
-            out,
-            format!(in alloc; "{number:>6} {line:<28}  ")?.as_bytes(),
-        )?;
-        put_site(alloc, out, source, moment.site)?;
-    } else {
-        put(out, format!(in alloc; "{number:>6} {line}")?.as_bytes())?;
-    }
+    let site = if show.source { moment.site } else { None };
+    put_label(alloc, out, source, number, line.as_str(), site)?;
     put(out, b"\n")?;
     put(out, moment.shown.as_bytes())
 }
@@ -256,6 +269,22 @@ fn put_served<W: Write>(
     put_order(alloc, out, calls, order)
 }
 
+// Prints from which label on the calls have no order, the call that returns there, and an order of those before it.
+fn put_until<W: Write>(
+    alloc: Global,
+    out: &mut W,
+    calls: &[TimedCall],
+    label: usize,
+    order: &Order,
+) -> Result<(), ShowError> {
+    put(
+        out,
+        format!(in alloc; "no order from label {label} on\n")?.as_bytes(),
+    )?;
+    put_returning(alloc, out, calls, label)?;
+    put_served(alloc, out, calls, label.saturating_sub(1), order)
+}
+
 /// Prints how far the calls of the labels that a walk has taken have an order, and one. Where they have none to the end, it
 /// prints the first label with which they have none, and the call that returns there.
 pub fn print_order<W: Write>(alloc: Global, out: &mut W, walk: &Walk<'_>) -> Result<(), ShowError> {
@@ -263,13 +292,6 @@ pub fn print_order<W: Write>(alloc: Global, out: &mut W, walk: &Walk<'_>) -> Res
     let calls = calls_in(alloc, labels)?;
     match ordered_part(alloc, &walk.checked().client, labels)? {
         Served::Whole(order) => put_served(alloc, out, &calls, labels.len(), &order),
-        Served::Until { label, order } => {
-            put(
-                out,
-                format!(in alloc; "no order from label {label} on\n")?.as_bytes(),
-            )?;
-            put_returning(alloc, out, &calls, label)?;
-            put_served(alloc, out, &calls, label - 1, &order)
-        }
+        Served::Until { label, order } => put_until(alloc, out, &calls, label, &order),
     }
 }
