@@ -12,6 +12,14 @@ pub fn put(page: &mut Vec<u8>, text: &str) -> Result<(), AllocError> {
     Ok(())
 }
 
+/// Adds a text that was made for a page.
+///
+/// Errors: the text's, and where a growth was refused.
+pub fn put_made(page: &mut Vec<u8>, text: Result<String, AllocError>) -> Result<(), AllocError> {
+    page.extend_from_slice(text?.as_bytes())?;
+    Ok(())
+}
+
 // Adds so many cells of memory from a place on.
 fn put_cells(
     alloc: Global,
@@ -48,9 +56,9 @@ pub fn put_memory(alloc: Global, page: &mut Vec<u8>, client: &Client) -> Result<
 pub fn put_threads(alloc: Global, page: &mut Vec<u8>, client: &Client) -> Result<(), AllocError> {
     put(page, "<div class=\"threads\">\n")?;
     for number in 0..thread_count(client) {
-        put(
+        put_made(
             page,
-            format!(in alloc; "<div class=\"thread\"><h3>Thread {number}</h3>")?.as_str(),
+            format!(in alloc; "<div class=\"thread\"><h3>Thread {number}</h3>"),
         )?;
         put(
             page,
@@ -67,10 +75,7 @@ fn put_item(
     number: usize,
     item: &[u8],
 ) -> Result<(), AllocError> {
-    put(
-        page,
-        format!(in alloc; "<li><span>{number}</span> <span>")?.as_str(),
-    )?;
+    put_made(page, format!(in alloc; "<li><span>{number}</span> <span>"))?;
     push_escaped(page, item)?;
     put(page, "</span></li>\n")
 }

@@ -1,7 +1,7 @@
 //! The lanes of a page: for each thread its calls, its labels and its stores in time.
 
 use crate::call::{TimedCall, calls_in};
-use crate::html::put;
+use crate::html::{put, put_made};
 use crate::print::{Answered, Asked};
 use std::alloc::{AllocError, Global};
 use tso_machine::{Label, LabelKind, thread_count};
@@ -71,11 +71,11 @@ fn put_bar(
         Some(returned) => ("bar", returned.label),
         None => ("bar open", count),
     };
-    put(
+    put_made(
         page,
         format!(in alloc;
             "<div class=\"{class}\" style=\"--from:{from};--to:{to}\" title=\"{call}\">"
-        )?.as_str(),
+        ),
     )
 }
 
@@ -85,9 +85,9 @@ fn put_asked(alloc: Global, page: &mut Vec<u8>, call: TimedCall) -> Result<(), A
     match call.returns {
         Some(returned) => {
             let answer = Answered(returned.answer);
-            put(page, format!(in alloc; "{asked}: {answer}")?.as_str())
+            put_made(page, format!(in alloc; "{asked}: {answer}"))
         }
-        None => put(page, format!(in alloc; "{asked}: pending")?.as_str()),
+        None => put_made(page, format!(in alloc; "{asked}: pending")),
     }
 }
 
@@ -128,11 +128,9 @@ fn put_ticks(
         if label.thread == thread {
             let class = class_of(label.kind);
             let number = at + 1;
-            put(
+            put_made(
                 page,
-                format!(in alloc;
-                    "<i class=\"tick {class}\" style=\"--from:{number}\"></i>"
-                )?.as_str(),
+                format!(in alloc; "<i class=\"tick {class}\" style=\"--from:{number}\"></i>"),
             )?;
         }
     }
@@ -145,11 +143,11 @@ fn put_stores(alloc: Global, page: &mut Vec<u8>, stores: &[Store]) -> Result<(),
         let row = number % 3;
         let from = store.from;
         let to = store.to;
-        put(
+        put_made(
             page,
             format!(in alloc;
                 "<div class=\"store\" style=\"--from:{from};--to:{to};--row:{row}\"></div>\n"
-            )?.as_str(),
+            ),
         )?;
     }
     Ok(())
@@ -161,11 +159,11 @@ fn put_lane(
     labels: &[Label],
     thread: usize,
 ) -> Result<(), AllocError> {
-    put(
+    put_made(
         page,
         format!(in alloc;
             "<div class=\"lane\"><div class=\"who\">thread {thread}</div><div class=\"track\">\n"
-        )?.as_str(),
+        ),
     )?;
     put_calls(alloc, page, labels, thread)?;
     put_ticks(alloc, page, labels, thread)?;
@@ -181,11 +179,11 @@ pub fn put_lanes(
     labels: &[Label],
 ) -> Result<(), AllocError> {
     let count = labels.len();
-    put(
+    put_made(
         page,
         format!(in alloc;
             "<div id=\"lanes\" class=\"lanes\" style=\"--count:{count};--rows:3\"><div id=\"time\">\n"
-        )?.as_str(),
+        ),
     )?;
     for thread in 0..thread_count(client) {
         put_lane(alloc, page, labels, thread)?;

@@ -2,7 +2,7 @@
 
 use crate::data::{push_state_data, site_line};
 use crate::escape::{push_data, push_escaped};
-use crate::html::{put, put_labels, put_memory, put_source, put_threads};
+use crate::html::{put, put_labels, put_made, put_memory, put_source, put_threads};
 use crate::lanes::put_lanes;
 use crate::parts::{CALLS, CONTROLS, DATA, HEAD, HISTORY, LABELS, LANES, SCRIPT, STATE, STYLE};
 use crate::print::{ShowError, print_calls, print_order};
@@ -86,10 +86,7 @@ fn put_heading(alloc: Global, page: &mut Vec<u8>, run: &Run<'_>) -> Result<(), A
     put_title(page, run.name)?;
     put_wrong(page, run.wrong)?;
     put(page, CONTROLS)?;
-    put(
-        page,
-        format!(in alloc; "{count}\" value=\"{count}")?.as_str(),
-    )
+    put_made(page, format!(in alloc; "{count}\" value=\"{count}"))
 }
 
 // Adds the lanes, the state, the program and the labels.
