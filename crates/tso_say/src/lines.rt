@@ -31,7 +31,7 @@ fn put_mark(
 
 // A line of a text behind its number.
 fn put_line(alloc: Global, page: &mut Page, number: usize, line: &[u8]) -> Result<(), AllocError> {
-    page.say(format!(in alloc; "{number:>4} | ")?.as_str())?;
+    page.say_made(format!(in alloc; "{number:>4} | "))?;
     page.put(&shown(alloc, line)?)?;
     page.say("\n")
 }
@@ -87,5 +87,5 @@ pub fn put_meaning(alloc: Global, page: &mut Page, code: &str) -> Result<(), All
         return Ok(());
     };
     page.say(meaning(topic))?;
-    page.say(format!(in alloc; "\n`tsoq explain {code}` shows it in small.\n")?.as_str())
+    page.say_made(format!(in alloc; "\n`tsoq explain {code}` shows it in small.\n"))
 }

@@ -52,7 +52,7 @@ fn put_label(
 
 // What a thread has next that is no label.
 fn put_state(alloc: Global, page: &mut Page, thread: usize, state: &str) -> Result<(), AllocError> {
-    page.say(format!(in alloc; "  thread {thread} {state}\n")?.as_str())
+    page.say_made(format!(in alloc; "  thread {thread} {state}\n"))
 }
 
 // What a core or a buffer has next.

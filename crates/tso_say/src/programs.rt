@@ -54,9 +54,9 @@ fn put_unwritten(
 ) -> Result<(), AllocError> {
     put_read(alloc, page, text, number, found.location)?;
     let word = location_word(found.location);
-    page.say(format!(in alloc;
+    page.say_made(format!(in alloc;
         "{word} is read here, and nothing on this way from the first instruction has written it:\n"
-    )?.as_str())?;
+    ))?;
     let lines = procedure_of(client, found.kind).lines.as_slice();
     put_way(alloc, page, text, lines, &found.path)
 }

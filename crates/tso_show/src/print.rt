@@ -118,6 +118,11 @@ fn put<W: Write>(out: &mut W, bytes: &[u8]) -> Result<(), ShowError> {
     out.write_all(bytes).map_err(|_| ShowError::Write)
 }
 
+// Prints a text that was made for it.
+fn put_made<W: Write>(out: &mut W, text: Result<String, AllocError>) -> Result<(), ShowError> {
+    put(out, text?.as_bytes())
+}
+
 // Prints the instruction that takes a label, and its line of the text without the spaces around it.
 fn put_site<W: Write>(
     alloc: Global,
@@ -127,7 +132,7 @@ fn put_site<W: Write>(
 ) -> Result<(), ShowError> {
     match site {
         Some(site) => {
-            put(out, format!(in alloc; "{site}: ")?.as_bytes())?;
+            put_made(out, format!(in alloc; "{site}: "))?;
             put(out, line_text(source, site.line as usize).trim_ascii())
         }
         None => Ok(()),
@@ -144,13 +149,10 @@ fn put_label<W: Write>(
     site: Option<Site>,
 ) -> Result<(), ShowError> {
     if site.is_some() {
-        put(
-            out,
-            format!(in alloc; "{number:>6} {line:<28}  ")?.as_bytes(),
-        )?;
+        put_made(out, format!(in alloc; "{number:>6} {line:<28}  "))?;
         put_site(alloc, out, source, site)
     } else {
-        put(out, format!(in alloc; "{number:>6} {line}")?.as_bytes())
+        put_made(out, format!(in alloc; "{number:>6} {line}"))
     }
 }
 
@@ -199,7 +201,7 @@ pub fn print_calls<W: Write>(
 ) -> Result<(), ShowError> {
     put(out, b"calls\n")?;
     for call in calls_in(alloc, labels)? {
-        put(out, format!(in alloc; "  {call}\n")?.as_bytes())?;
+        put_made(out, format!(in alloc; "  {call}\n"))?;
     }
     Ok(())
 }
@@ -230,9 +232,9 @@ fn put_order<W: Write>(
         let answer = Answered(placed.answer);
         if let Some(call) = call_of(calls, thread, placed.call) {
             let asked = Asked(call.kind);
-            put(
+            put_made(
                 out,
-                format!(in alloc; "  thread {thread} {asked}: {answer}\n")?.as_bytes(),
+                format!(in alloc; "  thread {thread} {asked}: {answer}\n"),
             )?;
         }
     }
@@ -248,7 +250,7 @@ fn put_returning<W: Write>(
 ) -> Result<(), ShowError> {
     for call in calls {
         if matches!(call.returns, Some(returned) if returned.label == number) {
-            put(out, format!(in alloc; "  {call}\n")?.as_bytes())?;
+            put_made(out, format!(in alloc; "  {call}\n"))?;
         }
     }
     Ok(())
@@ -262,10 +264,7 @@ fn put_served<W: Write>(
     label: usize,
     order: &Order,
 ) -> Result<(), ShowError> {
-    put(
-        out,
-        format!(in alloc; "an order up to label {label}\n")?.as_bytes(),
-    )?;
+    put_made(out, format!(in alloc; "an order up to label {label}\n"))?;
     put_order(alloc, out, calls, order)
 }
 
@@ -277,10 +276,7 @@ fn put_until<W: Write>(
     label: usize,
     order: &Order,
 ) -> Result<(), ShowError> {
-    put(
-        out,
-        format!(in alloc; "no order from label {label} on\n")?.as_bytes(),
-    )?;
+    put_made(out, format!(in alloc; "no order from label {label} on\n"))?;
     put_returning(alloc, out, calls, label)?;
     put_served(alloc, out, calls, label.saturating_sub(1), order)
 }
