@@ -3,7 +3,7 @@
 use crate::escape::push_escaped;
 use std::alloc::{AllocError, Global};
 use tso_machine::{Label, thread_count};
-use tso_prog::Client;
+use tso_prog::{Array, Client};
 use tso_trace::{cell_name, line_of};
 
 /// Adds text that is a page's own.
@@ -37,16 +37,27 @@ fn put_cells(
     Ok(())
 }
 
+// Adds an array whose first cell has this place.
+fn put_array(
+    alloc: Global,
+    page: &mut Vec<u8>,
+    client: &Client,
+    array: &Array,
+    place: usize,
+) -> Result<(), AllocError> {
+    put(page, "<p><span class=\"name\">")?;
+    push_escaped(page, array.name.as_slice())?;
+    put(page, "</span> <span class=\"cells\">")?;
+    put_cells(alloc, page, client, place, array.words.len())?;
+    put(page, "</span></p>\n")
+}
+
 /// Adds memory, each array on a line of its own.
 pub fn put_memory(alloc: Global, page: &mut Vec<u8>, client: &Client) -> Result<(), AllocError> {
     put(page, "<div id=\"memory\">\n")?;
     let mut place: usize = 0;
     for array in client.arrays.as_slice() {
-        put(page, "<p><span class=\"name\">")?;
-        push_escaped(page, array.name.as_slice())?;
-        put(page, "</span> <span class=\"cells\">")?;
-        put_cells(alloc, page, client, place, array.words.len())?;
-        put(page, "</span></p>\n")?;
+        put_array(alloc, page, client, array, place)?;
         place = place.saturating_add(array.words.len());
     }
     put(page, "</div>\n")

@@ -89,6 +89,15 @@ fn put_heading(alloc: Global, page: &mut Vec<u8>, run: &Run<'_>) -> Result<(), A
     put_made(page, format!(in alloc; "{count}\" value=\"{count}"))
 }
 
+// Adds the program and the labels.
+fn put_lists(alloc: Global, page: &mut Vec<u8>, run: &Run<'_>) -> Result<(), AllocError> {
+    put(page, LABELS)?;
+    put_source(alloc, page, run.source)?;
+    put(page, CALLS)?;
+    put_labels(alloc, page, &run.checked.client, run.labels)?;
+    put(page, HISTORY)
+}
+
 // Adds the lanes, the state, the program and the labels.
 fn put_body(alloc: Global, page: &mut Vec<u8>, run: &Run<'_>) -> Result<(), AllocError> {
     let client = &run.checked.client;
@@ -97,11 +106,7 @@ fn put_body(alloc: Global, page: &mut Vec<u8>, run: &Run<'_>) -> Result<(), Allo
     put(page, STATE)?;
     put_memory(alloc, page, client)?;
     put_threads(alloc, page, client)?;
-    put(page, LABELS)?;
-    put_source(alloc, page, run.source)?;
-    put(page, CALLS)?;
-    put_labels(alloc, page, client, run.labels)?;
-    put(page, HISTORY)
+    put_lists(alloc, page, run)
 }
 
 // Adds the data and what follows it.
@@ -126,14 +131,19 @@ fn put_page(
     Ok(())
 }
 
+// The page of a run, along whose labels the walk goes to its end.
+fn page_along(alloc: Global, run: &Run<'_>, walk: &mut Walk<'_>) -> Result<Vec<u8>, ShowError> {
+    let data = data_of(alloc, walk, run.labels.len())?;
+    let mut page = Vec::new(alloc);
+    put_page(alloc, &mut page, run, walk, data.as_str())?;
+    Ok(page)
+}
+
 /// A run as one HTML file, which loads nothing from elsewhere: a lane for each thread with its calls as bars, memory and
 /// store buffers after each label, forwards and back by keys and a slider, and the program with its current line.
 ///
 /// Errors: `NotAStep` where a label is no step; `Memory`.
 pub fn page_of(alloc: Global, run: &Run<'_>) -> Result<Vec<u8>, ShowError> {
     let mut walk = Walk::new(alloc, run.checked, run.labels)?;
-    let data = data_of(alloc, &mut walk, run.labels.len())?;
-    let mut page = Vec::new(alloc);
-    put_page(alloc, &mut page, run, &walk, data.as_str())?;
-    Ok(page)
+    page_along(alloc, run, &mut walk)
 }
