@@ -1,8 +1,8 @@
 -- What is said of a code, and of a program that is accepted.
 use Rattle.std.specs.Prelude.{ℕ, Bool, true, false, List, [], ◌++◌, codes, decimal}
-use Rattle.tso_explain.specs.Pages.{meaning_of, mended_of, sample_of}
-use Rattle.tso_explain.specs.Words.{topic_word}
-use Rattle.tso_explain.specs.declared.topic.Topic.{Topic}
+use Rattle.tso_say.specs.Said.{meaning_of, mended_of, sample_of}
+use Rattle.tso_say.specs.Words.{topic_word}
+use Rattle.tso_say.specs.declared.topic.Topic.{Topic}
 use Rattle.tso_flow.specs.Calls.{step_limit}
 use Rattle.tso_print.specs.Layout.{printed}
 use Rattle.tso_prog.specs.Client.{client}

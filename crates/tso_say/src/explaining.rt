@@ -4,8 +4,9 @@ ghost use Rattle.std.specs.Prelude.{◌≡◌, IfOk, OnOk};
 ghost use Rattle.tso_say.specs.Pages.{page_behind, page_of};
 
 use crate::page::Page;
+use crate::said::{meaning, mended, sample};
+use crate::topic::{Topic, word};
 use std::alloc::{AllocError, Global};
-use tso_explain::{Topic, meaning, mended, sample, word};
 
 // What is said of a code, behind what is there.
 fn put_page(page: &mut Page, topic: Topic) -> Result<(), AllocError>

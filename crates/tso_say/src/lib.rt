@@ -1,17 +1,37 @@
-//! What is said to people in words: pages of codes, lines with marks, reasons.
+//! What is said to people in words. Of each code: what it means, a small text that is refused with it, and the mended text. Of a
+//! text that is refused: the line of the fault, the place in it, how control comes to a read of something unwritten, and what each
+//! thread of a machine has next.
 #![tactic(auto)]
 
 mod accepting;
+mod ahead;
+mod bad_certificates;
+mod bad_programs;
+mod bad_traces;
 mod explaining;
 mod lines;
+mod meanings;
 mod next;
 mod page;
+mod paths;
+mod place;
 mod programs;
+mod reading;
+mod said;
+mod source;
+mod suspect;
+mod topic;
 mod traces;
 
 pub use accepting::parsed;
+pub use ahead::{Next, buffer_next, core_next};
 pub use explaining::explanation;
 pub use lines::put_meaning;
 pub use page::Page;
+pub use place::{Place, place_of_fault, place_of_location};
 pub use programs::put_program;
+pub use reading::{UnwrittenRead, location_word, unwritten};
+pub use said::{meaning, mended, sample};
+pub use source::{line, shown, under};
+pub use topic::{ALL, Topic, find, word};
 pub use traces::put_trace;

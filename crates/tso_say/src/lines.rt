@@ -1,13 +1,15 @@
 //! Lines of a text behind their numbers, with marks under them.
 
 ghost use Rattle.std.specs.Prelude.{IfSome};
-ghost use Rattle.tso_hint.specs.Places.{IsPlaceIn};
+ghost use Rattle.tso_say.specs.Places.{IsPlaceIn};
 
 use crate::page::Page;
+use crate::place::{Place, place_of_fault, place_of_location};
+use crate::said::meaning;
+use crate::source::{line, shown, under};
+use crate::topic::find;
 use std::alloc::{AllocError, Global};
-use tso_explain::{find, meaning};
 use tso_flow::Location;
-use tso_hint::{Place, line, place_of_fault, place_of_location, shown, under};
 use tso_prog::Fault;
 
 // A mark under a place of the line above.
@@ -29,7 +31,7 @@ fn put_mark(
 
 // A line of a text behind its number.
 fn put_line(alloc: Global, page: &mut Page, number: usize, line: &[u8]) -> Result<(), AllocError> {
-    page.say(format!(in alloc; "{number:>4} | ")?.as_str())?;
+    page.say_made(format!(in alloc; "{number:>4} | "))?;
     page.put(&shown(alloc, line)?)?;
     page.say("\n")
 }
@@ -85,5 +87,5 @@ pub fn put_meaning(alloc: Global, page: &mut Page, code: &str) -> Result<(), All
         return Ok(());
     };
     page.say(meaning(topic))?;
-    page.say(format!(in alloc; "\n`tsoq explain {code}` shows it in small.\n")?.as_str())
+    page.say_made(format!(in alloc; "\n`tsoq explain {code}` shows it in small.\n"))
 }

@@ -1,9 +1,9 @@
 //! What each thread has next, where a label of a trace is no step.
 
+use crate::ahead::{Next, buffer_next, core_next};
 use crate::page::Page;
 use std::alloc::{AllocError, Global};
 use tso_flow::Checked;
-use tso_hint::{Next, buffer_next, core_next};
 use tso_machine::{ApplyError, Label, LabelKind, Machine, apply, initial};
 use tso_trace::line_of;
 
@@ -52,7 +52,7 @@ fn put_label(
 
 // What a thread has next that is no label.
 fn put_state(alloc: Global, page: &mut Page, thread: usize, state: &str) -> Result<(), AllocError> {
-    page.say(format!(in alloc; "  thread {thread} {state}\n")?.as_str())
+    page.say_made(format!(in alloc; "  thread {thread} {state}\n"))
 }
 
 // What a core or a buffer has next.

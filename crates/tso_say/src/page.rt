@@ -1,6 +1,6 @@
 //! Text that is put together line by line.
 
-ghost use Rattle.std.specs.Prelude.{◌≡◌, ◌++◌, [], OnOk};
+ghost use Rattle.std.specs.Prelude.{◌≡◌, ◌++◌, [], string_bytes, IfOk, OnOk};
 
 use std::alloc::{AllocError, Global};
 
@@ -37,5 +37,14 @@ impl Page {
         ensures { OnOk result (self.new.bytes.items ≡ self.old.bytes.items ++ text.now) }
     {
         self.put(text.as_bytes())
+    }
+
+    /// Adds this text, where it could be made.
+    ///
+    /// Errors: the text's, and where a growth was refused.
+    pub fn say_made(&mut self, text: Result<String, AllocError>) -> Result<(), AllocError>
+        ensures { OnOk result (IfOk text (λ made. self.new.bytes.items ≡ self.old.bytes.items ++ string_bytes made)) }
+    {
+        self.say(text?.as_str())
     }
 }

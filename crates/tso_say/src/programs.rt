@@ -2,8 +2,8 @@
 
 use crate::lines::{put_fault, put_meaning, put_number, put_read};
 use crate::page::Page;
+use crate::reading::{UnwrittenRead, location_word, unwritten};
 use std::alloc::{AllocError, Global};
-use tso_hint::{UnwrittenRead, location_word, unwritten};
 use tso_machine::procedure_of;
 use tso_prog::{Client, Code, Fault};
 
@@ -54,22 +54,33 @@ fn put_unwritten(
 ) -> Result<(), AllocError> {
     put_read(alloc, page, text, number, found.location)?;
     let word = location_word(found.location);
-    page.say(format!(in alloc;
+    page.say_made(format!(in alloc;
         "{word} is read here, and nothing on this way from the first instruction has written it:\n"
-    )?.as_str())?;
+    ))?;
     let lines = procedure_of(client, found.kind).lines.as_slice();
     put_way(alloc, page, text, lines, &found.path)
 }
 
-// The read of something unwritten on the line of a fault.
-fn put_flow(alloc: Global, page: &mut Page, text: &[u8], fault: Fault) -> Result<(), AllocError> {
-    if let Ok(client) = tso_prog::read(alloc, text) {
-        if let Some(found) = unwritten(alloc, &client, fault.line)? {
-            let number = fault.line as usize;
-            return put_unwritten(alloc, page, text, &client, number, &found);
-        }
+// The read of something unwritten on the line of a fault, where the client has one there.
+fn put_found(
+    alloc: Global,
+    page: &mut Page,
+    text: &[u8],
+    client: &Client,
+    fault: Fault,
+) -> Result<(), AllocError> {
+    match unwritten(alloc, client, fault.line)? {
+        Some(found) => put_unwritten(alloc, page, text, client, fault.line as usize, &found),
+        None => put_fault(alloc, page, text, fault),
     }
-    put_fault(alloc, page, text, fault)
+}
+
+// The same, where the text is a client's.
+fn put_flow(alloc: Global, page: &mut Page, text: &[u8], fault: Fault) -> Result<(), AllocError> {
+    match tso_prog::read(alloc, text) {
+        Ok(client) => put_found(alloc, page, text, &client, fault),
+        Err(_) => put_fault(alloc, page, text, fault),
+    }
 }
 
 /// Says why a program is refused: the line of the fault with a mark, how control comes to a read of something unwritten, and what

@@ -20,7 +20,7 @@ fn put_no_step(
         return Ok(());
     };
     let taken = label.saturating_sub(1);
-    page.say(format!(in alloc; "It is no step. After label {taken} come next:\n")?.as_str())?;
+    page.say_made(format!(in alloc; "It is no step. After label {taken} come next:\n"))?;
     let before = labels.as_slice().get(..taken).unwrap_or(&[]);
     put_nexts(alloc, page, checked, before)
 }

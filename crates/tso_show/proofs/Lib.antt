@@ -1,3 +1,4 @@
+pub mod EscapeLemmas
 pub mod Joins
 pub mod Readings
 pub mod Runs

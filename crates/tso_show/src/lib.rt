@@ -1,12 +1,20 @@
 //! What a replay shows beside its labels: the instruction that took each, registers, memory and store buffers after it, the
-//! calls in time, and from which label on they have no order.
+//! calls in time, and from which label on they have no order; as text, and as a page: one HTML file with the run as a picture,
+//! which loads nothing from elsewhere.
 #![tactic(auto)]
 
 mod buffer;
 mod call;
+mod data;
+mod escape;
 mod frame;
+mod html;
+mod lanes;
+mod laws;
 mod line;
 mod moment;
+mod page;
+mod parts;
 mod print;
 mod replayed;
 mod site;
@@ -16,9 +24,13 @@ mod walk;
 
 pub use buffer::{push_buffer, push_memory, push_origin};
 pub use call::{Returned, TimedCall, calls_in};
+pub use data::push_state_data;
+pub use escape::{push_data, push_escaped};
 pub use frame::push_frame;
+pub use laws::{data_is_no_markup, escaped_text_is_no_markup};
 pub use line::line_text;
 pub use moment::{Moment, next_moment};
+pub use page::{Run, page_of};
 pub use print::{Answered, Asked, Name, ShowError, print_calls, print_labels, print_order};
 pub use replayed::{Replayed, read_run};
 pub use site::{Site, core_site, taker};

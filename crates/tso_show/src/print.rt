@@ -118,6 +118,11 @@ fn put<W: Write>(out: &mut W, bytes: &[u8]) -> Result<(), ShowError> {
     out.write_all(bytes).map_err(|_| ShowError::Write)
 }
 
+// Prints a text that was made for it.
+fn put_made<W: Write>(out: &mut W, text: Result<String, AllocError>) -> Result<(), ShowError> {
+    put(out, text?.as_bytes())
+}
+
 // Prints the instruction that takes a label, and its line of the text without the spaces around it.
 fn put_site<W: Write>(
     alloc: Global,
@@ -127,10 +132,27 @@ fn put_site<W: Write>(
 ) -> Result<(), ShowError> {
     match site {
         Some(site) => {
-            put(out, format!(in alloc; "{site}: ")?.as_bytes())?;
+            put_made(out, format!(in alloc; "{site}: "))?;
             put(out, line_text(source, site.line as usize).trim_ascii())
         }
         None => Ok(()),
+    }
+}
+
+// Prints a label behind its number, and the instruction that takes it where that is asked for.
+fn put_label<W: Write>(
+    alloc: Global,
+    out: &mut W,
+    source: &[u8],
+    number: usize,
+    line: &str,
+    site: Option<Site>,
+) -> Result<(), ShowError> {
+    if site.is_some() {
+        put_made(out, format!(in alloc; "{number:>6} {line:<28}  "))?;
+        put_site(alloc, out, source, site)
+    } else {
+        put_made(out, format!(in alloc; "{number:>6} {line}"))
     }
 }
 
@@ -145,15 +167,8 @@ fn put_moment<W: Write>(
     moment: &Moment,
 ) -> Result<(), ShowError> {
     let line = line_of(alloc, client.arrays.as_slice(), moment.label)?;
-    if show.source && moment.site.is_some() {
-        put(
-            out,
-            format!(in alloc; "{number:>6} {line:<28}  ")?.as_bytes(),
-        )?;
-        put_site(alloc, out, source, moment.site)?;
-    } else {
-        put(out, format!(in alloc; "{number:>6} {line}")?.as_bytes())?;
-    }
+    let site = if show.source { moment.site } else { None };
+    put_label(alloc, out, source, number, line.as_str(), site)?;
     put(out, b"\n")?;
     put(out, moment.shown.as_bytes())
 }
@@ -186,9 +201,23 @@ pub fn print_calls<W: Write>(
 ) -> Result<(), ShowError> {
     put(out, b"calls\n")?;
     for call in calls_in(alloc, labels)? {
-        put(out, format!(in alloc; "  {call}\n")?.as_bytes())?;
+        put_made(out, format!(in alloc; "  {call}\n"))?;
     }
     Ok(())
+}
+
+// The call of this number among a thread's.
+fn call_of(calls: &[TimedCall], thread: usize, number: usize) -> Option<TimedCall> {
+    let mut before = number;
+    for call in calls {
+        if call.thread == thread {
+            if before == 0 {
+                return Some(*call);
+            }
+            before -= 1;
+        }
+    }
+    None
 }
 
 // Prints the calls of an order, each with its answer.
@@ -201,12 +230,11 @@ fn put_order<W: Write>(
     for placed in order.as_slice() {
         let thread = placed.thread;
         let answer = Answered(placed.answer);
-        let mut of_thread = calls.iter().filter(|call| call.thread == thread);
-        if let Some(call) = of_thread.nth(placed.call) {
+        if let Some(call) = call_of(calls, thread, placed.call) {
             let asked = Asked(call.kind);
-            put(
+            put_made(
                 out,
-                format!(in alloc; "  thread {thread} {asked}: {answer}\n")?.as_bytes(),
+                format!(in alloc; "  thread {thread} {asked}: {answer}\n"),
             )?;
         }
     }
@@ -222,7 +250,7 @@ fn put_returning<W: Write>(
 ) -> Result<(), ShowError> {
     for call in calls {
         if matches!(call.returns, Some(returned) if returned.label == number) {
-            put(out, format!(in alloc; "  {call}\n")?.as_bytes())?;
+            put_made(out, format!(in alloc; "  {call}\n"))?;
         }
     }
     Ok(())
@@ -236,11 +264,21 @@ fn put_served<W: Write>(
     label: usize,
     order: &Order,
 ) -> Result<(), ShowError> {
-    put(
-        out,
-        format!(in alloc; "an order up to label {label}\n")?.as_bytes(),
-    )?;
+    put_made(out, format!(in alloc; "an order up to label {label}\n"))?;
     put_order(alloc, out, calls, order)
+}
+
+// Prints from which label on the calls have no order, the call that returns there, and an order of those before it.
+fn put_until<W: Write>(
+    alloc: Global,
+    out: &mut W,
+    calls: &[TimedCall],
+    label: usize,
+    order: &Order,
+) -> Result<(), ShowError> {
+    put_made(out, format!(in alloc; "no order from label {label} on\n"))?;
+    put_returning(alloc, out, calls, label)?;
+    put_served(alloc, out, calls, label.saturating_sub(1), order)
 }
 
 /// Prints how far the calls of the labels that a walk has taken have an order, and one. Where they have none to the end, it
@@ -250,13 +288,6 @@ pub fn print_order<W: Write>(alloc: Global, out: &mut W, walk: &Walk<'_>) -> Res
     let calls = calls_in(alloc, labels)?;
     match ordered_part(alloc, &walk.checked().client, labels)? {
         Served::Whole(order) => put_served(alloc, out, &calls, labels.len(), &order),
-        Served::Until { label, order } => {
-            put(
-                out,
-                format!(in alloc; "no order from label {label} on\n")?.as_bytes(),
-            )?;
-            put_returning(alloc, out, &calls, label)?;
-            put_served(alloc, out, &calls, label - 1, &order)
-        }
+        Served::Until { label, order } => put_until(alloc, out, &calls, label, &order),
     }
 }

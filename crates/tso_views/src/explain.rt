@@ -3,9 +3,9 @@
 use std::alloc::{Alloc, Global};
 use std::process::Abort;
 use std::test::Fail;
-use tso_explain::*;
 use tso_flow::FlowError;
 use tso_prog::{Code, ReadError};
+use tso_say::*;
 
 // The code with which a text is refused, or none. Want of memory is no code.
 fn refusal(alloc: Global, text: &str) -> Option<Code> {

@@ -4,10 +4,10 @@ use std::alloc::{Alloc, Global};
 use std::process::Abort;
 use std::test::Fail;
 use tso_flow::{Checked, Flag, Location, ProcedureKind};
-use tso_hint::*;
 use tso_line::Register;
 use tso_machine::{Label, LabelKind, Machine, apply, initial};
 use tso_prog::{CallKind, Client, Code};
+use tso_say::*;
 
 #[test]
 fn lines(rt: HostRuntime) {

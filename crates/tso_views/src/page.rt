@@ -2,8 +2,8 @@
 
 use std::alloc::Global;
 use std::test::Fail;
-use tso_page::*;
 use tso_samples::{LAMPORT, LAMPORT_TRACE};
+use tso_show::*;
 use tso_trace::labels_of;
 
 // The page of a run of `LAMPORT` whose file has this name.

@@ -7,11 +7,11 @@ use crate::parse::{Parsing, parse_command, parsing_of};
 use clap::{Arg, ArgAction, ArgMatches, Command, value_parser};
 use std::alloc::{AllocError, Global};
 use tso_cert::Workers;
-use tso_explain::{Topic, find};
 use tso_front::{
     Check, Ended, Failure, VERSION, check_arguments, check_of, ended_words, misused,
     program_argument, workers_argument, workers_of,
 };
+use tso_say::{Topic, find};
 
 /// What is searched, how far, and where what is found is written.
 #[derive(Clone, Copy, Debug)]

@@ -7,8 +7,7 @@ use std::alloc::Global;
 use std::io::Write;
 use tso_flow::Checked;
 use tso_front::{Failure, Files, Session, cannot_write};
-use tso_page::{Run, page_of};
-use tso_show::{Replayed, ShowError};
+use tso_show::{Replayed, Run, ShowError, page_of};
 
 // Writes these bytes to a new file.
 fn write_file<F: Files, O: Write, E: Write>(

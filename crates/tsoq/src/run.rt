@@ -16,9 +16,8 @@ use std::sync::Wait;
 use std::thread::Threads;
 use std::time::Duration;
 use tso_check::checked_of;
-use tso_explain::Topic;
 use tso_front::{Check, Failure, Files, Session, check_bytes, reported, started, verdict_status};
-use tso_say::explanation;
+use tso_say::{Topic, explanation};
 
 /// A trace text has at most 64 MiB, so one byte more shows that it is too long.
 pub const TRACE_BYTES: usize = 64 * 1024 * 1024;
@@ -40,7 +39,13 @@ fn replay<F: Files, O: Write, E: Write>(
     texts.program = session.read_program(asked.program)?;
     texts.trace = session.read(asked.trace, TRACE_BYTES + 1)?;
     let checked = checked_of(session.alloc, &texts.program)?;
-    let run = run_of(session.alloc, &checked, &texts.trace, TRACE_BYTES, asked.partial)?;
+    let run = run_of(
+        session.alloc,
+        &checked,
+        &texts.trace,
+        TRACE_BYTES,
+        asked.partial,
+    )?;
     write_page(session, &checked, &texts.program, &run, asked)?;
     print_run(session, &checked, &texts.program, &run, asked)?;
     Ok(0)
@@ -109,7 +114,14 @@ fn search<R: Threads + Wait + Sync, F: Files, L: Listener + Sync, O: Write, E: W
     let begun = listener.elapsed();
     texts.program = session.read_program(asked.program)?;
     let watch = Progress::new(listener, asked.progress);
-    let report = verify(rt, session.alloc, session.files, &texts.program, asked, &watch)?;
+    let report = verify(
+        rt,
+        session.alloc,
+        session.files,
+        &texts.program,
+        asked,
+        &watch,
+    )?;
     session.print_shown(&report)?;
     if asked.stats {
         put_stats(session, &watch, report, begun)?;
@@ -206,14 +218,7 @@ pub fn run_process<
     L: Listener + Sync,
     O: Write + Drop,
     E: Write,
->(
-    rt: &R,
-    system: &S,
-    files: &mut F,
-    listener: &L,
-    out: O,
-    err: &mut E,
-) -> u8 {
+>(rt: &R, system: &S, files: &mut F, listener: &L, out: O, err: &mut E) -> u8 {
     let alloc = system.alloc();
     match started(system, out) {
         Ok((words, mut out)) => {

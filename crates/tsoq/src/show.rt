@@ -8,9 +8,7 @@ use std::alloc::Global;
 use std::io::Write;
 use tso_flow::Checked;
 use tso_front::{Failure, Files, Session};
-use tso_show::{
-    Replayed, Show, ShowError, Walk, print_calls, print_labels, print_order, read_run,
-};
+use tso_show::{Replayed, Show, ShowError, Walk, print_calls, print_labels, print_order, read_run};
 use tso_trace::{TraceFault, Violation};
 
 /// Why a run is not shown to its end.
@@ -60,8 +58,9 @@ fn put_labels<F: Files, O: Write, E: Write>(
     show: Show,
     to: usize,
 ) -> Result<(), Failure> {
-    print_labels(session.alloc, session.out, walk, source, show, to)
-        .map_err(|error| show_failure(&error))
+    print_labels(session.alloc, session.out, walk, source, show, to).map_err(|error| show_failure(
+        &error,
+    ))
 }
 
 // Prints the calls of a run that was walked, and how far they have an order.
@@ -91,7 +90,12 @@ fn print_shown<F: Files, O: Write, E: Write>(
     };
     let mut walk = Walk::new(session.alloc, checked, labels)?;
     put_labels(session, &mut walk, source, asked.show, to)?;
-    put_state_after(session, checked.client.arrays.as_slice(), walk.machine(), to)?;
+    put_state_after(
+        session,
+        checked.client.arrays.as_slice(),
+        walk.machine(),
+        to,
+    )?;
     if to == labels.len() {
         put_wrong(session, run.violation())?;
     }

@@ -1,4 +1,0 @@
-pub mod Ahead
-pub mod Places
-pub mod Sources
-pub mod Unwritten
