@@ -1,0 +1,98 @@
+//! Lists of labels as traces, walks along traces forwards and back, and names of places.
+
+use crate::failure::{Failure, ensure};
+use crate::input::{behind, index_at, word};
+use crate::labels::labels_of;
+use std::alloc::Global;
+use tso_flow::Checked;
+use tso_trace::{Cursor, Trace, TraceFault, cell_name, cell_of};
+
+// Goes to the end, and notes what the machine shows at each place.
+fn go_forward(alloc: Global, cursor: &mut Cursor<'_>) -> Result<Vec<String>, Failure> {
+    let mut seen = Vec::new(alloc);
+    for position in 0..usize::MAX {
+        ensure(cursor.position() == position)?;
+        let machine = cursor.machine();
+        let text = format!(in alloc; "{machine:?}")?;
+        if !cursor.forward()? {
+            break;
+        }
+        seen.push(text)?;
+    }
+    Ok(seen)
+}
+
+// Goes back one place, where the machine shows this again.
+fn go_back(alloc: Global, cursor: &mut Cursor<'_>, wanted: &str) -> Result<(), Failure> {
+    ensure(cursor.back())?;
+    let machine = cursor.machine();
+    let text = format!(in alloc; "{machine:?}")?;
+    ensure(text.as_str() == wanted)
+}
+
+// Goes to the end and back. How many places there are.
+fn walk(alloc: Global, trace: &Trace) -> Result<usize, Failure> {
+    let mut cursor = Cursor::new(alloc, trace)?;
+    let mut seen = go_forward(alloc, &mut cursor)?;
+    let count = seen.len();
+    for left in (0..count).rev() {
+        let Some(wanted) = seen.pop() else {
+            return Err(Failure::Difference);
+        };
+        go_back(alloc, &mut cursor, wanted.as_str())?;
+        ensure(cursor.position() == left)?;
+    }
+    ensure(!cursor.back())?;
+    Ok(count)
+}
+
+// Judges labels as a trace, and walks along it.
+fn put_trace(
+    alloc: Global,
+    checked: &Checked,
+    call: &str,
+    out: &mut String,
+) -> Result<(), Failure> {
+    let labels = labels_of(alloc, behind(call, ":"))?;
+    match Trace::from_labels(alloc, checked, labels) {
+        Ok(trace) => {
+            let (violation, places) = (trace.violation(), walk(alloc, &trace)?);
+            write!(out, "{violation:?}, {places} labels forwards and back")?;
+        }
+        Err(TraceFault::Memory) => return Err(Failure::Memory),
+        Err(fault) => write!(out, "{fault}")?,
+    }
+    Ok(())
+}
+
+// The name of a place.
+fn put_cell(
+    alloc: Global,
+    checked: &Checked,
+    call: &str,
+    out: &mut String,
+) -> Result<(), Failure> {
+    let arrays = checked.client.arrays.as_slice();
+    let place = index_at(call, 2)?;
+    let name = cell_name(alloc, arrays, place)?;
+    match cell_of(arrays, place) {
+        Some(cell) => write!(out, "{name} {} {}", cell.array, cell.index)?,
+        None => write!(out, "{name}")?,
+    }
+    Ok(())
+}
+
+/// Makes a call on a trace of a client. Whether the case is one.
+pub fn answer(
+    alloc: Global,
+    checked: &Checked,
+    call: &str,
+    out: &mut String,
+) -> Result<bool, Failure> {
+    match word(call, 0) {
+        "trace" => put_trace(alloc, checked, call, out)?,
+        "cell" => put_cell(alloc, checked, call, out)?,
+        _ => return Ok(false),
+    }
+    Ok(true)
+}

@@ -1,0 +1,111 @@
+//! Records of a certificate that is one leaf.
+
+ghost use Rattle.std.specs.Prelude.{◌≡◌, ◌<◌, length};
+
+use crate::failure::{Failure, ensure};
+use std::alloc::{AllocError, Global};
+use tso_cert::{Cert, DecodeError, decode};
+use tso_flow::Checked;
+use tso_foot::Table;
+use tso_judge::{Code, judge, judge_alone};
+use tso_list::is_same;
+use tso_rec::{End, Packed, Record};
+use tso_state::State;
+
+// The record with this number.
+fn record_of(leaf: &Packed, number: usize) -> Result<Record, AllocError>
+    requires { number < length leaf.now }
+{
+    let state = leaf.state(number)?;
+    let end = leaf.end(number).clone()?;
+    Ok(Record { state, end })
+}
+
+// All records.
+fn records_of(alloc: Global, leaf: &Packed) -> Result<Vec<Record>, AllocError> {
+    let mut records = Vec::new(alloc);
+    for number in 0..leaf.len() {
+        records.push(record_of(leaf, number)?)?;
+    }
+    Ok(records)
+}
+
+// What a record's end says of its state by itself.
+fn judged(
+    alloc: Global,
+    checked: &Checked,
+    table: &Table,
+    state: &State,
+    end: &End,
+) -> Result<Option<Code>, AllocError> {
+    judge_alone(alloc, checked, table, state, &state.history, end)
+}
+
+// What is found of a record in a certificate that has no other one.
+fn judged_in_own(
+    alloc: Global,
+    checked: &Checked,
+    table: &Table,
+    found: &Record,
+) -> Result<Option<Code>, Failure> {
+    let mut own = Packed::new(alloc);
+    own.push(found)?;
+    let cert = Cert::Leaf(own);
+    ensure(cert.len() == 1)?;
+    ensure(cert.has(&found.state))?;
+    Ok(judge(alloc, checked, table, &cert, found)?)
+}
+
+// Writes how many parts a record keeps of its own, and what is found of it, by itself and as the only one.
+fn put_record(
+    alloc: Global,
+    checked: &Checked,
+    table: &Table,
+    leaf: &Packed,
+    number: usize,
+    found: &Record,
+    out: &mut String,
+) -> Result<(), Failure>
+    requires { number < length leaf.now }
+{
+    ensure(is_same(&leaf.state(number)?, &found.state))?;
+    let kept = leaf.parts_kept(number);
+    let alone = judged(alloc, checked, table, &found.state, &found.end)?;
+    let in_own = judged_in_own(alloc, checked, table, found)?;
+    write!(out, "{kept} {alone:?} {in_own:?}; ")?;
+    Ok(())
+}
+
+// Writes all of them, from a leaf that is made of the records.
+fn put_leaf(
+    alloc: Global,
+    checked: &Checked,
+    table: &Table,
+    records: &[Record],
+    out: &mut String,
+) -> Result<(), Failure> {
+    let leaf = Packed::from_records(alloc, records)?;
+    for (number, found) in records.iter().enumerate() {
+        put_record(alloc, checked, table, &leaf, number, found, out)?;
+    }
+    Ok(())
+}
+
+/// Writes what is found of the records of a certificate.
+pub fn put_records(
+    alloc: Global,
+    checked: &Checked,
+    bytes: &[u8],
+    out: &mut String,
+) -> Result<(), Failure> {
+    let (table, cert) = match decode(alloc, bytes) {
+        Ok(found) => found,
+        Err(DecodeError::Memory) => return Err(Failure::Memory),
+        Err(DecodeError::Fault(_)) => return Err(Failure::Unreadable),
+    };
+    let Cert::Leaf(leaf) = cert else {
+        return Err(Failure::Unreadable);
+    };
+    let records = records_of(alloc, &leaf)?;
+    put_leaf(alloc, checked, &table, &records, out)
+}
