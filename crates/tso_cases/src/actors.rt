@@ -33,12 +33,7 @@ pub fn actors_of(alloc: Global, names: &str) -> Result<Vec<Actor>, Failure> {
 }
 
 // The state after an actor's step.
-fn after(
-    alloc: Global,
-    checked: &Checked,
-    state: &State,
-    actor: Actor,
-) -> Result<State, Failure> {
+fn after(alloc: Global, checked: &Checked, state: &State, actor: Actor) -> Result<State, Failure> {
     if !is_well_formed(checked, state) {
         return Err(Failure::Difference);
     }
@@ -54,42 +49,36 @@ pub fn state_after(alloc: Global, checked: &Checked, names: &str) -> Result<Stat
     Ok(state)
 }
 
-/// The kind of an actor's step, if it has one.
-pub fn kind_of(
-    checked: &Checked,
-    state: &State,
-    actor: Actor,
-) -> Result<Option<StepKind>, Failure> {
+// The kind of an actor's step, if it has one.
+fn kind_of(checked: &Checked, state: &State, actor: Actor) -> Result<Option<StepKind>, Failure> {
     let kind = kind(checked, state, actor);
     ensure(kind.is_some() == enabled(checked, state, actor))?;
     Ok(kind)
 }
 
-// The kinds of the steps of actors, in the state after the steps of others.
-fn put_kinds(
-    alloc: Global,
+/// Writes the kinds of the steps that actors of these names have.
+pub fn put_kinds(
     checked: &Checked,
-    text: &str,
+    state: &State,
+    names: &str,
     out: &mut String,
 ) -> Result<(), Failure> {
-    let state = state_after(alloc, checked, before(text, "/"))?;
-    for name in behind(text, "/").split_whitespace() {
-        let kind = kind_of(checked, &state, actor_of(name)?)?;
+    for name in names.split_whitespace() {
+        let kind = kind_of(checked, state, actor_of(name)?)?;
         write!(out, "{kind:?} ")?;
     }
     Ok(())
 }
 
-// The labels of an actor's step, in the state after the steps of others.
+// Writes the labels of an actor's step.
 fn put_labels(
     alloc: Global,
     checked: &Checked,
-    text: &str,
+    state: &State,
+    name: &str,
     out: &mut String,
 ) -> Result<(), Failure> {
-    let state = state_after(alloc, checked, before(text, "/"))?;
-    let actor = actor_of(word(behind(text, "/"), 0))?;
-    for label in &labels(alloc, checked, &state, actor)? {
+    for label in &labels(alloc, checked, state, actor_of(name)?)? {
         let (thread, kind) = (label.thread, label.kind);
         write!(out, "{thread} {kind:?}; ")?;
     }
@@ -103,11 +92,16 @@ pub fn answer(
     call: &str,
     out: &mut String,
 ) -> Result<bool, Failure> {
+    let name = word(call, 0);
+    if name != "kinds" && name != "labels" {
+        return Ok(false);
+    }
     let text = behind(call, ":");
-    match word(call, 0) {
-        "kinds" => put_kinds(alloc, checked, text, out)?,
-        "labels" => put_labels(alloc, checked, text, out)?,
-        _ => return Ok(false),
+    let state = state_after(alloc, checked, before(text, "/"))?;
+    if name == "kinds" {
+        put_kinds(checked, &state, behind(text, "/"), out)?;
+    } else {
+        put_labels(alloc, checked, &state, word(behind(text, "/"), 0), out)?;
     }
     Ok(true)
 }

@@ -120,6 +120,23 @@ fn ask_after(
     ensure(store.add(next)? == (at, false))
 }
 
+// Asks for the step to a state in each way, and answers its number.
+fn ask_next(
+    alloc: Global,
+    store: &mut Store<'_>,
+    number: u32,
+    state: &State,
+    actor: Actor,
+    next: &State,
+) -> Result<u32, Failure> {
+    let is_new = ask_before(store, number, actor, next)?;
+    let (at, added) = ask_successor(alloc, store, number, actor)?;
+    ensure(added == is_new)?;
+    ask_after(alloc, store, number, actor, next, at)?;
+    ensure(store.compare(number, at) == Some(state.cmp(next)))?;
+    Ok(at)
+}
+
 /// Asks for the step of an actor in each way, and answers the state after it with its number.
 pub fn ask_step(
     alloc: Global,
@@ -133,10 +150,6 @@ pub fn ask_step(
         ask_disabled(alloc, store, number, actor)?;
         return Ok(None);
     };
-    let is_new = ask_before(store, number, actor, &next)?;
-    let (at, added) = ask_successor(alloc, store, number, actor)?;
-    ensure(added == is_new)?;
-    ask_after(alloc, store, number, actor, &next, at)?;
-    ensure(store.compare(number, at) == Some(state.cmp(&next)))?;
+    let at = ask_next(alloc, store, number, state, actor, &next)?;
     Ok(Some((at, next)))
 }

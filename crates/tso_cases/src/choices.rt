@@ -4,7 +4,7 @@ use crate::actors::{actor_of, actors_of, state_after};
 use crate::failure::Failure;
 use crate::input::{before, behind, index_at, word};
 use std::alloc::{AllocError, Global};
-use tso_choose::{choose, chosen};
+use tso_choose::{Choice, choose, chosen};
 use tso_flow::Checked;
 use tso_foot::{Masks, Table, build, is_closed};
 use tso_indep::{Reason, holds};
@@ -38,6 +38,15 @@ fn put_table(checked: &Checked, table: &Table, out: &mut String) -> Result<(), A
     write!(out, "{closed}")
 }
 
+// Writes chosen actors, each with its reasons.
+fn put_choices(choices: &[Choice], out: &mut String) -> Result<(), AllocError> {
+    for choice in choices {
+        let (actor, reasons) = (choice.actor, choice.reasons.as_slice());
+        write!(out, "; {actor:?} {reasons:?}")?;
+    }
+    Ok(())
+}
+
 // Writes which actors are chosen, bit 2i for the core of thread i and 2i + 1 for its buffer, and their reasons.
 fn put_chosen(
     alloc: Global,
@@ -51,11 +60,8 @@ fn put_chosen(
     }
     let set = chosen(checked, table, state);
     write!(out, "{set:b}")?;
-    for choice in choose(alloc, checked, table, state)?.as_slice() {
-        let (actor, reasons) = (choice.actor, choice.reasons.as_slice());
-        write!(out, "; {actor:?} {reasons:?}")?;
-    }
-    Ok(())
+    let choices = choose(alloc, checked, table, state)?;
+    Ok(put_choices(choices.as_slice(), out)?)
 }
 
 // Writes the reasons that hold where some actors are chosen, of one of them towards another thread.

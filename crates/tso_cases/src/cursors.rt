@@ -30,20 +30,27 @@ fn go_back(alloc: Global, cursor: &mut Cursor<'_>, wanted: &str) -> Result<(), F
     ensure(text.as_str() == wanted)
 }
 
-// Goes to the end and back. How many places there are.
+// Goes back to the start, where the machine shows the same at each place again.
+fn go_to_start(alloc: Global, cursor: &mut Cursor<'_>, seen: &[String]) -> Result<(), Failure> {
+    for wanted in seen.iter().rev() {
+        go_back(alloc, cursor, wanted.as_str())?;
+    }
+    ensure(!cursor.back())
+}
+
+// Goes to the end and back. How many labels there are.
 fn walk(alloc: Global, trace: &Trace) -> Result<usize, Failure> {
     let mut cursor = Cursor::new(alloc, trace)?;
-    let mut seen = go_forward(alloc, &mut cursor)?;
-    let count = seen.len();
-    for left in (0..count).rev() {
-        let Some(wanted) = seen.pop() else {
-            return Err(Failure::Difference);
-        };
-        go_back(alloc, &mut cursor, wanted.as_str())?;
-        ensure(cursor.position() == left)?;
-    }
-    ensure(!cursor.back())?;
-    Ok(count)
+    let seen = go_forward(alloc, &mut cursor)?;
+    go_to_start(alloc, &mut cursor, &seen)?;
+    Ok(seen.len())
+}
+
+// Writes the violation of a trace, and how many labels it has.
+fn put_walk(alloc: Global, trace: &Trace, out: &mut String) -> Result<(), Failure> {
+    let (violation, labels) = (trace.violation(), walk(alloc, trace)?);
+    write!(out, "{violation:?}, {labels} labels forwards and back")?;
+    Ok(())
 }
 
 // Judges labels as a trace, and walks along it.
@@ -55,23 +62,14 @@ fn put_trace(
 ) -> Result<(), Failure> {
     let labels = labels_of(alloc, behind(call, ":"))?;
     match Trace::from_labels(alloc, checked, labels) {
-        Ok(trace) => {
-            let (violation, places) = (trace.violation(), walk(alloc, &trace)?);
-            write!(out, "{violation:?}, {places} labels forwards and back")?;
-        }
-        Err(TraceFault::Memory) => return Err(Failure::Memory),
-        Err(fault) => write!(out, "{fault}")?,
+        Ok(trace) => put_walk(alloc, &trace, out),
+        Err(TraceFault::Memory) => Err(Failure::Memory),
+        Err(fault) => Ok(write!(out, "{fault}")?),
     }
-    Ok(())
 }
 
 // The name of a place.
-fn put_cell(
-    alloc: Global,
-    checked: &Checked,
-    call: &str,
-    out: &mut String,
-) -> Result<(), Failure> {
+fn put_cell(alloc: Global, checked: &Checked, call: &str, out: &mut String) -> Result<(), Failure> {
     let arrays = checked.client.arrays.as_slice();
     let place = index_at(call, 2)?;
     let name = cell_name(alloc, arrays, place)?;

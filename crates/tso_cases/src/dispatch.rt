@@ -56,7 +56,7 @@ fn answer_of_client(
     }
     match word(call, 0) {
         "walk" => stores::put_walk(alloc, checked, out)?,
-        "shards" => calls::put_calls(alloc, checked, out)?,
+        "shards" => calls::put_shards(alloc, checked, call, out)?,
         _ => return Ok(false),
     }
     Ok(true)
@@ -95,10 +95,24 @@ fn answer_of_files<R: Files + AllocGlobal + Threads + Wait + Sync>(
     let program = file_at(rt, call, 1)?;
     let cert = file_at(rt, call, 2)?;
     if word(call, 0) == "leaf" {
-        let checked = client_of(alloc, &program)?;
-        return leaf::put_records(alloc, &checked, &cert, out);
+        leaf::put_records(alloc, &program, &cert, out)
+    } else {
+        meetings::put_two_check(rt, alloc, &program, &cert, out)
     }
-    meetings::put_two_check(rt, alloc, &program, &cert, out)
+}
+
+// Makes a call on a client.
+fn answer_of_checked<R: Threads + Wait + Sync>(
+    rt: &R,
+    alloc: Global,
+    checked: &Checked,
+    call: &str,
+    out: &mut String,
+) -> Result<(), Failure> {
+    if answer_of_client(alloc, checked, call, out)? {
+        return Ok(());
+    }
+    answer_by_workers(rt, alloc, checked, call, out)
 }
 
 // Makes a call on the client of a program's text.
@@ -110,10 +124,7 @@ fn answer_of_program<R: Files + AllocGlobal + Threads + Wait + Sync>(
     let alloc = rt.alloc();
     let program = file_at(rt, call, 1)?;
     let checked = client_of(alloc, &program)?;
-    if answer_of_client(alloc, &checked, call, out)? {
-        return Ok(());
-    }
-    answer_by_workers(rt, alloc, &checked, call, out)
+    answer_of_checked(rt, alloc, &checked, call, out)
 }
 
 /// Makes the call of a case, and writes what it finds.

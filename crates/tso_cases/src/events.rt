@@ -89,6 +89,17 @@ fn put_found(
     Ok(())
 }
 
+// Whether an order is found.
+fn put_has_order(
+    alloc: Global,
+    history: &History,
+    call: &str,
+    out: &mut String,
+) -> Result<(), Failure> {
+    let is_so = found(alloc, history, call)?.is_some();
+    Ok(write!(out, "{is_so}")?)
+}
+
 // Whether a list of calls is a linearization.
 fn put_is_order(
     alloc: Global,
@@ -132,10 +143,7 @@ fn put_history(history: &History, out: &mut String) -> Result<(), Failure> {
 fn ask(alloc: Global, history: &History, call: &str, out: &mut String) -> Result<(), Failure> {
     match word(call, 0) {
         "linearize" => put_found(alloc, history, call, out)?,
-        "has_order" => {
-            let is_so = found(alloc, history, call)?.is_some();
-            write!(out, "{is_so}")?;
-        }
+        "has_order" => put_has_order(alloc, history, call, out)?,
         "is_linearization" => put_is_order(alloc, history, call, out)?,
         "precedes" => put_precedes(history, behind(call, " / "), out)?,
         _ => put_history(history, out)?,

@@ -65,10 +65,7 @@ pub fn answer_at(text: &str, number: usize) -> Result<Answer, Failure> {
     match word(text, number) {
         "refused" => Ok(Answer::Refused),
         "done" => Ok(Answer::Done),
-        "value" => Ok(Answer::Value(number_at(
-            text,
-            number.saturating_add(1),
-        )?)),
+        "value" => Ok(Answer::Value(number_at(text, number.saturating_add(1))?)),
         _ => Err(Failure::Unreadable),
     }
 }

@@ -1,16 +1,18 @@
 //! Records of a certificate that is one leaf.
 
-ghost use Rattle.std.specs.Prelude.{◌≡◌, ◌<◌, length};
+ghost use Rattle.std.specs.Prelude.{◌<◌, ◌≤◌, length};
+ghost use Rattle.tso_cert.specs.Lookup.{IsOrdered};
+ghost use Rattle.tso_cert.specs.Trees.{record_count, tree_of};
 
 use crate::failure::{Failure, ensure};
+use crate::input::client_of;
 use std::alloc::{AllocError, Global};
 use tso_cert::{Cert, DecodeError, decode};
 use tso_flow::Checked;
 use tso_foot::Table;
 use tso_judge::{Code, judge, judge_alone};
 use tso_list::is_same;
-use tso_rec::{End, Packed, Record};
-use tso_state::State;
+use tso_rec::{Packed, Record};
 
 // The record with this number.
 fn record_of(leaf: &Packed, number: usize) -> Result<Record, AllocError>
@@ -30,18 +32,23 @@ fn records_of(alloc: Global, leaf: &Packed) -> Result<Vec<Record>, AllocError> {
     Ok(records)
 }
 
-// What a record's end says of its state by itself.
-fn judged(
+// What is found of a record in a certificate that has no other one.
+fn judged_in(
     alloc: Global,
     checked: &Checked,
     table: &Table,
-    state: &State,
-    end: &End,
-) -> Result<Option<Code>, AllocError> {
-    judge_alone(alloc, checked, table, state, &state.history, end)
+    cert: &Cert,
+    found: &Record,
+) -> Result<Option<Code>, Failure>
+    requires few { record_count (tree_of cert.now) ≤ 4194304 }
+    requires ordered { IsOrdered (tree_of cert.now) }
+{
+    ensure(cert.len() == 1)?;
+    ensure(cert.has(&found.state))?;
+    Ok(judge(alloc, checked, table, cert, found)?)
 }
 
-// What is found of a record in a certificate that has no other one.
+// The same, in a certificate that is made of it.
 fn judged_in_own(
     alloc: Global,
     checked: &Checked,
@@ -51,9 +58,15 @@ fn judged_in_own(
     let mut own = Packed::new(alloc);
     own.push(found)?;
     let cert = Cert::Leaf(own);
-    ensure(cert.len() == 1)?;
-    ensure(cert.has(&found.state))?;
-    Ok(judge(alloc, checked, table, &cert, found)?)
+    judged_in(alloc, checked, table, &cert, found)
+}
+
+// Whether the leaf has the record's state at this number.
+fn has_state(leaf: &Packed, number: usize, found: &Record) -> Result<(), Failure>
+    requires { number < length leaf.now }
+{
+    let state = leaf.state(number)?;
+    ensure(is_same(&state, &found.state))
 }
 
 // Writes how many parts a record keeps of its own, and what is found of it, by itself and as the only one.
@@ -68,12 +81,12 @@ fn put_record(
 ) -> Result<(), Failure>
     requires { number < length leaf.now }
 {
-    ensure(is_same(&leaf.state(number)?, &found.state))?;
+    has_state(leaf, number, found)?;
     let kept = leaf.parts_kept(number);
-    let alone = judged(alloc, checked, table, &found.state, &found.end)?;
+    let Record { state, end } = found;
+    let alone = judge_alone(alloc, checked, table, state, &state.history, end)?;
     let in_own = judged_in_own(alloc, checked, table, found)?;
-    write!(out, "{kept} {alone:?} {in_own:?}; ")?;
-    Ok(())
+    Ok(write!(out, "{kept} {alone:?} {in_own:?}; ")?)
 }
 
 // Writes all of them, from a leaf that is made of the records.
@@ -91,8 +104,8 @@ fn put_leaf(
     Ok(())
 }
 
-/// Writes what is found of the records of a certificate.
-pub fn put_records(
+// Writes what is found of the records of a certificate.
+fn put_decoded(
     alloc: Global,
     checked: &Checked,
     bytes: &[u8],
@@ -108,4 +121,15 @@ pub fn put_records(
     };
     let records = records_of(alloc, &leaf)?;
     put_leaf(alloc, checked, &table, &records, out)
+}
+
+/// Writes what is found of the records of a certificate for a program.
+pub fn put_records(
+    alloc: Global,
+    program: &[u8],
+    bytes: &[u8],
+    out: &mut String,
+) -> Result<(), Failure> {
+    let checked = client_of(alloc, program)?;
+    put_decoded(alloc, &checked, bytes, out)
 }

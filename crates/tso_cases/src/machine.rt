@@ -100,17 +100,26 @@ fn walk(
     })
 }
 
+// Takes labels from the start on, and tries others after them.
+fn walk_from_start(
+    alloc: Global,
+    checked: &Checked,
+    labels: &[Label],
+    others: &[Label],
+) -> Result<Walked, Failure> {
+    let mut machine = initial(alloc, checked)?;
+    walk(alloc, checked, &mut machine, labels, others)
+}
+
 // Takes the labels of a case, and tries those behind the bar.
 fn put_walk(alloc: Global, checked: &Checked, call: &str, out: &mut String) -> Result<(), Failure> {
     let text = behind(call, ":");
     let labels = labels_of(alloc, before(text, " / "))?;
     let others = labels_of(alloc, behind(text, " / "))?;
-    let mut machine = initial(alloc, checked)?;
-    let Walked { taken, others } = walk(alloc, checked, &mut machine, &labels, &others)?;
+    let Walked { taken, others } = walk_from_start(alloc, checked, &labels, &others)?;
     match others {
         None => write!(out, "no step at {taken}")?,
-        Some(0) => write!(out, "applied")?,
-        Some(count) => write!(out, "applied, and {count} after")?,
+        Some(count) => write!(out, "applied, {count} after")?,
     }
     Ok(())
 }

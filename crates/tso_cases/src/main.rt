@@ -25,7 +25,6 @@ mod meetings;
 mod plain;
 mod reached;
 mod runs;
-mod said;
 mod seen;
 mod shards;
 mod sketch;
@@ -111,19 +110,25 @@ fn count<R: Files + AllocGlobal + Print + Threads + Wait + Sync>(
     Ok(Counts { cases, differing })
 }
 
-// Goes through a file, and says how many cases there are. Whether all are as it says.
-fn try_file<R: Files + AllocGlobal + Print + Threads + Wait + Sync>(
-    rt: &R,
-    file: &str,
-) -> io::Result<bool> {
-    let text = std::fs::read_to_string(rt, file)?;
-    let Counts { cases, differing } = count(rt, file, text.as_str())?;
+// Says how the cases of a file are found. Whether all are as it says.
+fn report<R: Print>(rt: &R, file: &str, counts: Counts) -> io::Result<bool> {
+    let Counts { cases, differing } = counts;
     if differing == 0 {
         println!(rt; "{file}: {cases} cases as said")?;
     } else {
         println!(rt; "{file}: {differing} of {cases} differ")?;
     }
     Ok(differing == 0)
+}
+
+// Goes through a file.
+fn try_file<R: Files + AllocGlobal + Print + Threads + Wait + Sync>(
+    rt: &R,
+    file: &str,
+) -> io::Result<bool> {
+    let text = std::fs::read_to_string(rt, file)?;
+    let counts = count(rt, file, text.as_str())?;
+    report(rt, file, counts)
 }
 
 fn main(rt: HostRuntime) -> io::Result<ExitCode> {

@@ -1,7 +1,5 @@
 //! Several workers who check one certificate or search one client together, of whom one is held until another has come.
 
-ghost use Rattle.std.specs.Prelude.{◌≤◌, ◌×◌};
-
 use crate::failure::{Failure, ensure};
 use crate::meeting::Meeting;
 use std::alloc::Global;
@@ -148,7 +146,9 @@ pub fn put_pool<R: Threads + Wait + Sync>(
     units: u64,
     out: &mut String,
 ) -> Result<(), Failure> {
-    let workers = workers_of(workers)?.count();
+    if workers == 0 || workers > 64 {
+        return Err(Failure::Unreadable);
+    }
     let footprints = build(alloc, checked)?;
     let limit = units.min(4_194_304) as u32;
     let (tables, ending) = search(rt, alloc, checked, &footprints, workers, limit, &NoWatch)?;

@@ -3,7 +3,6 @@
 use crate::asked::is_kept;
 use crate::failure::{Failure, ensure};
 use std::alloc::Global;
-use tso_flow::Checked;
 use tso_hist::{Call, History};
 use tso_list::Seq;
 use tso_prog::CallKind;
@@ -30,20 +29,26 @@ fn with_seen(alloc: Global, state: &State, seen: usize) -> Result<State, Failure
     Ok(copy)
 }
 
-/// Adds two states that differ in one count alone, each with a number of its own.
-pub fn ask_seen(
-    alloc: Global,
-    checked: &Checked,
-    store: &mut Store<'_>,
-    state: &State,
-) -> Result<(), Failure> {
+// Adds a state that is new, and asks for it. Its number.
+fn add_new(alloc: Global, store: &mut Store<'_>, state: &State) -> Result<u32, Failure> {
+    ensure(store.find(state) == None)?;
+    let (number, is_new) = store.add(state)?;
+    ensure(is_new)?;
+    is_kept(alloc, store, number, state)?;
+    Ok(number)
+}
+
+// Adds two states, each with a number of its own.
+fn add_both(alloc: Global, store: &mut Store<'_>, one: &State, two: &State) -> Result<(), Failure> {
+    let first = add_new(alloc, store, one)?;
+    let second = add_new(alloc, store, two)?;
+    ensure(first != second)?;
+    is_kept(alloc, store, first, one)
+}
+
+/// Adds two states that differ in one count alone.
+pub fn ask_seen(alloc: Global, store: &mut Store<'_>, state: &State) -> Result<(), Failure> {
     let one = with_seen(alloc, state, 1)?;
     let two = with_seen(alloc, state, 2)?;
-    let (first, is_new) = store.add(&one)?;
-    ensure(is_new)?;
-    ensure(store.find(&two) == None)?;
-    let (second, is_new) = store.add(&two)?;
-    ensure(is_new && first != second)?;
-    is_kept(alloc, store, first, &one)?;
-    is_kept(alloc, store, second, &two)
+    add_both(alloc, store, &one, &two)
 }

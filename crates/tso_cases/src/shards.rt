@@ -1,4 +1,6 @@
-//! Calls on shards that share a budget of two units, made by one thread.
+//! Calls on three shards that share a budget of two units, made by one thread. The items of a case are calls on a shard by its
+//! number: `intern 0 0` with a state of a client with one thread, which is told by the count of steps that lead to it, `claim 0` of
+//! the first place, and `finish 0 1` of the first place, with a state and its end.
 
 ghost use Rattle.std.specs.Prelude.{◌≡◌, ◌+◌, ◌*◌, ◌<◌, ◌≤◌, IfOk, Some, slice_get};
 ghost use Rattle.tso_table.specs.Leading.{IsKept};
@@ -6,14 +8,33 @@ ghost use Rattle.tso_table.specs.Totals.{allotment};
 
 use crate::ended::{Ended, end_of};
 use crate::failure::Failure;
-use crate::said::{Line, Said};
-use std::alloc::{AllocError, Global};
+use crate::input::{behind, index_at, word};
+use std::alloc::Global;
 use std::sync::ledger::{Blank, Ledger, Share};
 use tso_flow::Checked;
 use tso_foot::Table as Footprints;
 use tso_state::{Actor, State};
 use tso_store::{AddError, NO_KEY, Store};
 use tso_table::{ALLOTMENT, Budget, FinishError, InternError, Kept, Search, Shard, shard_of};
+
+// The state after a step of the first thread.
+fn after(alloc: Global, checked: &Checked, kept: &Kept) -> Result<Kept, Failure>
+    requires { IsKept checked.now.client kept.now }
+    ensures { IfOk result (IsKept checked.now.client) }
+{
+    Ok(kept.next(alloc, checked, Actor::Exec(0))?)
+}
+
+// The state after so many steps of the first thread.
+fn kept_after(alloc: Global, checked: &Checked, steps: usize) -> Result<Kept, Failure>
+    ensures { IfOk result (IsKept checked.now.client) }
+{
+    let mut kept = Kept::initial(alloc, checked)?;
+    'steps: for _ in 0..steps {
+        kept = after(alloc, checked, &kept)?;
+    }
+    Ok(kept)
+}
 
 // A store of this state alone.
 fn store_of<'a>(alloc: Global, checked: &'a Checked, state: &State) -> Result<Store<'a>, Failure>
@@ -28,8 +49,8 @@ fn store_of<'a>(alloc: Global, checked: &'a Checked, state: &State) -> Result<St
     }
 }
 
-// What `intern` answers for the state of a store.
-fn intern_from<U: Search, E: Ledger>(
+// Makes a state known, and writes its number and whether it is new.
+fn intern<U: Search, E: Ledger>(
     checked: &Checked,
     table: &Footprints,
     store: &Store<'_>,
@@ -37,7 +58,8 @@ fn intern_from<U: Search, E: Ledger>(
     budget: &mut Budget<U, E>,
     kept: &Kept,
     share: &mut Share<E>,
-) -> Result<Said, Failure>
+    out: &mut String,
+) -> Result<(), Failure>
     requires part { 0 < share.old.parts }
     requires kept { IsKept checked.now.client kept.now }
     requires store { slice_get store.now.states 0 ≡ Some kept.now.state }
@@ -50,44 +72,18 @@ fn intern_from<U: Search, E: Ledger>(
         return Err(Failure::Difference);
     };
     match shard.intern(budget, &NO_KEY, &state, kept.actors.as_slice(), share) {
-        Ok((number, is_new)) => Ok(Said::Placed(number, is_new)),
-        Err(InternError::Full) => Ok(Said::Full),
-        Err(InternError::Memory) => Err(Failure::Memory),
+        Ok((number, is_new)) => {
+            let (place, shard) = (number.place, number.shard);
+            write!(out, "place {place} of shard {shard}, new: {is_new}")?;
+        }
+        Err(InternError::Full) => out.push_str("no unit is left")?,
+        Err(InternError::Memory) => return Err(Failure::Memory),
     }
+    Ok(())
 }
 
-// What `intern` answers.
-fn intern<U: Search, E: Ledger>(
-    alloc: Global,
-    checked: &Checked,
-    table: &Footprints,
-    shard: &mut Shard<'_, U, E>,
-    budget: &mut Budget<U, E>,
-    kept: &Kept,
-    share: &mut Share<E>,
-) -> Result<Said, Failure>
-    requires part { 0 < share.old.parts }
-    requires kept { IsKept checked.now.client kept.now }
-    ensures parts { share.new.parts ≡ share.old.parts }
-{
-    let store = store_of(alloc, checked, &kept.state)?;
-    intern_from(checked, table, &store, shard, budget, kept, share)
-}
-
-// What `claim` answers for the first place.
-fn claim<U: Search, E: Ledger>(
-    shard: &mut Shard<'_, U, E>,
-    share: &mut Share<E>,
-) -> Result<Said, Failure>
-    requires { 0 < share.old.parts }
-    ensures { share.new.parts ≡ share.old.parts }
-{
-    let taken = shard.claim(0, share)?;
-    Ok(Said::Taken(taken))
-}
-
-// What `finish` answers for the first place, given the state of a store with its end.
-fn finish_from<U: Search, E: Ledger>(
+// Files the end of a state under the first place, if that is ready.
+fn finish<U: Search, E: Ledger>(
     alloc: Global,
     checked: &Checked,
     table: &Footprints,
@@ -95,7 +91,8 @@ fn finish_from<U: Search, E: Ledger>(
     shard: &mut Shard<'_, U, E>,
     kept: &Kept,
     share: &mut Share<E>,
-) -> Result<Said, Failure>
+    out: &mut String,
+) -> Result<(), Failure>
     requires part { 0 < share.old.parts }
     requires kept { IsKept checked.now.client kept.now }
     requires store { slice_get store.now.states 0 ≡ Some kept.now.state }
@@ -110,27 +107,56 @@ fn finish_from<U: Search, E: Ledger>(
         return Err(Failure::Difference);
     };
     match shard.finish(0, &state, filed, near.as_slice(), share) {
-        Ok(()) => Ok(Said::Filed),
-        Err(FinishError::NotReady) => Ok(Said::NotReady),
-        Err(FinishError::Memory) => Err(Failure::Memory),
+        Ok(()) => out.push_str("filed")?,
+        Err(FinishError::NotReady) => out.push_str("not ready")?,
+        Err(FinishError::Memory) => return Err(Failure::Memory),
     }
+    Ok(())
 }
 
-// What `finish` answers for the first place, given a state with its end.
-fn finish<U: Search, E: Ledger>(
+// Makes a call with a state.
+fn call_with<U: Search, E: Ledger>(
     alloc: Global,
     checked: &Checked,
     table: &Footprints,
     shard: &mut Shard<'_, U, E>,
-    kept: &Kept,
+    budget: &mut Budget<U, E>,
+    item: &str,
     share: &mut Share<E>,
-) -> Result<Said, Failure>
+    out: &mut String,
+) -> Result<(), Failure>
     requires part { 0 < share.old.parts }
-    requires kept { IsKept checked.now.client kept.now }
     ensures parts { share.new.parts ≡ share.old.parts }
 {
+    let kept = kept_after(alloc, checked, index_at(item, 2)?)?;
     let store = store_of(alloc, checked, &kept.state)?;
-    finish_from(alloc, checked, table, &store, shard, kept, share)
+    if word(item, 0) == "intern" {
+        intern(checked, table, &store, shard, budget, &kept, share, out)
+    } else {
+        finish(alloc, checked, table, &store, shard, &kept, share, out)
+    }
+}
+
+// Makes a call on a shard.
+fn call_on<U: Search, E: Ledger>(
+    alloc: Global,
+    checked: &Checked,
+    table: &Footprints,
+    shard: &mut Shard<'_, U, E>,
+    budget: &mut Budget<U, E>,
+    item: &str,
+    share: &mut Share<E>,
+    out: &mut String,
+) -> Result<(), Failure>
+    requires part { 0 < share.old.parts }
+    ensures parts { share.new.parts ≡ share.old.parts }
+{
+    if word(item, 0) == "claim" {
+        let taken = shard.claim(0, share)?;
+        write!(out, "taken: {taken}")?;
+        return Ok(());
+    }
+    call_with(alloc, checked, table, shard, budget, item, share, out)
 }
 
 // Three shards without a state, with the numbers 0, 1 and 2, in the order of their numbers.
@@ -186,40 +212,6 @@ fn three_shards<'c, U: Search, E: Ledger>(
     }
 }
 
-// The first three states of the client: before its call, at the first instruction, and at the second.
-#[derive(Drop)]
-struct States {
-    before: Kept,
-    at_first: Kept,
-    at_second: Kept,
-}
-
-// The state after a step of the first thread.
-fn after(alloc: Global, checked: &Checked, kept: &Kept) -> Result<Kept, Failure>
-    requires { IsKept checked.now.client kept.now }
-    ensures { IfOk result (IsKept checked.now.client) }
-{
-    match kept.next(alloc, checked, Actor::Exec(0)) {
-        Ok(next) => Ok(next),
-        Err(_) => Err(Failure::Difference),
-    }
-}
-
-fn states_of(alloc: Global, checked: &Checked) -> Result<States, Failure>
-    ensures before { IfOk result (λ s. IsKept checked.now.client s.before) }
-    ensures at_first { IfOk result (λ s. IsKept checked.now.client s.at_first) }
-    ensures at_second { IfOk result (λ s. IsKept checked.now.client s.at_second) }
-{
-    let before = Kept::initial(alloc, checked)?;
-    let at_first = after(alloc, checked, &before)?;
-    let at_second = after(alloc, checked, &at_first)?;
-    Ok(States {
-        before,
-        at_first,
-        at_second,
-    })
-}
-
 // How many entries all three have.
 fn entries_of<U: Search, E: Ledger>(three: &Three<'_, U, E>) -> u64 {
     let some = three
@@ -240,204 +232,78 @@ fn open_of<U: Search, E: Ledger>(three: &Three<'_, U, E>) -> usize {
     some.saturating_add(three.third.table().outstanding())
 }
 
-// Notes what a call answered, with how many entries there are then.
-fn note<U: Search, E: Ledger>(
-    lines: &mut Vec<Line>,
-    call: &'static str,
-    said: Said,
-    three: &Three<'_, U, E>,
-) -> Result<(), AllocError> {
-    let entries = entries_of(three);
-    lines.push(Line {
-        call,
-        said,
-        entries,
-    })?;
-    Ok(())
-}
-
-// Makes states known: the third finds no unit, and one that is known needs none.
-fn meet_all<U: Search, E: Ledger>(
+// Makes the call of an item, and writes what it answers.
+fn call_one<U: Search, E: Ledger>(
     alloc: Global,
     checked: &Checked,
     table: &Footprints,
-    states: &States,
     three: &mut Three<'_, U, E>,
     budget: &mut Budget<U, E>,
+    item: &str,
     share: &mut Share<E>,
-    lines: &mut Vec<Line>,
+    out: &mut String,
 ) -> Result<(), Failure>
     requires part { 0 < share.old.parts }
-    requires before { IsKept checked.now.client states.now.before }
-    requires at_first { IsKept checked.now.client states.now.at_first }
-    requires at_second { IsKept checked.now.client states.now.at_second }
     ensures parts { share.new.parts ≡ share.old.parts }
 {
-    let answer = intern(
-        alloc,
-        checked,
-        table,
-        &mut three.first,
-        budget,
-        &states.before,
-        share,
-    )?;
-    note(lines, "intern A", answer, three)?;
-    let answer = intern(
-        alloc,
-        checked,
-        table,
-        &mut three.second,
-        budget,
-        &states.at_first,
-        share,
-    )?;
-    note(lines, "intern B", answer, three)?;
-    let answer = intern(
-        alloc,
-        checked,
-        table,
-        &mut three.first,
-        budget,
-        &states.before,
-        share,
-    )?;
-    note(lines, "intern A", answer, three)?;
-    let answer = intern(
-        alloc,
-        checked,
-        table,
-        &mut three.third,
-        budget,
-        &states.at_second,
-        share,
-    )?;
-    note(lines, "intern C", answer, three)?;
-    Ok(())
+    let shard = match word(item, 1) {
+        "0" => &mut three.first,
+        "1" => &mut three.second,
+        _ => &mut three.third,
+    };
+    call_on(alloc, checked, table, shard, budget, item, share, out)
 }
 
-// Works the first state, and claims the second: an end is filed only for the state that is meant, once it is claimed.
-fn work_first<U: Search, E: Ledger>(
+// Makes the calls of a case one after another, and writes what each answers with how many entries there are then, and how many
+// states are not done at the end.
+fn call_each<U: Search, E: Ledger>(
     alloc: Global,
     checked: &Checked,
     table: &Footprints,
-    states: &States,
-    three: &mut Three<'_, U, E>,
-    share: &mut Share<E>,
-    lines: &mut Vec<Line>,
-) -> Result<(), Failure>
-    requires part { 0 < share.old.parts }
-    requires before { IsKept checked.now.client states.now.before }
-    requires at_first { IsKept checked.now.client states.now.at_first }
-    ensures parts { share.new.parts ≡ share.old.parts }
-{
-    let answer = finish(
-        alloc,
-        checked,
-        table,
-        &mut three.first,
-        &states.before,
-        share,
-    )?;
-    note(lines, "finish A", answer, three)?;
-    let answer = claim(&mut three.first, share)?;
-    note(lines, "claim A", answer, three)?;
-    let answer = claim(&mut three.first, share)?;
-    note(lines, "claim A", answer, three)?;
-    let answer = finish(
-        alloc,
-        checked,
-        table,
-        &mut three.first,
-        &states.at_first,
-        share,
-    )?;
-    note(lines, "finish A as B", answer, three)?;
-    let answer = finish(
-        alloc,
-        checked,
-        table,
-        &mut three.first,
-        &states.before,
-        share,
-    )?;
-    note(lines, "finish A", answer, three)?;
-    let answer = claim(&mut three.second, share)?;
-    note(lines, "claim B", answer, three)?;
-    Ok(())
-}
-
-// All calls, one after the other, and how many states are not done at the end.
-fn calls_on<U: Search, E: Ledger>(
-    alloc: Global,
-    checked: &Checked,
-    table: &Footprints,
-    states: &States,
     three: &mut Three<'_, U, E>,
     budget: &mut Budget<U, E>,
+    call: &str,
     share: &mut Share<E>,
-) -> Result<(Vec<Line>, usize), Failure>
+    out: &mut String,
+) -> Result<(), Failure>
     requires part { 0 < share.old.parts }
-    requires before { IsKept checked.now.client states.now.before }
-    requires at_first { IsKept checked.now.client states.now.at_first }
-    requires at_second { IsKept checked.now.client states.now.at_second }
 {
-    let mut lines = Vec::new(alloc);
-    meet_all(
-        alloc, checked, table, states, three, budget, share, &mut lines,
-    )?;
-    work_first(alloc, checked, table, states, three, share, &mut lines)?;
+    'items: for item in behind(call, ":").split(';') {
+        call_one(alloc, checked, table, three, budget, item, share, out)?;
+        let entries = entries_of(three);
+        write!(out, " {entries}; ")?;
+    }
     let open = open_of(three);
-    Ok((lines, open))
+    write!(out, "not done: {open}")?;
+    Ok(())
 }
 
-// The same, on shards of its own, which share a budget of two units.
-fn calls_with<U: Search, E: Ledger>(
+/// Makes the calls of a case on shards of their own, which share a budget of two units.
+pub fn put_calls<U: Search, E: Ledger>(
     alloc: Global,
     checked: &Checked,
     table: &Footprints,
-    states: &States,
     units: Blank,
     entries: Blank,
-) -> Result<(Vec<Line>, usize), Failure>
+    call: &str,
+    out: &mut String,
+) -> Result<(), Failure>
     requires client { U.client ≡ Some checked.now.client }
     requires table { U.table ≡ Some table.now }
     requires units { (units.name ≡ U.name) × (units.parts ≡ U.parts) × (units.parts ≡ 4) }
     requires entries { (entries.name ≡ E.name) × (entries.parts ≡ E.parts) × (entries.parts ≡ 4) }
-    requires before { IsKept checked.now.client states.now.before }
-    requires at_first { IsKept checked.now.client states.now.at_first }
-    requires at_second { IsKept checked.now.client states.now.at_second }
 {
     let (budget, units, share) = Budget::<U, E>::new(2, units, entries);
     let (mut budget, mut units, mut share) = (budget, units, share);
     let mut three = three_shards(alloc, checked, table, &mut units, &mut share);
-    calls_on(
+    call_each(
         alloc,
         checked,
         table,
-        states,
         &mut three,
         &mut budget,
+        call,
         &mut share,
+        out,
     )
-}
-
-/// All calls, one after the other, on shards that share a budget of two units, and how many states are not done at the end. The
-/// states are the first three of a client that has one thread.
-///
-/// Errors: where a growth was refused, or a state is not of its shard.
-pub fn call_all<U: Search, E: Ledger>(
-    alloc: Global,
-    checked: &Checked,
-    table: &Footprints,
-    units: Blank,
-    entries: Blank,
-) -> Result<(Vec<Line>, usize), Failure>
-    requires client { U.client ≡ Some checked.now.client }
-    requires table { U.table ≡ Some table.now }
-    requires units { (units.name ≡ U.name) × (units.parts ≡ U.parts) × (units.parts ≡ 4) }
-    requires entries { (entries.name ≡ E.name) × (entries.parts ≡ E.parts) × (entries.parts ≡ 4) }
-{
-    let states = states_of(alloc, checked)?;
-    calls_with::<U, E>(alloc, checked, table, &states, units, entries)
 }

@@ -1,15 +1,13 @@
 //! States: the first one of a client, whether states are well-formed, their order, and their copies.
 
-use crate::actors::{actor_of, kind_of};
+use crate::actors::{actor_of, put_kinds};
 use crate::failure::{Failure, ensure};
 use crate::input::{before, behind, word};
 use crate::sketch::state_of;
 use std::alloc::Global;
 use std::hash::{DefaultHasher, Hash, Hasher};
 use tso_flow::Checked;
-use tso_state::{
-    State, compare, compare_actors, copy_of, initial_state, is_same, is_well_formed,
-};
+use tso_state::{State, compare, compare_actors, copy_of, initial_state, is_same, is_well_formed};
 
 // Writes the memory of the first state, how many threads it has, and whether it is well-formed.
 fn put_first(alloc: Global, checked: &Checked, out: &mut String) -> Result<(), Failure> {
@@ -34,18 +32,14 @@ fn put_is_fine(
 }
 
 // The kinds of steps that actors have in the state of a case.
-fn put_kinds(
+fn put_kinds_in(
     alloc: Global,
     checked: &Checked,
     call: &str,
     out: &mut String,
 ) -> Result<(), Failure> {
     let state = state_of(alloc, before(behind(call, ":"), " / "))?;
-    for name in behind(call, " / ").split_whitespace() {
-        let kind = kind_of(checked, &state, actor_of(name)?)?;
-        write!(out, "{kind:?} ")?;
-    }
-    Ok(())
+    put_kinds(checked, &state, behind(call, " / "), out)
 }
 
 /// Makes a call on a state of a client. Whether the case is one.
@@ -58,22 +52,26 @@ pub fn answer_of_client(
     match word(call, 0) {
         "first" => put_first(alloc, checked, out)?,
         "well_formed" => put_is_fine(alloc, checked, call, out)?,
-        "kinds_in" => put_kinds(alloc, checked, call, out)?,
+        "kinds_in" => put_kinds_in(alloc, checked, call, out)?,
         _ => return Ok(false),
     }
     Ok(true)
 }
 
-// How two states are ordered.
+// Writes how two states are ordered, which is asked in both directions.
+fn put_order_of(a: &State, b: &State, out: &mut String) -> Result<(), Failure> {
+    let order = compare(a, b);
+    ensure(is_same(a, b) == order.is_eq())?;
+    ensure(compare(b, a) == order.reverse())?;
+    Ok(write!(out, "{order:?}")?)
+}
+
+// Writes how the states of a case are ordered.
 fn put_order(alloc: Global, call: &str, out: &mut String) -> Result<(), Failure> {
     let text = behind(call, ":");
     let a = state_of(alloc, before(text, " / "))?;
     let b = state_of(alloc, behind(text, " / "))?;
-    let order = compare(&a, &b);
-    ensure(is_same(&a, &b) == order.is_eq())?;
-    ensure(compare(&b, &a) == order.reverse())?;
-    write!(out, "{order:?}")?;
-    Ok(())
+    put_order_of(&a, &b, out)
 }
 
 fn hash_of(state: &State) -> u64 {
@@ -82,14 +80,18 @@ fn hash_of(state: &State) -> u64 {
     hasher.finish()
 }
 
+// Whether two states are the same, and hash alike.
+fn put_alike(a: &State, b: &State, out: &mut String) -> Result<(), Failure> {
+    let is_copy = is_same(a, b);
+    let is_alike = hash_of(a) == hash_of(b);
+    Ok(write!(out, "{is_copy} {is_alike}")?)
+}
+
 // Whether a copy is the same, and hashes alike.
 fn put_copy(alloc: Global, call: &str, out: &mut String) -> Result<(), Failure> {
     let state = state_of(alloc, behind(call, ":"))?;
     let copy = copy_of(&state)?;
-    let is_copy = is_same(&state, &copy);
-    let is_alike = hash_of(&state) == hash_of(&copy);
-    write!(out, "{is_copy} {is_alike}")?;
-    Ok(())
+    put_alike(&state, &copy, out)
 }
 
 // How two actors are ordered.

@@ -2,7 +2,7 @@
 
 use crate::asked::is_kept;
 use crate::failure::{Failure, ensure};
-use crate::seen;
+use crate::seen::ask_seen;
 use crate::walk::walk;
 use std::alloc::Global;
 use std::cmp::Ordering;
@@ -32,19 +32,24 @@ fn ask_rising(alloc: Global, store: &Store<'_>) -> Result<(), Failure> {
 }
 
 // The first state, twice.
+fn ask_twice(alloc: Global, store: &mut Store<'_>, first: &State) -> Result<(), Failure> {
+    ensure(store.find(first) == None)?;
+    ensure(store.add(first)? == (0, true))?;
+    ensure(store.add(first)? == (0, false))?;
+    is_kept(alloc, store, 0, first)
+}
+
+// The first state, which a store is asked for.
 fn ask_first(alloc: Global, checked: &Checked, store: &mut Store<'_>) -> Result<State, Failure> {
     let first = initial_state(alloc, checked)?;
-    ensure(store.find(&first) == None)?;
-    ensure(store.add(&first)? == (0, true))?;
-    ensure(store.add(&first)? == (0, false))?;
-    is_kept(alloc, store, 0, &first)?;
+    ask_twice(alloc, store, &first)?;
     Ok(first)
 }
 
 // All that is asked of one store, and how many states it has then.
 fn ask_all(alloc: Global, checked: &Checked, store: &mut Store<'_>) -> Result<usize, Failure> {
     let first = ask_first(alloc, checked, store)?;
-    seen::ask_seen(alloc, checked, store, &first)?;
+    ask_seen(alloc, store, &first)?;
     walk(alloc, checked, store, first)?;
     ask_rising(alloc, store)?;
     Ok(store.len())

@@ -1,6 +1,6 @@
 //! Tickets that are offered and found at seats.
 
-use crate::failure::{Failure, ensure};
+use crate::failure::Failure;
 use crate::input::{behind, index_at, number_at, word};
 use std::alloc::{AllocError, Global};
 use std::sync::Wait;
@@ -18,47 +18,17 @@ fn row_of(alloc: Global, call: &str) -> Result<Vec<Seat<u64>>, Failure> {
     Ok(seats(alloc, count)?)
 }
 
-fn offer(seat: &mut Seat<u64>, ticket: u64) -> Result<(), AllocError> {
-    seat.make_room()?;
-    seat.offer(ticket);
-    Ok(())
-}
-
-// Offers or finds a ticket at a seat: `offer 0 7`, `find 2`.
-fn act(seat: &mut Seat<u64>, item: &str, out: &mut String) -> Result<(), Failure> {
-    if word(item, 0) == "offer" {
-        offer(seat, number_at(item, 2)?)?;
-        return Ok(());
-    }
-    match seat.find() {
-        Some(ticket) => write!(out, "{ticket} ")?,
-        None => out.push_str("none ")?,
+// Offers the tickets from the first one on, without the last one.
+fn offer_all(seat: &mut Seat<u64>, first: u64, last: u64) -> Result<(), AllocError> {
+    for ticket in first..last {
+        seat.make_room()?;
+        seat.offer(ticket);
     }
     Ok(())
 }
 
-// Goes through the items of a case.
-fn put_found(row: &mut Vec<Seat<u64>>, call: &str, out: &mut String) -> Result<(), Failure> {
-    for item in behind(call, ":").split(';') {
-        let Some(seat) = row.get_mut(index_at(item, 1)?) else {
-            return Err(Failure::Unreadable);
-        };
-        act(seat, item, out)?;
-    }
-    Ok(())
-}
-
-// Offers the tickets from 0 up to `count`.
-fn offer_all(seat: &mut Seat<u64>, count: u64) -> Result<(), AllocError> {
-    for ticket in 0..count {
-        offer(seat, ticket)?;
-    }
-    Ok(())
-}
-
-// Offers so many tickets and finds them: how many are found, and their sum.
-fn put_sum(seat: &mut Seat<u64>, tickets: u64, out: &mut String) -> Result<(), Failure> {
-    offer_all(seat, tickets)?;
+// Finds all tickets: how many there are, and their sum.
+fn find_all(seat: &mut Seat<u64>) -> (u64, u64) {
     let (mut count, mut sum) = (0u64, 0u64);
     for _ in 0..u64::MAX {
         let Some(ticket) = seat.find() else {
@@ -67,21 +37,43 @@ fn put_sum(seat: &mut Seat<u64>, tickets: u64, out: &mut String) -> Result<(), F
         count = count.wrapping_add(1);
         sum = sum.wrapping_add(ticket);
     }
-    write!(out, "{count} {sum}")?;
+    (count, sum)
+}
+
+// Offers or finds tickets at a seat: `offer 0 7 8`, `find 2`, `find_all 0`.
+fn act(seat: &mut Seat<u64>, item: &str, out: &mut String) -> Result<(), Failure> {
+    match word(item, 0) {
+        "offer" => offer_all(seat, number_at(item, 2)?, number_at(item, 3)?)?,
+        "find_all" => {
+            let (count, sum) = find_all(seat);
+            write!(out, "{count} {sum} ")?;
+        }
+        _ => match seat.find() {
+            Some(ticket) => write!(out, "{ticket} ")?,
+            None => out.push_str("none ")?,
+        },
+    }
     Ok(())
 }
 
-/// Makes a call on seats. Whether the case is one.
-pub fn answer(alloc: Global, call: &str, out: &mut String) -> Result<bool, Failure> {
-    match word(call, 0) {
-        "tickets" => put_found(&mut row_of(alloc, call)?, call, out)?,
-        "seats" => {
-            let count = row_of(alloc, call)?.len();
-            write!(out, "{count}")?;
-        }
-        "ticket_sum" => put_sum(&mut Seat::new(alloc)?, number_at(call, 1)?, out)?,
-        _ => return Ok(false),
+// Goes through the items of a case.
+fn put_found(row: &mut Vec<Seat<u64>>, items: &str, out: &mut String) -> Result<(), Failure> {
+    for item in items.split(';') {
+        let Some(seat) = row.get_mut(index_at(item, 1)?) else {
+            return Err(Failure::Unreadable);
+        };
+        act(seat, item, out)?;
     }
+    Ok(())
+}
+
+/// Makes calls on seats. Whether the case is one.
+pub fn answer(alloc: Global, call: &str, out: &mut String) -> Result<bool, Failure> {
+    if word(call, 0) != "tickets" {
+        return Ok(false);
+    }
+    let mut row = row_of(alloc, call)?;
+    put_found(&mut row, behind(call, ":"), out)?;
     Ok(true)
 }
 
@@ -139,7 +131,7 @@ pub fn put_found_by_two<R: Threads + Wait + Sync>(
         return Err(Failure::Difference);
     };
     let mut first = first;
-    offer_all(&mut first, tickets)?;
+    offer_all(&mut first, 0, tickets)?;
     let found = Found {
         tickets,
         count: AtomicU64::new(0),
@@ -148,7 +140,6 @@ pub fn put_found_by_two<R: Threads + Wait + Sync>(
     let (_first, _second) = work_together(rt, first, second, &found);
     let count = found.count.load(Ordering::SeqCst);
     let sum = found.sum.load(Ordering::SeqCst);
-    ensure(row.is_empty())?;
     write!(out, "{count} {sum}")?;
     Ok(())
 }
