@@ -3,8 +3,8 @@
 use crate::failure::Failure;
 use crate::input::{client_of, file_at, number_at, word};
 use crate::{
-    actors, arithmetic, calls, choices, cursors, events, leaf, machine, meetings, plain, runs,
-    states, stores, ticket, writing,
+    actors, arithmetic, choices, cursors, events, leaf, machine, meetings, plain, runs, states,
+    stores, ticket, writing,
 };
 use std::alloc::Global;
 use std::rt::Files;
@@ -56,7 +56,6 @@ fn answer_of_client(
     }
     match word(call, 0) {
         "walk" => stores::put_walk(alloc, checked, out)?,
-        "shards" => calls::put_shards(alloc, checked, call, out)?,
         _ => return Ok(false),
     }
     Ok(true)

@@ -159,7 +159,10 @@ pub fn put_pool<R: Threads + Wait + Sync>(
         Ending::Violation(_) => "a violation",
         Ending::Memory => return Err(Failure::Memory),
     };
-    write!(out, "{states} states, {open} not done, {calls} calls, {why}")?;
+    write!(
+        out,
+        "{states} states, {open} not done, {calls} calls, {why}"
+    )?;
     Ok(())
 }
 
