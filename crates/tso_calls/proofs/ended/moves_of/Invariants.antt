@@ -1,9 +1,0 @@
-use Rattle.std.proofs.Common.{◌≡◌, length}
-use Rattle.tso_pool.specs.Numbering.{AreNumbered}
-use Rattle.tso_calls.proofs.ended.moves_of.Given as goal
-
-abbrev pub invariant-loop-choice : goal.invariant-loop-choice
-invariant-loop-choice l = record {
-  numbered : AreNumbered l.checked.client l.own l.kept.state l.choices l.moves;
-  count : length l.moves.numbers ≡ l.choice-index;
-}

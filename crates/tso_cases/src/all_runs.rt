@@ -1,0 +1,116 @@
+//! The walk over all runs.
+
+use crate::failure::Failure;
+use crate::label_kinds::all_kinds;
+use crate::reached::Reached;
+use std::alloc::Global;
+use std::collections::HashSet;
+use tso_flow::Checked;
+use tso_machine::{Label, LabelKind, thread_count};
+
+/// What was met.
+#[derive(Clone, Copy, Debug)]
+pub struct Met {
+    /// How many states, with their histories.
+    pub states: usize,
+    /// Whether a run has a fault, or calls that no order explains.
+    pub is_bad: bool,
+}
+
+// The walk so far: the states that were met, by their keys, a run to each, and whether one of the runs is not good.
+#[derive(Drop)]
+struct Walk {
+    keys: HashSet<String>,
+    runs: Vec<Vec<Label>>,
+    is_bad: bool,
+}
+
+impl Walk {
+    fn first(alloc: Global, checked: &Checked) -> Result<Walk, Failure> {
+        let mut keys = HashSet::new(alloc);
+        let key = Reached::first(alloc, checked)?.key(alloc)?;
+        keys.insert(key)?;
+        let mut runs = Vec::new(alloc);
+        runs.push(Vec::new(alloc))?;
+        Ok(Walk {
+            keys,
+            runs,
+            is_bad: false,
+        })
+    }
+
+    // Keeps a run, with its last label apart, where it leads to a new state.
+    fn keep(
+        &mut self,
+        alloc: Global,
+        checked: &Checked,
+        labels: &[Label],
+        last: Label,
+        reached: &Reached,
+    ) -> Result<(), Failure> {
+        if !self.keys.insert(reached.key(alloc)?)? {
+            return Ok(());
+        }
+        if matches!(last.kind, LabelKind::Fault(_)) || !reached.has_order(alloc, checked)? {
+            self.is_bad = true;
+        }
+        let mut run = Vec::from_slice(alloc, labels)?;
+        run.push(last)?;
+        self.runs.push(run)?;
+        Ok(())
+    }
+
+    // Tries each kind of label of a thread behind a run.
+    fn go_on(
+        &mut self,
+        alloc: Global,
+        checked: &Checked,
+        labels: &[Label],
+        thread: usize,
+        kinds: &[LabelKind],
+    ) -> Result<(), Failure> {
+        let mut reached = Reached::after(alloc, checked, labels)?;
+        for kind in kinds {
+            let last = Label {
+                thread,
+                kind: *kind,
+            };
+            match reached.take(alloc, checked, last) {
+                Ok(()) => {
+                    self.keep(alloc, checked, labels, last, &reached)?;
+                    reached = Reached::after(alloc, checked, labels)?;
+                }
+                Err(Failure::Difference) => {}
+                Err(failure) => return Err(failure),
+            }
+        }
+        Ok(())
+    }
+
+    // The run to the state of this number.
+    fn run(&self, number: usize) -> Result<Option<Vec<Label>>, Failure> {
+        match self.runs.get(number) {
+            Some(labels) => Ok(Some(labels.clone()?)),
+            None => Ok(None),
+        }
+    }
+}
+
+/// Goes over all states that runs lead to, with their histories.
+pub fn all_runs(alloc: Global, checked: &Checked) -> Result<Met, Failure> {
+    let mut walk = Walk::first(alloc, checked)?;
+    let places = Reached::first(alloc, checked)?.machine.memory.len();
+    let kinds = all_kinds(alloc, places)?;
+    for number in 0..usize::MAX {
+        let Some(labels) = walk.run(number)? else {
+            break;
+        };
+        for thread in 0..thread_count(&checked.client) {
+            walk.go_on(alloc, checked, &labels, thread, &kinds)?;
+        }
+    }
+    Ok(Met {
+        states: walk.runs.len(),
+        is_bad: walk.is_bad,
+    })
+}

@@ -1,0 +1,147 @@
+//! Which call a case is.
+
+use crate::failure::Failure;
+use crate::input::{client_of, file_at, number_at, word};
+use crate::{
+    actors, arithmetic, choices, cursors, events, leaf, machine, meetings, plain, runs, states,
+    stores, ticket, writing,
+};
+use std::alloc::Global;
+use std::rt::Files;
+use std::sync::Wait;
+use std::thread::Threads;
+use tso_flow::Checked;
+
+// Makes a call that needs no file and no thread. Whether the case is one.
+fn answer_alone(alloc: Global, call: &str, out: &mut String) -> Result<bool, Failure> {
+    if arithmetic::answer(call, out)? {
+        return Ok(true);
+    }
+    if events::answer(alloc, call, out)? {
+        return Ok(true);
+    }
+    if states::answer(alloc, call, out)? {
+        return Ok(true);
+    }
+    if ticket::answer(alloc, call, out)? {
+        return Ok(true);
+    }
+    if plain::answer(alloc, call, out)? {
+        return Ok(true);
+    }
+    writing::answer(alloc, call, out)
+}
+
+// Makes a call on a client alone. Whether the case is one.
+fn answer_of_client(
+    alloc: Global,
+    checked: &Checked,
+    call: &str,
+    out: &mut String,
+) -> Result<bool, Failure> {
+    if machine::answer(alloc, checked, call, out)? {
+        return Ok(true);
+    }
+    if states::answer_of_client(alloc, checked, call, out)? {
+        return Ok(true);
+    }
+    if actors::answer(alloc, checked, call, out)? {
+        return Ok(true);
+    }
+    if choices::answer(alloc, checked, call, out)? {
+        return Ok(true);
+    }
+    if cursors::answer(alloc, checked, call, out)? {
+        return Ok(true);
+    }
+    match word(call, 0) {
+        "walk" => stores::put_walk(alloc, checked, out)?,
+        _ => return Ok(false),
+    }
+    Ok(true)
+}
+
+// Makes a call on a client with workers.
+fn answer_by_workers<R: Threads + Wait + Sync>(
+    rt: &R,
+    alloc: Global,
+    checked: &Checked,
+    call: &str,
+    out: &mut String,
+) -> Result<(), Failure> {
+    match word(call, 0) {
+        "all_runs" => runs::put_runs(rt, alloc, checked, out),
+        "two_workers_search" => meetings::put_two_search(rt, alloc, checked, out),
+        "search" => {
+            let (workers, limit) = (number_at(call, 2)?, number_at(call, 3)?);
+            meetings::put_search(rt, alloc, checked, workers, limit, out)
+        }
+        "pool" => {
+            let (workers, units) = (number_at(call, 2)?, number_at(call, 3)?);
+            meetings::put_pool(rt, alloc, checked, workers, units, out)
+        }
+        _ => Err(Failure::Unreadable),
+    }
+}
+
+// Makes a call on a program's text and the bytes of a certificate.
+fn answer_of_files<R: Files + AllocGlobal + Threads + Wait + Sync>(
+    rt: &R,
+    call: &str,
+    out: &mut String,
+) -> Result<(), Failure> {
+    let alloc = rt.alloc();
+    let program = file_at(rt, call, 1)?;
+    let cert = file_at(rt, call, 2)?;
+    if word(call, 0) == "leaf" {
+        leaf::put_records(alloc, &program, &cert, out)
+    } else {
+        meetings::put_two_check(rt, alloc, &program, &cert, out)
+    }
+}
+
+// Makes a call on a client.
+fn answer_of_checked<R: Threads + Wait + Sync>(
+    rt: &R,
+    alloc: Global,
+    checked: &Checked,
+    call: &str,
+    out: &mut String,
+) -> Result<(), Failure> {
+    if answer_of_client(alloc, checked, call, out)? {
+        return Ok(());
+    }
+    answer_by_workers(rt, alloc, checked, call, out)
+}
+
+// Makes a call on the client of a program's text.
+fn answer_of_program<R: Files + AllocGlobal + Threads + Wait + Sync>(
+    rt: &R,
+    call: &str,
+    out: &mut String,
+) -> Result<(), Failure> {
+    let alloc = rt.alloc();
+    let program = file_at(rt, call, 1)?;
+    let checked = client_of(alloc, &program)?;
+    answer_of_checked(rt, alloc, &checked, call, out)
+}
+
+/// Makes the call of a case, and writes what it finds.
+pub fn answer<R: Files + AllocGlobal + Threads + Wait + Sync>(
+    rt: &R,
+    call: &str,
+    out: &mut String,
+) -> Result<(), Failure> {
+    let alloc = rt.alloc();
+    match word(call, 0) {
+        "leaf" | "two_workers_check" => answer_of_files(rt, call, out),
+        "two_workers_find" => ticket::put_found_by_two(rt, alloc, call, out),
+        "workers" => meetings::put_workers(number_at(call, 1)?, out),
+        _ => {
+            if answer_alone(alloc, call, out)? {
+                return Ok(());
+            }
+            answer_of_program(rt, call, out)
+        }
+    }
+}

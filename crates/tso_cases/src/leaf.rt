@@ -1,0 +1,135 @@
+//! Records of a certificate that is one leaf.
+
+ghost use Rattle.std.specs.Prelude.{◌<◌, ◌≤◌, length};
+ghost use Rattle.tso_cert.specs.Lookup.{IsOrdered};
+ghost use Rattle.tso_cert.specs.Trees.{record_count, tree_of};
+
+use crate::failure::{Failure, ensure};
+use crate::input::client_of;
+use std::alloc::{AllocError, Global};
+use tso_cert::{Cert, DecodeError, decode};
+use tso_flow::Checked;
+use tso_foot::Table;
+use tso_judge::{Code, judge, judge_alone};
+use tso_list::is_same;
+use tso_rec::{Packed, Record};
+
+// The record with this number.
+fn record_of(leaf: &Packed, number: usize) -> Result<Record, AllocError>
+    requires { number < length leaf.now }
+{
+    let state = leaf.state(number)?;
+    let end = leaf.end(number).clone()?;
+    Ok(Record { state, end })
+}
+
+// All records.
+fn records_of(alloc: Global, leaf: &Packed) -> Result<Vec<Record>, AllocError> {
+    let mut records = Vec::new(alloc);
+    for number in 0..leaf.len() {
+        records.push(record_of(leaf, number)?)?;
+    }
+    Ok(records)
+}
+
+// What is found of a record in a certificate that has no other one.
+fn judged_in(
+    alloc: Global,
+    checked: &Checked,
+    table: &Table,
+    cert: &Cert,
+    found: &Record,
+) -> Result<Option<Code>, Failure>
+    requires few { record_count (tree_of cert.now) ≤ 4194304 }
+    requires ordered { IsOrdered (tree_of cert.now) }
+{
+    ensure(cert.len() == 1)?;
+    ensure(cert.has(&found.state))?;
+    Ok(judge(alloc, checked, table, cert, found)?)
+}
+
+// The same, in a certificate that is made of it.
+fn judged_in_own(
+    alloc: Global,
+    checked: &Checked,
+    table: &Table,
+    found: &Record,
+) -> Result<Option<Code>, Failure> {
+    let mut own = Packed::new(alloc);
+    own.push(found)?;
+    let cert = Cert::Leaf(own);
+    judged_in(alloc, checked, table, &cert, found)
+}
+
+// Whether the leaf has the record's state at this number.
+fn has_state(leaf: &Packed, number: usize, found: &Record) -> Result<(), Failure>
+    requires { number < length leaf.now }
+{
+    let state = leaf.state(number)?;
+    ensure(is_same(&state, &found.state))
+}
+
+// Writes how many parts a record keeps of its own, and what is found of it, by itself and as the only one.
+fn put_record(
+    alloc: Global,
+    checked: &Checked,
+    table: &Table,
+    leaf: &Packed,
+    number: usize,
+    found: &Record,
+    out: &mut String,
+) -> Result<(), Failure>
+    requires { number < length leaf.now }
+{
+    has_state(leaf, number, found)?;
+    let kept = leaf.parts_kept(number);
+    let Record { state, end } = found;
+    let alone = judge_alone(alloc, checked, table, state, &state.history, end)?;
+    let in_own = judged_in_own(alloc, checked, table, found)?;
+    Ok(write!(out, "{kept} {alone:?} {in_own:?}; ")?)
+}
+
+// Writes all of them, from a leaf that is made of the records.
+fn put_leaf(
+    alloc: Global,
+    checked: &Checked,
+    table: &Table,
+    records: &[Record],
+    out: &mut String,
+) -> Result<(), Failure> {
+    let leaf = Packed::from_records(alloc, records)?;
+    for (number, found) in records.iter().enumerate() {
+        put_record(alloc, checked, table, &leaf, number, found, out)?;
+    }
+    Ok(())
+}
+
+// Writes what is found of the records of a certificate.
+fn put_decoded(
+    alloc: Global,
+    checked: &Checked,
+    bytes: &[u8],
+    out: &mut String,
+) -> Result<(), Failure> {
+    let (table, cert) = match decode(alloc, bytes) {
+        Ok(found) => found,
+        Err(DecodeError::Memory) => return Err(Failure::Memory),
+        Err(DecodeError::Fault(_)) => return Err(Failure::Unreadable),
+    };
+    let Cert::Leaf(leaf) = cert else {
+        return Err(Failure::Unreadable);
+    };
+    let records = records_of(alloc, &leaf)?;
+    put_leaf(alloc, checked, &table, &records, out)
+}
+
+/// Writes what is found of the records of a certificate for a program.
+pub fn put_records(
+    alloc: Global,
+    program: &[u8],
+    bytes: &[u8],
+    out: &mut String,
+) -> Result<(), Failure> {
+    let checked = client_of(alloc, program)?;
+    put_decoded(alloc, &checked, bytes, out)
+}

@@ -1,0 +1,145 @@
+//! Tickets that are offered and found at seats.
+
+use crate::failure::Failure;
+use crate::input::{behind, index_at, number_at, word};
+use std::alloc::{AllocError, Global};
+use std::sync::Wait;
+use std::sync::atomic::{AtomicU64, Ordering};
+use std::thread;
+use std::thread::Threads;
+use tso_ticket::{Seat, seats};
+
+// So many seats, at most 64.
+fn row_of(alloc: Global, call: &str) -> Result<Vec<Seat<u64>>, Failure> {
+    let count = index_at(call, 1)?;
+    if count > 64 {
+        return Err(Failure::Unreadable);
+    }
+    Ok(seats(alloc, count)?)
+}
+
+// Offers the tickets from the first one on, without the last one.
+fn offer_all(seat: &mut Seat<u64>, first: u64, last: u64) -> Result<(), AllocError> {
+    for ticket in first..last {
+        seat.make_room()?;
+        seat.offer(ticket);
+    }
+    Ok(())
+}
+
+// Finds all tickets: how many there are, and their sum.
+fn find_all(seat: &mut Seat<u64>) -> (u64, u64) {
+    let (mut count, mut sum) = (0u64, 0u64);
+    for _ in 0..u64::MAX {
+        let Some(ticket) = seat.find() else {
+            break;
+        };
+        count = count.wrapping_add(1);
+        sum = sum.wrapping_add(ticket);
+    }
+    (count, sum)
+}
+
+// Offers or finds tickets at a seat: `offer 0 7 8`, `find 2`, `find_all 0`.
+fn act(seat: &mut Seat<u64>, item: &str, out: &mut String) -> Result<(), Failure> {
+    match word(item, 0) {
+        "offer" => offer_all(seat, number_at(item, 2)?, number_at(item, 3)?)?,
+        "find_all" => {
+            let (count, sum) = find_all(seat);
+            write!(out, "{count} {sum} ")?;
+        }
+        _ => match seat.find() {
+            Some(ticket) => write!(out, "{ticket} ")?,
+            None => out.push_str("none ")?,
+        },
+    }
+    Ok(())
+}
+
+// Goes through the items of a case.
+fn put_found(row: &mut Vec<Seat<u64>>, items: &str, out: &mut String) -> Result<(), Failure> {
+    for item in items.split(';') {
+        let Some(seat) = row.get_mut(index_at(item, 1)?) else {
+            return Err(Failure::Unreadable);
+        };
+        act(seat, item, out)?;
+    }
+    Ok(())
+}
+
+/// Makes calls on seats. Whether the case is one.
+pub fn answer(alloc: Global, call: &str, out: &mut String) -> Result<bool, Failure> {
+    if word(call, 0) != "tickets" {
+        return Ok(false);
+    }
+    let mut row = row_of(alloc, call)?;
+    put_found(&mut row, behind(call, ":"), out)?;
+    Ok(true)
+}
+
+// What workers have found together, of so many tickets.
+#[derive(Drop)]
+struct Found {
+    tickets: u64,
+    count: AtomicU64,
+    sum: AtomicU64,
+}
+
+// Finds tickets until all were found.
+fn work<R: Wait>(rt: &R, seat: Seat<u64>, found: &Found) -> Seat<u64> {
+    let mut seat = seat;
+    for _ in rt.forever() {
+        match seat.find() {
+            Some(ticket) => {
+                found.sum.fetch_add(ticket, Ordering::SeqCst);
+                found.count.fetch_add(1, Ordering::SeqCst);
+            }
+            None => {
+                if found.count.load(Ordering::SeqCst) >= found.tickets {
+                    break;
+                }
+                thread::yield_now();
+            }
+        }
+    }
+    seat
+}
+
+fn work_together<R: Threads + Wait + Sync>(
+    rt: &R,
+    first: Seat<u64>,
+    second: Seat<u64>,
+    found: &Found,
+) -> (Seat<u64>, Seat<u64>) {
+    thread::join(
+        rt,
+        move || work(rt, first, found),
+        move || work(rt, second, found),
+    )
+}
+
+/// Two workers find so many tickets of the first, each once: how many they find, and their sum.
+pub fn put_found_by_two<R: Threads + Wait + Sync>(
+    rt: &R,
+    alloc: Global,
+    call: &str,
+    out: &mut String,
+) -> Result<(), Failure> {
+    let tickets = number_at(call, 1)?;
+    let mut row = seats(alloc, 2)?;
+    let (Some(second), Some(first)) = (row.pop(), row.pop()) else {
+        return Err(Failure::Difference);
+    };
+    let mut first = first;
+    offer_all(&mut first, 0, tickets)?;
+    let found = Found {
+        tickets,
+        count: AtomicU64::new(0),
+        sum: AtomicU64::new(0),
+    };
+    let (_first, _second) = work_together(rt, first, second, &found);
+    let count = found.count.load(Ordering::SeqCst);
+    let sum = found.sum.load(Ordering::SeqCst);
+    write!(out, "{count} {sum}")?;
+    Ok(())
+}
