@@ -11,7 +11,7 @@ use Rattle.tso_prog.specs.declared.client.Client.{Client}
 use Rattle.tso_trace.specs.Runs.{IsErrorTrace}
 use Rattle.tso_trace.specs.declared.trace.Violation.{Violation}
 use Rattle.tsoq.specs.Reports.{IsOfLabels, IsOfRecords, IsReport}
-use Rattle.tsoq.specs.declared.failure.Failure.{Failure}
+use Rattle.tso_front.specs.declared.failure.Failure.{Failure}
 use Rattle.tsoq.specs.declared.report.Report.{Report}
 use Rattle.tsoq.specs.declared.report.Report.TheVariants.{Certified, Violated}
 

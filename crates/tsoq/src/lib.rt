@@ -14,10 +14,10 @@ mod people;
 mod progress;
 mod replay;
 mod report;
-mod run;
+mod running;
 mod show;
 mod verify;
 
 pub use host::HostListener;
 pub use progress::{Distance, Listener};
-pub use run::{run, run_process};
+pub use running::{run, run_process};

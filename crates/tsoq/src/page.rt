@@ -45,6 +45,25 @@ fn page_bytes(alloc: Global, run: &Run<'_>) -> Result<Vec<u8>, Failure> {
     }
 }
 
+// The page of a run of a program with this name, in which this is wrong.
+fn shown_bytes<'x>(
+    alloc: Global,
+    checked: &'x Checked,
+    program: &'x [u8],
+    run: &'x Replayed,
+    name: &'x str,
+    wrong: Option<&'x str>,
+) -> Result<Vec<u8>, Failure> {
+    let shown = Run {
+        checked,
+        labels: run.labels(),
+        source: program,
+        name,
+        wrong,
+    };
+    page_bytes(alloc, &shown)
+}
+
 // Writes a run as a page to a new file.
 fn write_run<F: Files, O: Write, E: Write>(
     session: &mut Session<'_, '_, '_, F, O, E>,
@@ -55,14 +74,7 @@ fn write_run<F: Files, O: Write, E: Write>(
     path: &str,
 ) -> Result<(), Failure> {
     let words = wrong_words(session.alloc, run)?;
-    let shown = Run {
-        checked,
-        labels: run.labels(),
-        source: program,
-        name,
-        wrong: words.as_deref(),
-    };
-    let bytes = page_bytes(session.alloc, &shown)?;
+    let bytes = shown_bytes(session.alloc, checked, program, run, name, words.as_deref())?;
     write_file(session, path, &bytes)
 }
 

@@ -2,7 +2,7 @@
 //! way, nothing is said.
 
 use crate::command::Asked;
-use crate::run::Texts;
+use crate::running::Texts;
 use std::alloc::{AllocError, Global};
 use std::io::{Read, Write};
 use tso_check::{Verdict, checked_of};

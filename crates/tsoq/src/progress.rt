@@ -66,8 +66,7 @@ impl<'a, L: Listener> Progress<'a, L> {
         })
     }
 
-    fn note(&self, found: u64) {
-        self.states.store(found, Ordering::SeqCst);
+    fn note(&self) {
         if let Some(now) = self.listener.elapsed() {
             self.last.store(milliseconds(now), Ordering::SeqCst);
         }
@@ -102,8 +101,9 @@ impl<'a, L: Listener> Watch for Progress<'a, L> {
 
     fn met(&self, found: u64, left: u64) {
         let is_told = found.saturating_sub(left) % EVERY == 0;
+        self.states.store(found, Ordering::SeqCst);
         if is_told || left <= 1 {
-            self.note(found);
+            self.note();
         }
         if is_told && self.is_wanted {
             self.listener.hear(found, left);
