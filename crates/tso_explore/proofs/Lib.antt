@@ -1,4 +1,6 @@
 pub mod CuttingLemmas
+pub mod FirstLemmas
+pub mod GoodLemmas
 pub mod SearchLemmas
 pub mod TaskLemmas
 pub mod WayLemmas

@@ -1,5 +1,6 @@
 -- States that are met, and those that are worked, as more of them are kept.
 use Rattle.std.proofs.Common.{◌≡◌, ◌∙◌, ℕ, zero, suc, ◌+◌, ◌*◌, ◌<◌, ◌≤◌, ◌++◌, ◌==◌, ◌⊎◌, inl, inr, Bool, true, false, not, List, [], ◌∷◌, length, length-append, map, get_or, Option, None, Some, slice_get, refl, sym, ap, subst, arith, if◌then◌else◌}
+use Rattle.std.specs.Result.{IsErrAnd}
 use Rattle.std.specs.Prelude.{All, Err, IfErr, IfOk, IfSome, IsTrue, is_some, Ok, OnOk, Result}
 use Rattle.std.specs.Option.{option_map}
 use Rattle.std.proofs.lemmas.Option.{none-some, same_Some, slice_get_within, slice_get-get_or, slice_get-map}
@@ -18,8 +19,11 @@ use Rattle.tso_compact.proofs.PathLemmas.{initial_is_plausible, steps_stay_plaus
 use Rattle.tso_compact.specs.Laws.{initial_of}
 use Rattle.tso_compact.specs.declared.sort.StepKind.{StepKind}
 use Rattle.tso_compact.specs.Plans.{HasStep, IsStep, kind_of_move}
-use Rattle.tso_explore.specs.Reached.{IsMet, IsOrigin}
-use Rattle.tso_explore.specs.Searched.{AreFollowed, AreSearched, GoesOn, HasBegun, HasMore, IsBegun, IsFollowed, IsSearched, IsGoodAt, IsStarted, IsWorked, IsWorkedAt}
+use Rattle.tso_explore.specs.Goodness.{AllGood, AllGoodBelow, IsGood}
+use Rattle.tso_explore.specs.Reached.{IsBadAt, IsMet, IsOrigin}
+use Rattle.tso_explore.specs.Searched.{AreFollowed, AreSearched, GoesOn, HasBegun, HasMore, IsBegun, IsFollowed, IsSearched, IsGoodAt, IsHunting, IsStarted, IsStop, IsStopAt, IsWorked, IsWorkedAt}
+use Rattle.tso_explore.specs.declared.stop.Stop.{Stop}
+use Rattle.tso_explore.specs.declared.stop.Stop.TheVariants as stops
 use Rattle.tso_explore.specs.declared.origin.Origin.{Origin}
 use Rattle.tso_fifo.specs.Orders.{HasOrder}
 use Rattle.tso_flow.specs.Calls.{as_thread}
@@ -39,7 +43,7 @@ use Rattle.tso_state.specs.Views.{state_of}
 use Rattle.tso_state.specs.WellFormed.{IsWellFormed, thread_total}
 use Rattle.tso_state.specs.declared.actor.Actor.{Actor}
 use Rattle.tso_state.specs.declared.state.State.{State}
-use Rattle.tso_store.specs.Sheets.{CanStep, IsSuccessor, IsSuccessorOrNone, Sheet}
+use Rattle.tso_store.specs.Sheets.{CanStep, IsKeptSuccessor, IsSuccessor, IsSuccessorOrNone, Sheet}
 use Rattle.tso_store.specs.Unions.{IsWithinUnion}
 use Rattle.tso_table.specs.Leading.{IsKept, actors_of}
 use Rattle.tso_table.specs.OneThread.{Rows}
@@ -67,6 +71,10 @@ some_where (Some x) r p e is = (x, p)
 pub err_as : {X E : Type 0} {P Q : E → Type 0} (r : Result X E) → IfErr r P → ((e : E) → P e → Q e) → IfErr r Q
 err_as (Ok x) p f = tt
 err_as (Err e) p f = f e p
+
+pub err_only : {X E : Type 0} {P Q : E → Type 0} (r : Result X E) → IsErrAnd r P → ((e : E) → P e → Q e) → IfErr r Q
+err_only (Ok x) p f = tt
+err_only (Err e) p f = f e p
 
 -- ---- met
 
@@ -210,9 +218,9 @@ nobody_followed c t s states is choices chosen i d lt =
 
 -- a state whose chosen steps are followed is worked, and so are those before it
 pub searched_moves : (c : Client) (t : Table) (limit : ℕ) (old new : List State) (origins origins' : List Origin) (number set : ℕ) (s : State)
-    → IsSearched c t old origins number → GoesOn c limit old new origins' → slice_get old number ≡ Some s → IsChoice c t s set → (set ≡ 0 → ⊥) → AreFollowed c old new number set 10
+    → IsSearched c t old origins number → AllGood c old → GoesOn c limit old new origins' → slice_get old number ≡ Some s → IsChoice c t s set → AreFollowed c old new number set 10
     → IsSearched c t new origins' (number + 1)
-searched_moves c t limit old new origins origins' number set s searched on here is some followed = record {
+searched_moves c t limit old new origins origins' number set s searched good on here is followed = record {
   begun = on.begun;
   worked = λ n x lt at. by n x at (cases_lt n number) lt;
 }
@@ -223,8 +231,8 @@ searched_moves c t limit old new origins origins' number set s searched on here 
     this : IsWorked c t new s
     this = record {
       moves = chosen_followed c t s set old new number well is here followed;
-      unstopped = λ over. absurd (some (over_chooses_none c t s set is over));
-      explained = λ over. absurd (some (over_chooses_none c t s set is over));
+      unstopped = λ over. (good number s here).unstopped;
+      explained = λ over. (good number s here).explained;
     }
 
     by : (n : ℕ) (x : State) → slice_get new n ≡ Some x → (n < number) ⊎ (number ≤ n) → n < number + 1 → IsWorked c t new x
@@ -237,30 +245,6 @@ searched_moves c t limit old new origins origins' number set s searched on here 
         let last : number ≡ n = omega (arith, ge, small) in
         let same : s ≡ x = same_Some s x (sym (on.stays number s here) ∙ ap (λ i. slice_get new i) last ∙ at) in
         subst (IsWorked c t new) same this
-
--- one without a step that is good is worked
-pub searched_end : (c : Client) (t : Table) (states : List State) (origins : List Origin) (number : ℕ) (s : State) → IsSearched c t states origins number
-    → slice_get states number ≡ Some s → IsChoice c t s 0 → IsGoodAt c states number → IsSearched c t states origins (number + 1)
-searched_end c t states origins number s searched here is good = record {
-  begun = searched.begun;
-  worked = λ n x lt at. by n x at (cases_lt n number) lt;
-}
-  where
-    good_one : good.state ≡ s
-    good_one = same_Some good.state s (sym good.at ∙ here)
-
-    this : IsWorked c t states s
-    this = record {
-      moves = nobody_followed c t s states is;
-      unstopped = λ over. subst HasNoStopped good_one good.unstopped;
-      explained = λ over. subst (λ (x : State). HasOrder c.mode c.capacity x.history) good_one good.explained;
-    }
-
-    by : (n : ℕ) (x : State) → slice_get states n ≡ Some x → (n < number) ⊎ (number ≤ n) → n < number + 1 → IsWorked c t states x
-    by n x at (inl lt) small = searched.worked n x lt at
-    by n x at (inr ge) small =
-        let last : number ≡ n = omega (arith, ge, small) in
-        subst (IsWorked c t states) (same_Some s x (sym here ∙ ap (λ i. slice_get states i) last ∙ at)) this
 
 -- the initial state alone
 pub begun_first : (c : Client) (states : List State) → IsStarted c states → IsBegun c states []
@@ -330,6 +314,70 @@ stepped_new c d sound same old new os os' n a o r begun step e is more =
     let next : IsSuccessor d old new n a r = subst (IsSuccessorOrNone d old new n a) e step in
     new_by c sound old new os os' n a r begun (subst (λ (x : Client). IsSuccessor x old new n a r) same next) is more
 
+-- the state behind the others, with the step that leads there
+pub record IsNewState (c : Client) (old new : List State) (n : ℕ) (a : Actor) (m : ℕ) : Type 0 where
+  pub from : State
+  pub to : State
+  pub at : slice_get old n ≡ Some from
+  pub step : IsStep c from a to
+  pub grown : new ≡ old ++ to ∷ []
+  pub last : m ≡ length old
+
+new_state_by : (c : Client) (old new : List State) (n : ℕ) (a : Actor) (r : ℕ × Bool) → IsSuccessor c old new n a r → not r.1 ≡ false → IsNumbered new → IsNewState c old new n a r.0
+new_state_by c old new n a (m, false) next is differ = absurd (let clash : true ≡ false = is in cc)
+new_state_by c old new n a (m, true) next is differ = record {
+  from = next.from;
+  to = next.to;
+  at = next.at;
+  step = next.step;
+  grown = next.added.kept;
+  last = differ m (length old) next.to next.added.number (subst (λ (xs : List State). slice_get xs (length old) ≡ Some next.to) (sym next.added.kept) (new_item old next.to));
+}
+
+pub new_state : (c d : Client) → d ≡ c → (old new : List State) (n : ℕ) (a : Actor) (o : Option (ℕ × Bool)) (r : ℕ × Bool)
+    → IsSuccessorOrNone d old new n a o → o ≡ Some r → not r.1 ≡ false → IsNumbered new → IsNewState c old new n a r.0
+new_state c d same old new n a o r step e is differ =
+    let next : IsSuccessor d old new n a r = subst (IsSuccessorOrNone d old new n a) e step in
+    new_state_by c old new n a r (subst (λ (x : Client). IsSuccessor x old new n a r) same next) is differ
+
+new_at : (c : Client) (old new : List State) (n m : ℕ) (a : Actor) → (s : IsNewState c old new n a m) → slice_get new m ≡ Some s.to
+new_at c old new n m a s =
+    subst (λ i. slice_get new i ≡ Some s.to) (sym s.last) (subst (λ (xs : List State). slice_get xs (length old) ≡ Some s.to) (sym s.grown) (new_item old s.to))
+
+pub new_is_next : (c : Client) (old new : List State) (n m : ℕ) (a : Actor) → IsNewState c old new n a m → IsKeptSuccessor c new n a m
+new_is_next c old new n m a s = record {
+  from = s.from;
+  to = s.to;
+  at = subst (λ (xs : List State). slice_get xs n ≡ Some s.from) (sym s.grown) (old_item old s.to s.from n s.at);
+  step = s.step;
+  number = new_at c old new n m a s;
+}
+
+pub new_is_later : (c : Client) (old new : List State) (n m : ℕ) (a : Actor) → IsNewState c old new n a m → n < m
+new_is_later c old new n m a s = let lt = slice_get_within old n s.from s.at in let e = s.last in omega (arith, lt, e)
+
+pub new_is_within : (c : Client) (old new : List State) (n m : ℕ) (a : Actor) → IsNewState c old new n a m → m < length new
+new_is_within c old new n m a s = slice_get_within new m s.to (new_at c old new n m a s)
+
+pub good_below : (c : Client) (old new : List State) (n m : ℕ) (a : Actor) → IsNewState c old new n a m → AllGood c old → AllGoodBelow c new m
+good_below c old new n m a s good k x less at =
+    of_longer old s.to x k (subst (λ (xs : List State). slice_get xs k ≡ Some x) s.grown at) (λ before. good k x before) (λ last same. absurd (let e = s.last in omega (arith, less, last, e)))
+
+pub good_with : (c : Client) (old new : List State) (n m : ℕ) (a : Actor) → IsNewState c old new n a m → AllGood c old → IsGoodAt c new m → AllGood c new
+good_with c old new n m a s good one k x at =
+    of_longer old s.to x k (subst (λ (xs : List State). slice_get xs k ≡ Some x) s.grown at) (λ before. good k x before) (λ last same.
+    let here : one.state ≡ x = same_Some one.state x (sym one.at ∙ new_at c old new n m a s ∙ ap Some same) in
+    subst (IsGood c) here (record { unstopped = one.unstopped; explained = one.explained }))
+
+pub good_as : (c : Client) (old new : List State) → AllGood c old → new ≡ old → AllGood c new
+good_as c old new good same = subst (AllGood c) (sym same) good
+
+-- a search stops where a new state is bad
+pub stop_at : (c : Client) (limit : ℕ) (states : List State) (origins : List Origin) (n : ℕ) → IsBegun c states origins → (stop : Stop) → IsStopAt c states n stop → IsStop c limit states origins stop
+stop_at c limit states origins n begun (stops.Violation m) (same, bad) = (begun, subst (IsBadAt c states) (sym same) bad)
+stop_at c limit states origins n begun stops.Limit at = absurd at
+stop_at c limit states origins n begun stops.Memory at = tt
+
 pub new_goes_on : (c : Client) (limit : ℕ) (old new : List State) (os : List Origin) (n : ℕ) (a : Actor) → IsNew c old new os n a → length new ≤ limit → GoesOn c limit old new os
 new_goes_on c limit old new os n a new_one few = record { begun = new_one.begun; stays = new_one.stays; few = few }
 
@@ -379,6 +427,43 @@ followed_on c old mid new n set k p q all one j lt bit = by (cases_lt j k)
 
 pub still_there : (old new : List State) (n : ℕ) (s : State) → Extends old new → n < length old → n < length new
 still_there old new n s stays lt = slice_get_within new n (get_or old n s) (stays n (get_or old n s) (slice_get-get_or old n s lt))
+
+pub longer : (old new : List State) → Extends old new → length old ≤ length new
+longer [] new stays = omega arith
+longer (x ∷ xs) new stays = let h : length xs < length new = still_there (x ∷ xs) new (length xs) x stays (omega arith) in omega (arith, h)
+
+pub some_as : {X : Type 0} (P : X → Type 0) (o : Option X) (x : X) → IfSome o P → o ≡ Some x → P x
+some_as P None x p e = absurd (none-some x e)
+some_as P (Some y) x p e = subst P (same_Some y x e) p
+
+-- what a hunt keeps goes on
+pub hunting_on : (c : Client) (old new : List State) (origins : List Origin) → GoesOn c 4194304 old new origins → AllGood c new → IsHunting c new origins
+hunting_on c old new origins on good = record { begun = on.begun; good = good; few = on.few }
+
+-- a hunt since it had this store, with steps left
+pub record IsLeaving (c : Client) (old new : Sheet) (origins : List Origin) (before steps : ℕ) : Type 0 where
+  pub client : new.client ≡ c
+  pub hunting : IsHunting c new.states origins
+  pub more : length old.states ≤ length new.states
+  pub room : new.kept + 4 * steps ≤ old.kept + 4 * before
+
+pub leaving_first : (c : Client) (old : Sheet) (origins : List Origin) (steps : ℕ) → old.client ≡ c → IsHunting c old.states origins → IsLeaving c old old origins steps steps
+leaving_first c old origins steps same hunting = record { client = same; hunting = hunting; more = omega arith; room = omega arith }
+
+pub leaving_on : (c : Client) (old mid next : Sheet) (os ps : List Origin) (before steps left : ℕ) → IsLeaving c old mid os before steps → next.client ≡ mid.client → IsHunting c next.states ps
+    → length mid.states ≤ length next.states → next.kept + 4 * left ≤ mid.kept + 4 * steps → IsLeaving c old next ps before left
+leaving_on c old mid next os ps before steps left l same hunting more room = record {
+  client = same ∙ l.client;
+  hunting = hunting;
+  more = (let a = l.more in omega (arith, a, more));
+  room = (let a = l.room in omega (arith, a, room));
+}
+
+pub leaving_as : (c : Client) (old new next : Sheet) (os ps : List Origin) (before steps left : ℕ) → IsLeaving c old next ps before left → new ≡ next → os ≡ ps → steps ≡ left → IsLeaving c old new os before steps
+leaving_as c old new next os ps before steps left l store tail same =
+    let a : IsLeaving c old next ps before steps = subst (IsLeaving c old next ps before) (sym same) l in
+    let b : IsLeaving c old next os before steps = subst (λ (xs : List Origin). IsLeaving c old next xs before steps) (sym tail) a in
+    subst (λ (s : Sheet). IsLeaving c old s os before steps) (sym store) b
 
 -- the actors of a set with numbers below k are followed
 pub record IsFollowing (c : Client) (limit : ℕ) (old new : Sheet) (origins : List Origin) (n set k : ℕ) : Type 0 where

@@ -6,6 +6,7 @@ use Rattle.tso_choose.specs.Sets.{actor_at}
 use Rattle.tso_choose.specs.declared.choice.Choice.{Choice}
 use Rattle.tso_compact.specs.Laws.{initial_of}
 use Rattle.tso_compact.specs.Plans.{HasStep}
+use Rattle.tso_explore.specs.Goodness.{AllGood}
 use Rattle.tso_explore.specs.Reached.{AllMet, AreOrigins, IsBadAt, IsReached}
 use Rattle.tso_explore.specs.declared.origin.Origin.{Origin}
 use Rattle.tso_explore.specs.declared.stop.Stop.{Stop}
@@ -105,3 +106,9 @@ AreWorkedBetween c t states from to = (n : ℕ) → from ≤ n → n < to → Is
 pub record AreSearched (c : Client) (t : Table) (states : List State) : Type 0 where
   pub begun : HasBegun c states
   pub worked : (n : ℕ) → IsWorkedAt c t states n
+
+-- what a hunt keeps: states that are met, all good, and no more of them than a certificate may have
+pub record IsHunting (c : Client) (states : List State) (origins : List Origin) : Type 0 where
+  pub begun : IsBegun c states origins
+  pub good : AllGood c states
+  pub few : length states ≤ 4194304

@@ -1,6 +1,6 @@
-//! States in which no actor has a step.
+//! Whether the runs to a state are good.
 
-ghost use Rattle.std.specs.Prelude.{◌≡◌, true, false, IfOk};
+ghost use Rattle.std.specs.Prelude.{◌≡◌, true, false, IfOk, MatchBool};
 ghost use Rattle.tso_explore.specs.Reached.{IsBad};
 ghost use Rattle.tso_fifo.specs.Orders.{HasOrder};
 ghost use Rattle.tso_judge.specs.Conditions.{HasNoStopped};
@@ -11,6 +11,15 @@ use tso_flow::Checked;
 use tso_judge::has_no_stopped;
 use tso_state::State;
 
+/// Whether an order explains the calls of the state.
+pub fn has_order(alloc: Global, checked: &Checked, state: &State) -> Result<bool, AllocError>
+    ensures { IfOk result (λ found. MatchBool found (HasOrder checked.now.client.mode checked.now.client.capacity state.now.history) (HasOrder checked.now.client.mode checked.now.client.capacity state.now.history → ⊥)) }
+{
+    let client = &checked.client;
+    let order = linearize(alloc, &state.history, client.mode, client.capacity as usize)?;
+    Ok(order.is_some())
+}
+
 /// Whether no fault has stopped a thread of the state, and an order explains its calls.
 pub fn is_good(alloc: Global, checked: &Checked, state: &State) -> Result<bool, AllocError>
     ensures good { IfOk result (λ good. good ≡ true → HasNoStopped state.now × HasOrder checked.now.client.mode checked.now.client.capacity state.now.history) }
@@ -19,7 +28,5 @@ pub fn is_good(alloc: Global, checked: &Checked, state: &State) -> Result<bool, 
     if !has_no_stopped(state) {
         return Ok(false);
     }
-    let client = &checked.client;
-    let order = linearize(alloc, &state.history, client.mode, client.capacity as usize)?;
-    Ok(order.is_some())
+    has_order(alloc, checked, state)
 }

@@ -1,30 +1,44 @@
 //! The search of a client.
 
-ghost use Rattle.std.specs.Prelude.{◌≡◌, ◌≤◌, IfOk, IfSome, length, true};
+ghost use Rattle.std.specs.Prelude.{◌≡◌, ◌≤◌, ◌⊎◌, [], IfOk, IfSome, MatchBool, Some, length, true};
+ghost use Rattle.tso_explore.specs.Firsts.{IsFirst, IsFirstOf, IsPaused};
+ghost use Rattle.tso_explore.specs.Goodness.{AllGood};
 ghost use Rattle.tso_explore.specs.Outcomes.{IsOutcome};
-ghost use Rattle.tso_explore.specs.Searched.{AreSearched, HasBegun, HasMore, IsStarted, IsStop};
+ghost use Rattle.tso_explore.specs.Reached.{IsBadAt};
+ghost use Rattle.tso_explore.specs.Searched.{AreSearched, HasBegun, HasMore, IsBegun, IsStarted, IsStop};
+ghost use Rattle.tso_explore.specs.Shortening.{IsTraceOf};
 ghost use Rattle.tso_foot.specs.Closed.{IsClosed, IsLeastClosed};
 ghost use Rattle.tso_table.specs.Leading.{IsKept};
 
 use crate::closing::are_worked;
 use crate::cutting::{cut, cut_by};
+use crate::ending::is_good;
+use crate::first::First;
+use crate::hunting::{Way, hunt};
+use crate::judging::Judged;
 use crate::merging::{add_met, merged};
 use crate::origin::Origin;
 use crate::outcome::Outcome;
 use crate::searching::search;
+use crate::shortening::shortened;
 use crate::showing::{trace_along, walked};
 use crate::stop::Stop;
 use crate::way::trace_to;
 use std::alloc::{AllocError, Global};
 use std::sync::Wait;
 use std::thread::Threads;
-use tso_cert::{Watch, Workers};
+use tso_cert::{NoWatch, Watch, Workers};
 use tso_flow::Checked;
 use tso_foot::{Table, build};
+use tso_machine::thread_count;
 use tso_pool::{Ending, search as search_together};
 use tso_state::initial_state;
 use tso_store::{AddError, Store};
 use tso_table::Kept;
+use tso_trace::Trace;
+
+/// How many states a search meets before it pauses for hunts.
+const FIRST: u32 = 65_536;
 
 /// A store with the initial state.
 ///
@@ -98,14 +112,122 @@ fn certificate_by<R: Threads + Sync>(
     Ok(Outcome::Certificate(table, cert))
 }
 
-// What is found where a search stops.
-fn stopped(
+// The trace of the runs to a state that are not good, short.
+fn short_trace(
     alloc: Global,
     checked: &Checked,
     store: &Store<'_>,
     origins: &[Origin],
+    number: u32,
+) -> Result<Trace, AllocError>
+    requires client { store.now.client ≡ checked.now.client }
+    requires begun { IsBegun checked.now.client store.now.states origins.now }
+    requires bad { IsBadAt checked.now.client store.now.states number }
+    ensures { IfOk result (IsTraceOf checked.now.client) }
+{
+    let trace = trace_to(alloc, checked, store, origins, number)?;
+    let long = trace;
+    let short = shortened(alloc, checked, long, thread_count(&checked.client))?;
+    Ok(short)
+}
+
+// Whether the runs to the initial state are good.
+fn is_first_good(alloc: Global, checked: &Checked, store: &Store<'_>) -> Result<bool, AllocError>
+    requires { IsStarted checked.now.client store.now.states }
+    ensures { IfOk result (λ good. MatchBool good (AllGood checked.now.client store.now.states) (IsBadAt checked.now.client store.now.states 0)) }
+{
+    match store.state(alloc, 0)? {
+        Some(state) => is_good(alloc, checked, &state),
+        None => unreachable!(),
+    }
+}
+
+// What a hunt from the store's one state finds, if it finds something.
+fn hunted_from(
+    alloc: Global,
+    checked: &Checked,
+    table: &Table,
+    store: &mut Store<'_>,
+    origins: &mut Vec<Origin>,
+    way: Way,
+) -> Result<Option<Trace>, AllocError>
+    requires client { store.old.client ≡ checked.now.client }
+    requires started { IsStarted checked.now.client store.old.states }
+    requires none { origins.old.items ≡ [] }
+    requires room { store.old.kept ≤ 8 }
+    ensures { IfOk result (λ found. IfSome found (IsTraceOf checked.now.client)) }
+{
+    if !is_first_good(alloc, checked, store)? {
+        return Ok(None);
+    }
+    match hunt(alloc, checked, table, store, origins, way) {
+        Err(Stop::Violation(number)) => {
+            let trace = short_trace(alloc, checked, store, origins.as_slice(), number)?;
+            Ok(Some(trace))
+        }
+        Err(Stop::Memory) => Err(AllocError),
+        Ok(()) | Err(Stop::Limit) => Ok(None),
+    }
+}
+
+// The trace that a hunt finds, if it finds one.
+fn hunted(
+    alloc: Global,
+    checked: &Checked,
+    table: &Table,
+    way: Way,
+) -> Result<Option<Trace>, AllocError>
+    ensures { IfOk result (λ found. IfSome found (IsTraceOf checked.now.client)) }
+{
+    let mut store = started(alloc, checked)?;
+    let mut origins = Vec::new(alloc);
+    hunted_from(alloc, checked, table, &mut store, &mut origins, way)
+}
+
+// The shorter of two traces; the first where none is.
+fn shorter(one: Trace, other: Option<Trace>) -> Trace
+    ensures either { (result ≡ one) ⊎ (other ≡ Some result) }
+    ensures first { length result.labels ≤ length one.labels }
+    ensures second { IfSome other (λ t. length result.labels ≤ length t.labels) }
+{
+    match other {
+        Some(other) => {
+            if other.labels.len() < one.labels.len() {
+                other
+            } else {
+                one
+            }
+        }
+        None => one,
+    }
+}
+
+// The trace that two hunts find, by breadth and by depth; the shorter of two.
+fn hunted_twice(
+    alloc: Global,
+    checked: &Checked,
+    table: &Table,
+) -> Result<Option<Trace>, AllocError>
+    ensures { IfOk result (λ found. IfSome found (IsTraceOf checked.now.client)) }
+{
+    let by_breadth = hunted(alloc, checked, table, Way::Breadth)?;
+    let by_depth = hunted(alloc, checked, table, Way::Depth)?;
+    match by_breadth {
+        Some(trace) => Ok(Some(shorter(trace, by_depth))),
+        None => Ok(by_depth),
+    }
+}
+
+// What is found where a search stops. A violation is hunted by depth too, where that is asked for.
+fn stopped(
+    alloc: Global,
+    checked: &Checked,
+    table: &Table,
+    store: &Store<'_>,
+    origins: &[Origin],
     limit: u32,
     stop: Stop,
+    hunts: bool,
 ) -> Result<Outcome, AllocError>
     requires client { store.now.client ≡ checked.now.client }
     requires stop { IsStop checked.now.client limit store.now.states origins.now stop }
@@ -113,11 +235,110 @@ fn stopped(
 {
     match stop {
         Stop::Violation(number) => {
-            let trace = trace_to(alloc, checked, store, origins, number)?;
-            Ok(Outcome::Trace(trace))
+            let trace = short_trace(alloc, checked, store, origins, number)?;
+            if !hunts {
+                return Ok(Outcome::Trace(trace));
+            }
+            let by_depth = hunted(alloc, checked, table, Way::Depth)?;
+            Ok(Outcome::Trace(shorter(trace, by_depth)))
         }
         Stop::Limit => Ok(Outcome::LimitReached),
         Stop::Memory => Err(AllocError),
+    }
+}
+
+// What hunts find where a search that has come to state `number` is not over; else it goes on from there.
+fn paused(
+    alloc: Global,
+    checked: &Checked,
+    table: &Table,
+    count: usize,
+    number: u32,
+) -> Result<First, AllocError>
+    ensures { IfOk result (IsFirst checked.now.client number) }
+{
+    if number as usize >= count {
+        return Ok(First::GoesOn(number));
+    }
+    match hunted_twice(alloc, checked, table)? {
+        Some(trace) => Ok(First::Found(Outcome::Trace(trace))),
+        None => Ok(First::GoesOn(number)),
+    }
+}
+
+// The search of the first states, and where it is not over two hunts.
+fn first_found<R: Wait, W: Watch>(
+    rt: &R,
+    alloc: Global,
+    checked: &Checked,
+    table: &Table,
+    store: &mut Store<'_>,
+    origins: &mut Vec<Origin>,
+    judged: &mut Judged,
+    limit: u32,
+    watch: &W,
+) -> Result<First, AllocError>
+    requires client { store.old.client ≡ checked.now.client }
+    requires started { IsStarted checked.now.client store.old.states }
+    requires none { origins.old.items ≡ [] }
+    requires few { length store.old.states ≤ limit }
+    requires limit { limit ≤ 4194304 }
+    requires room { store.old.kept ≤ 8 }
+    ensures found { IfOk result (IsFirstOf checked.now.client limit table.now store.new origins.new.items) }
+{
+    if !is_first_good(alloc, checked, store)? {
+        let trace = short_trace(alloc, checked, store, origins.as_slice(), 0)?;
+        return Ok(First::Found(Outcome::Trace(trace)));
+    }
+    match search(
+        rt, alloc, checked, table, store, origins, judged, 0, FIRST, limit, watch,
+    ) {
+        Ok(number) => paused(alloc, checked, table, store.len(), number),
+        Err(stop) => {
+            let slice = origins.as_slice();
+            let outcome = stopped(alloc, checked, table, store, slice, limit, stop, true)?;
+            Ok(First::Found(outcome))
+        }
+    }
+}
+
+// What is found by a search that goes on from state `number`.
+fn found_behind<R: Wait, W: Watch>(
+    rt: &R,
+    alloc: Global,
+    checked: &Checked,
+    table: Table,
+    store: &mut Store<'_>,
+    origins: &mut Vec<Origin>,
+    judged: &mut Judged,
+    number: u32,
+    limit: u32,
+    watch: &W,
+) -> Result<Outcome, AllocError>
+    requires closed { IsClosed checked.now.client table }
+    requires least { IsLeastClosed checked.now.client table }
+    requires limit { limit ≤ 4194304 }
+    requires paused { IsPaused checked.now.client limit table store.old origins.old.items number }
+    ensures { IfOk result (IsOutcome checked.now.client limit) }
+{
+    match search(
+        rt,
+        alloc,
+        checked,
+        &table,
+        store,
+        origins,
+        judged,
+        number,
+        u32::MAX,
+        limit,
+        watch,
+    ) {
+        Ok(_) => certificate_of(alloc, checked, table, store, limit),
+        Err(stop) => {
+            let slice = origins.as_slice();
+            stopped(alloc, checked, &table, store, slice, limit, stop, false)
+        }
     }
 }
 
@@ -127,33 +348,61 @@ fn found_from<R: Wait, W: Watch>(
     alloc: Global,
     checked: &Checked,
     table: Table,
-    store: Store<'_>,
+    store: &mut Store<'_>,
     limit: u32,
     watch: &W,
 ) -> Result<Outcome, AllocError>
-    requires client { store.client ≡ checked.now.client }
+    requires client { store.old.client ≡ checked.now.client }
     requires closed { IsClosed checked.now.client table }
     requires least { IsLeastClosed checked.now.client table }
-    requires started { IsStarted checked.now.client store.states }
-    requires few { length store.states ≤ limit }
+    requires started { IsStarted checked.now.client store.old.states }
+    requires few { length store.old.states ≤ limit }
     requires limit { limit ≤ 4194304 }
-    requires room { store.kept ≤ 8 }
+    requires room { store.old.kept ≤ 8 }
     ensures { IfOk result (IsOutcome checked.now.client limit) }
 {
-    let mut store = store;
     let mut origins = Vec::new(alloc);
-    match search(
+    let mut judged = Judged::new(alloc)?;
+    let (marks, ways) = (&mut judged, &mut origins);
+    match first_found(rt, alloc, checked, &table, store, ways, marks, limit, watch)? {
+        First::Found(outcome) => Ok(outcome),
+        First::GoesOn(number) => found_behind(
+            rt, alloc, checked, table, store, ways, marks, number, limit, watch,
+        ),
+    }
+}
+
+// What the first states and hunts tell, where there is memory.
+fn found_first<R: Wait>(
+    rt: &R,
+    alloc: Global,
+    checked: &Checked,
+    limit: u32,
+) -> Result<Option<Outcome>, AllocError>
+    requires { limit ≤ 4194304 }
+    ensures { IfOk result (λ found. IfSome found (IsOutcome checked.now.client limit)) }
+{
+    let table = build(alloc, checked)?;
+    let mut store = started(alloc, checked)?;
+    if store.len() > limit as usize {
+        store.states_differ();
+        return Ok(Some(Outcome::LimitReached));
+    }
+    let mut origins = Vec::new(alloc);
+    let mut judged = Judged::new(alloc)?;
+    match first_found(
         rt,
         alloc,
         checked,
         &table,
         &mut store,
         &mut origins,
+        &mut judged,
         limit,
-        watch,
-    ) {
-        Ok(()) => certificate_of(alloc, checked, table, &store, limit),
-        Err(stop) => stopped(alloc, checked, &store, origins.as_slice(), limit, stop),
+        &NoWatch,
+    )? {
+        First::Found(outcome) => Ok(Some(outcome)),
+        First::GoesOn(_) => Ok(None),
     }
 }
 
@@ -169,12 +418,12 @@ fn explored<R: Wait, W: Watch>(
     ensures { IfOk result (IsOutcome checked.now.client limit) }
 {
     let table = build(alloc, checked)?;
-    let store = started(alloc, checked)?;
+    let mut store = started(alloc, checked)?;
     if store.len() > limit as usize {
         store.states_differ();
         return Ok(Outcome::LimitReached);
     }
-    found_from(rt, alloc, checked, table, store, limit, watch)
+    found_from(rt, alloc, checked, table, &mut store, limit, watch)
 }
 
 // More states than the limit are reached, where the store has them with this one.
@@ -327,6 +576,9 @@ fn explored_by<R: Threads + Wait + Sync, W: Watch + Sync>(
     let count = workers.count();
     if count < 2 || count > 64 {
         return explored(rt, alloc, checked, limit, watch);
+    }
+    if let Some(outcome) = found_first(rt, alloc, checked, limit)? {
+        return Ok(outcome);
     }
     match explored_together(rt, alloc, checked, count, limit, watch)? {
         Some(outcome) => Ok(outcome),

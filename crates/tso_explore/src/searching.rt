@@ -1,10 +1,11 @@
 //! The search by breadth.
 
-ghost use Rattle.std.specs.Prelude.{◌≡◌, ◌+◌, ◌<◌, ◌≤◌, IfErr, OnOk, length};
-ghost use Rattle.tso_explore.specs.Searched.{IsGoodAt, IsSearched, IsStop, IsStopAt};
+ghost use Rattle.std.specs.Prelude.{◌≡◌, ◌+◌, ◌*◌, ◌<◌, ◌≤◌, ◌⊎◌, IfErr, IfOk, OnOk, length};
+ghost use Rattle.tso_explore.specs.Goodness.{AllGood};
+ghost use Rattle.tso_explore.specs.Searched.{IsSearched, IsStop};
 
-use crate::ending::is_good;
 use crate::following::follow_all;
+use crate::judging::Judged;
 use crate::origin::Origin;
 use crate::stop::Stop;
 use std::alloc::Global;
@@ -15,37 +16,25 @@ use tso_flow::Checked;
 use tso_foot::Table;
 use tso_store::Store;
 
-// Stops at a state without a step whose runs are not good.
-fn work_end(alloc: Global, checked: &Checked, store: &Store<'_>, number: u32) -> Result<(), Stop>
-    requires { number < length store.now.states }
-    ensures good { OnOk result (IsGoodAt checked.now.client store.now.states number) }
-    ensures stop { IfErr result (IsStopAt checked.now.client store.now.states number) }
-{
-    let Some(state) = store.state(alloc, number)? else {
-        unreachable!()
-    };
-    if is_good(alloc, checked, &state)? {
-        return Ok(());
-    }
-    Err(Stop::Violation(number))
-}
-
-// Follows the chosen steps of a state, or judges it where there are none.
+// Follows the chosen steps of a state.
 fn work(
     alloc: Global,
     checked: &Checked,
     table: &Table,
     store: &mut Store<'_>,
     origins: &mut Vec<Origin>,
+    judged: &mut Judged,
     number: u32,
     limit: u32,
 ) -> Result<(), Stop>
     requires client { store.old.client ≡ checked.now.client }
     requires searched { IsSearched checked.now.client table.now store.old.states origins.old.items number }
+    requires good { AllGood checked.now.client store.old.states }
     requires from { number < length store.old.states }
     requires few { length store.old.states ≤ limit }
     requires room { store.old.kept + 40 < 4294967295 }
     ensures searched { OnOk result (IsSearched checked.now.client table.now store.new.states origins.new.items (number + 1)) }
+    ensures good { OnOk result (AllGood checked.now.client store.new.states) }
     ensures few { OnOk result (length store.new.states ≤ limit) }
     ensures more { OnOk result (number < length store.new.states) }
     ensures stop { IfErr result (IsStop checked.now.client limit store.new.states origins.new.items) }
@@ -56,13 +45,11 @@ fn work(
         unreachable!()
     };
     let set = chosen(checked, table, &view);
-    if set == 0 {
-        return work_end(alloc, checked, store, number);
-    }
-    follow_all(alloc, checked, store, origins, number, set, limit)
+    follow_all(alloc, checked, store, origins, judged, number, set, limit)
 }
 
-/// Works the states in the order of their numbers until all that were met are worked.
+/// Works the states from number `from` on, in the order of their numbers, until all that were met are worked, or more than
+/// `pause` were met. The number of the first state that is not worked.
 pub fn search<R: Wait, W: Watch>(
     rt: &R,
     alloc: Global,
@@ -70,25 +57,34 @@ pub fn search<R: Wait, W: Watch>(
     table: &Table,
     store: &mut Store<'_>,
     origins: &mut Vec<Origin>,
+    judged: &mut Judged,
+    from: u32,
+    pause: u32,
     limit: u32,
     watch: &W,
-) -> Result<(), Stop>
+) -> Result<u32, Stop>
     requires client { store.old.client ≡ checked.now.client }
-    requires searched { IsSearched checked.now.client table.now store.old.states origins.old.items 0 }
+    requires searched { IsSearched checked.now.client table.now store.old.states origins.old.items from }
+    requires good { AllGood checked.now.client store.old.states }
+    requires low { from ≤ length store.old.states }
     requires few { length store.old.states ≤ limit }
     requires limit { limit ≤ 4194304 }
-    requires room { store.old.kept ≤ 8 }
-    ensures searched { OnOk result (IsSearched checked.now.client table.now store.new.states origins.new.items (length store.new.states)) }
+    requires room { store.old.kept ≤ 8 + 40 * from }
+    ensures searched { IfOk result (λ number. IsSearched checked.now.client table.now store.new.states origins.new.items number) }
+    ensures good { OnOk result (AllGood checked.now.client store.new.states) }
+    ensures low { IfOk result (λ number. number ≤ length store.new.states) }
+    ensures over { IfOk result (λ number. (length store.new.states ≤ number) ⊎ (pause < length store.new.states)) }
     ensures few { OnOk result (length store.new.states ≤ limit) }
     ensures stop { IfErr result (IsStop checked.now.client limit store.new.states origins.new.items) }
+    ensures room { IfOk result (λ number. store.new.kept ≤ 8 + 40 * number) }
     ensures client { store.new.client ≡ store.old.client }
 {
-    let mut number = 0;
-    'states: while (number as usize) < store.len() {
+    let mut number = from;
+    'states: while (number as usize) < store.len() && store.len() <= pause as usize {
         watch.at(rt, 0);
         watch.met(store.len() as u64, store.len() as u64 - number as u64);
-        work(alloc, checked, table, store, origins, number, limit)?;
+        work(alloc, checked, table, store, origins, judged, number, limit)?;
         number += 1;
     }
-    Ok(())
+    Ok(number)
 }

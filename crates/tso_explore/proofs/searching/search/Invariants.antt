@@ -1,4 +1,5 @@
 use Rattle.std.proofs.Common.{◌≡◌, ◌≤◌, ◌+◌, ◌*◌, ◌-◌, length}
+use Rattle.tso_explore.specs.Goodness.{AllGood}
 use Rattle.tso_explore.specs.Searched.{IsSearched}
 use Rattle.tso_explore.proofs.searching.search.Given as goal
 
@@ -6,6 +7,7 @@ abbrev pub invariant-states : goal.invariant-states
 invariant-states g l = record {
   client : l.store.client ≡ l.checked.client;
   searched : IsSearched l.checked.client l.table l.store.states l.origins.items l.number;
+  good : AllGood l.checked.client l.store.states;
   few : length l.store.states ≤ l.limit;
   low : l.number ≤ length l.store.states;
   room : l.store.kept ≤ 8 + 40 * l.number;

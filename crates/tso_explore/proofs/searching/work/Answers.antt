@@ -1,24 +1,15 @@
-use Rattle.std.proofs.Common.{subst, sym}
-use Rattle.tso_choose.specs.Choosing.{IsChoice}
-use Rattle.tso_explore.proofs.SearchLemmas.{on_both, on_ok, searched_end, searched_moves, still_there}
+use Rattle.std.proofs.Common.{sym}
+use Rattle.tso_explore.proofs.SearchLemmas.{on_both, on_ok, searched_moves, still_there}
 use Rattle.tso_explore.proofs.searching.work.Goals as goal
 
 pub chosen-set-requires : goal.chosen-set-requires
 chosen-set-requires c = (c.requires.searched.begun.met c.args.number c.in-Some.view (sym c.in-Some.ensures.state)).plausible.well_formed
 
-pub returns-then-set-eq0-clause-searched : goal.returns-then-set-eq0-clause-searched
-returns-then-set-eq0-clause-searched c =
-    let client = c.args.checked.now.client in
-    let none : IsChoice client c.args.table.now c.in-Some.view 0 = subst (λ set. IsChoice client c.args.table.now c.in-Some.view set) c.if-set-eq0.true c.chosen-set.ensures in
-    on_ok c.work_end.result c.work_end.ensures.good
-    (λ good. searched_end client c.args.table.now c.args.store.now.states c.args.origins.now.items c.args.number c.in-Some.view c.requires.searched (sym c.in-Some.ensures.state) none good)
-
 pub returns-clause-searched : goal.returns-clause-searched
 returns-clause-searched c =
-    let client = c.args.checked.now.client in
     on_both c.follow_all.result c.follow_all.ensures.on c.follow_all.ensures.followed
-    (λ on followed. searched_moves client c.args.table.now c.args.limit c.args.store.now.states c.follow_all.new.store.states c.args.origins.now.items c.follow_all.new.origins.items c.args.number c.chosen-set.result
-    c.in-Some.view c.requires.searched on (sym c.in-Some.ensures.state) c.chosen-set.ensures c.if-set-eq0.false followed)
+    (λ on followed. searched_moves c.args.checked.now.client c.args.table.now c.args.limit c.args.store.now.states c.follow_all.new.store.states c.args.origins.now.items c.follow_all.new.origins.items c.args.number
+    c.chosen-set.result c.in-Some.view c.requires.searched c.requires.good on (sym c.in-Some.ensures.state) c.chosen-set.ensures followed)
 
 pub returns-clause-more : goal.returns-clause-more
 returns-clause-more c =

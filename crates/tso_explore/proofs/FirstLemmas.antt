@@ -1,0 +1,72 @@
+-- What the first states of a search tell.
+use Rattle.std.proofs.Common.{◌≡◌, ◌∙◌, ℕ, zero, suc, ◌<◌, ◌≤◌, ◌⊎◌, inl, inr, Bool, true, false, List, [], ◌∷◌, length, Some, slice_get, refl, sym, ap, subst, arith}
+use Rattle.std.specs.Prelude.{Err, IfOk, MatchBool, Ok, Result}
+use Rattle.std.proofs.lemmas.Option.{none-some, same_Some}
+use Rattle.tso_explore.proofs.SearchLemmas.{begun_first}
+use Rattle.tso_explore.specs.Firsts.{IsFirst, IsFirstOf, IsPaused}
+use Rattle.tso_explore.specs.Goodness.{AllGood, IsGood}
+use Rattle.tso_explore.specs.Reached.{IsBad, IsBadAt}
+use Rattle.tso_explore.specs.Searched.{IsBegun, IsHunting, IsStarted}
+use Rattle.tso_explore.specs.Shortening.{IsShorter, IsTraceOf}
+use Rattle.tso_explore.specs.declared.first.First.{First}
+use Rattle.tso_explore.specs.declared.first.First.TheVariants as firsts
+use Rattle.tso_explore.specs.declared.origin.Origin.{Origin}
+use Rattle.tso_explore.specs.declared.outcome.Outcome.TheVariants as found
+use Rattle.tso_fifo.specs.Orders.{HasOrder}
+use Rattle.tso_foot.specs.declared.table.Table.{Table}
+use Rattle.tso_judge.specs.Conditions.{HasNoStopped}
+use Rattle.tso_prog.specs.declared.client.Client.{Client}
+use Rattle.tso_state.specs.declared.state.State.{State}
+use Rattle.tso_store.specs.Sheets.{Sheet}
+use Rattle.tso_trace.specs.declared.trace.Trace.{Trace}
+
+all_good_one : (c : Client) (states : List State) (x s : State) → states ≡ x ∷ [] → slice_get states 0 ≡ Some s → IsGood c s → AllGood c states
+all_good_one c states x s only at good n t here = by n (subst (λ (xs : List State). slice_get xs n ≡ Some t) only here)
+  where
+    same : x ≡ s
+    same = same_Some x s (subst (λ (xs : List State). slice_get xs 0 ≡ Some s) only at)
+
+    by : (n : ℕ) → slice_get (x ∷ []) n ≡ Some t → IsGood c t
+    by zero e = subst (IsGood c) (sym same ∙ same_Some x t e) good
+    by (suc n) e = absurd (none-some t e)
+
+-- the initial state is judged
+pub first_judged : {E : Type 0} (c : Client) (states : List State) (s : State) → slice_get states 0 ≡ Some s → IsStarted c states → (r : Result Bool E)
+    → IfOk r (λ good. good ≡ true → HasNoStopped s × HasOrder c.mode c.capacity s.history) → IfOk r (λ good. good ≡ false → IsBad c s)
+    → IfOk r (λ good. MatchBool good (AllGood c states) (IsBadAt c states 0))
+first_judged c states s at started (Ok true) good bad = let (unstopped, explained) = good refl in all_good_one c states started.initial s started.only at (record { unstopped = unstopped; explained = explained })
+first_judged c states s at started (Ok false) good bad = record { state = s; at = at; bad = bad refl }
+first_judged c states s at started (Err e) good bad = tt
+
+pub hunting_first : (c : Client) (states : List State) (origins : List Origin) → IsStarted c states → origins ≡ [] → AllGood c states → IsHunting c states origins
+hunting_first c states origins started none good = record {
+  begun = subst (IsBegun c states) (sym none) (begun_first c states started);
+  good = good;
+  few = (let e = ap (λ (xs : List State). length xs) started.only in omega (arith, e));
+}
+
+pub begun_none : (c : Client) (states : List State) (origins : List Origin) → IsStarted c states → origins ≡ [] → IsBegun c states origins
+begun_none c states origins started none = subst (IsBegun c states) (sym none) (begun_first c states started)
+
+pub trace_of_shorter : {E : Type 0} (c : Client) (long : Trace) (r : Result Trace E) → IfOk r (IsShorter c long) → IfOk r (IsTraceOf c)
+trace_of_shorter c long (Ok t) is = is.trace
+trace_of_shorter c long (Err e) is = tt
+
+-- where hunts have found nothing, the search goes on
+pub first_of : {E : Type 0} (c : Client) (limit : ℕ) (t : Table) (store : Sheet) (origins : List Origin) (number : ℕ) (r : Result First E) → IsPaused c limit t store origins number → IfOk r (IsFirst c number)
+    → IfOk r (IsFirstOf c limit t store origins)
+first_of c limit t store origins number (Ok (firsts.Found (found.Certificate table cert))) paused is = absurd is
+first_of c limit t store origins number (Ok (firsts.Found (found.Trace trace))) paused is = is
+first_of c limit t store origins number (Ok (firsts.Found found.LimitReached)) paused is = absurd is
+first_of c limit t store origins number (Ok (firsts.Found found.NoMemory)) paused is = absurd is
+first_of c limit t store origins number (Ok (firsts.GoesOn from)) paused is = subst (IsPaused c limit t store origins) (sym is) paused
+first_of c limit t store origins number (Err e) paused is = tt
+
+-- a search that is over
+pub over_at : (length number pause limit : ℕ) → (length ≤ number) ⊎ (pause < length) → number ≤ length → length ≤ limit → limit ≤ pause → number ≡ length
+over_at length number pause limit (inl all) low few small = omega (arith, all, low)
+over_at length number pause limit (inr more) low few small = absurd (omega (arith, more, few, small))
+
+pub when_true : (b : Bool) (P Q : Type 0) → MatchBool b P Q → b ≡ true → P
+when_true true P Q is e = is
+when_true false P Q is e = absurd (let clash : false ≡ true = e in cc)

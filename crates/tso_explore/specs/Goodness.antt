@@ -1,0 +1,49 @@
+-- States to which the runs are good.
+use Rattle.std.specs.Prelude.{◌≡◌, ◌<◌, ℕ, Bool, true, false, List, Option, None, Some, slice_get}
+use Rattle.tso_compact.specs.Plans.{IsStep}
+use Rattle.tso_compact.specs.declared.sort.StepKind.{StepKind}
+use Rattle.tso_compact.specs.declared.sort.StepKind.TheVariants as kinds
+use Rattle.tso_fifo.specs.Orders.{HasOrder}
+use Rattle.tso_hist.specs.Views.{history_view}
+use Rattle.tso_judge.specs.Conditions.{HasNoStopped}
+use Rattle.tso_prog.specs.declared.client.Client.{Client}
+use Rattle.tso_state.specs.declared.actor.Actor.{Actor}
+use Rattle.tso_state.specs.declared.state.State.{State}
+
+-- no fault has stopped a thread, and an order explains the calls
+pub record IsGood (c : Client) (s : State) : Type 0 where
+  pub unstopped : HasNoStopped s
+  pub explained : HasOrder c.mode c.capacity s.history
+
+abbrev pub AllGood : Client → List State → Type 0
+AllGood c states = (n : ℕ) (s : State) → slice_get states n ≡ Some s → IsGood c s
+
+-- those with numbers below this one
+abbrev pub AllGoodBelow : Client → List State → ℕ → Type 0
+AllGoodBelow c states m = (n : ℕ) (s : State) → n < m → slice_get states n ≡ Some s → IsGood c s
+
+-- a step of this kind begins a call or returns
+abbrev pub is_logged : Option StepKind → Bool
+is_logged None = false
+is_logged (Some kinds.Call) = true
+is_logged (Some kinds.Return) = true
+is_logged (Some _) = false
+
+-- the actor's step from s leaves the calls as they are
+abbrev pub IsUnlogged : Client → State → Actor → Type 0
+IsUnlogged c s a = (t : State) → IsStep c s a t → history_view t.history ≡ history_view s.history
+
+-- state number known, which has a lower number, has the history of state number new
+pub record IsKnown (states : List State) (known new : ℕ) : Type 0 where
+  pub earlier : known < new
+  pub state : State
+  pub at : slice_get states known ≡ Some state
+  pub same : (s : State) → slice_get states new ≡ Some s → state.history ≡ s.history
+
+-- an order explains the calls of state number n
+abbrev pub HasOrderAt : Client → List State → ℕ → Type 0
+HasOrderAt c states n = (s : State) → slice_get states n ≡ Some s → HasOrder c.mode c.capacity s.history
+
+-- none does
+abbrev pub HasNoOrderAt : Client → List State → ℕ → Type 0
+HasNoOrderAt c states n = (s : State) → slice_get states n ≡ Some s → HasOrder c.mode c.capacity s.history → ⊥

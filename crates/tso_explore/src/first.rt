@@ -1,0 +1,12 @@
+//! What the first states tell.
+
+use crate::outcome::Outcome;
+
+/// What the first states of a search tell, and hunts where it is not over then.
+#[derive(Debug, Drop)]
+pub enum First {
+    /// What is found.
+    Found(Outcome),
+    /// The search goes on from the state with this number, if there is one.
+    GoesOn(u32),
+}
