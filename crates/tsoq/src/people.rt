@@ -2,6 +2,7 @@
 //! way, nothing is said.
 
 use crate::command::Asked;
+use crate::limit::{MOST_STATES, StateLimit};
 use crate::running::Texts;
 use std::alloc::{AllocError, Global};
 use std::io::{Read, Write};
@@ -112,10 +113,11 @@ fn put_reason<F: Files, O: Write, E: Write>(
         Failure::CannotWrite(_) => {
             page.say("Is its folder there, may it be written to, and is there room?\n")
         }
-        Failure::Limit => page.say(
-            "More states can be reached than `--states` allows. Fewer calls, a shorter ring and smaller bounds have fewer.\n",
-        ),
-        Failure::Usage(_) | Failure::NotText | Failure::CannotPrint | Failure::Memory => Ok(()),
+        Failure::Usage(_)
+        | Failure::NotText
+        | Failure::Limit
+        | Failure::CannotPrint
+        | Failure::Memory => Ok(()),
     }
 }
 
@@ -128,6 +130,34 @@ pub fn tell<F: Files, O: Write, E: Write>(
 ) {
     let mut page = Page::new(session.alloc);
     if put_reason(session, &mut page, asked, texts, failure).is_ok() {
+        session.note(&page.bytes);
+    }
+}
+
+// That so many states were met, and what may help.
+fn put_limit(alloc: Global, page: &mut Page, limit: StateLimit) -> Result<(), AllocError> {
+    let states = limit.count();
+    page.say(format!(in alloc;
+        "{states} states were met and more can be reached. In those that were met nothing wrong was found.\n"
+    )?.as_str())?;
+    page.say(
+        "Fewer calls or threads have fewer states, and so have a shorter ring, smaller bounds, and calls in a prologue.\n",
+    )?;
+    if u64::from(states) < MOST_STATES {
+        page.say(format!(in alloc;
+            "`--states N` allows more, {MOST_STATES} at most, of some 300 bytes of memory each.\n"
+        )?.as_str())?;
+    }
+    Ok(())
+}
+
+/// Says in words that a search met as many states as it may, and what may help.
+pub fn tell_limit<F: Files, O: Write, E: Write>(
+    session: &mut Session<'_, '_, '_, F, O, E>,
+    limit: StateLimit,
+) {
+    let mut page = Page::new(session.alloc);
+    if put_limit(session.alloc, &mut page, limit).is_ok() {
         session.note(&page.bytes);
     }
 }

@@ -1,6 +1,6 @@
 //! What a search found, and what was written of it.
 
-ghost use Rattle.std.specs.Prelude.{◌≡◌};
+ghost use Rattle.std.specs.Prelude.{◌≡◌, None, Some};
 ghost use Rattle.tsoq.specs.Statuses.{status_of_report};
 
 use std::fmt;
@@ -47,9 +47,12 @@ impl Report {
     }
 
     /// How much was met and written, of a search that met so many states.
-    pub fn sizes(&self, states: u64) -> Sizes {
+    pub fn sizes(&self, states: u64) -> Sizes
+        ensures report { result.report ≡ Some self.now }
+        ensures states { result.states ≡ states }
+    {
         Sizes {
-            report: *self,
+            report: Some(*self),
             states,
         }
     }
@@ -74,8 +77,21 @@ impl fmt::Display for Report {
 /// How much was met and written, as it is printed.
 #[derive(Clone, Copy, Debug)]
 pub struct Sizes {
-    report: Report,
+    report: Option<Report>,
     states: u64,
+}
+
+impl Sizes {
+    /// So many states met, and nothing written.
+    pub fn met(states: u64) -> Sizes
+        ensures report { result.report ≡ None }
+        ensures states { result.states ≡ states }
+    {
+        Sizes {
+            report: None,
+            states,
+        }
+    }
 }
 
 impl fmt::Display for Sizes {
@@ -83,12 +99,13 @@ impl fmt::Display for Sizes {
         let states = self.states;
         writeln!(f, "states: {states}")?;
         match self.report {
-            Report::Certified { records, bytes } => {
+            Some(Report::Certified { records, bytes }) => {
                 writeln!(f, "records: {records}\nbytes: {bytes}")
             }
-            Report::Violated { labels, bytes, .. } => {
+            Some(Report::Violated { labels, bytes, .. }) => {
                 writeln!(f, "labels: {labels}\nbytes: {bytes}")
             }
+            None => Ok(()),
         }
     }
 }

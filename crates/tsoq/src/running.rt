@@ -4,9 +4,9 @@ use crate::asked::Replay;
 use crate::command::{Asked, Request, Search, request_of};
 use crate::page::write_page;
 use crate::parse::{Parsing, parse};
-use crate::people::{tell, tell_verdict};
+use crate::people::{tell, tell_limit, tell_verdict};
 use crate::progress::{Listener, Progress};
-use crate::report::Report;
+use crate::report::{Report, Sizes};
 use crate::show::{print_run, run_of};
 use crate::verify::verify;
 use std::alloc::{Alloc, Global};
@@ -90,18 +90,52 @@ fn explain<F: Files, O: Write, E: Write>(
 fn put_stats<F: Files, L: Listener, O: Write, E: Write>(
     session: &mut Session<'_, '_, '_, F, O, E>,
     watch: &Progress<'_, L>,
-    report: Report,
+    sizes: Sizes,
     begun: Option<Duration>,
 ) -> Result<(), Failure> {
     let times = watch.times(begun);
     session.flush()?;
-    let sizes = report.sizes(watch.states()).to_string(session.alloc)?;
-    session.note(sizes.as_bytes());
+    let text = sizes.to_string(session.alloc)?;
+    session.note(text.as_bytes());
     if let Some(times) = times {
         let text = times.to_string(session.alloc)?;
         session.note(text.as_bytes());
     }
     Ok(())
+}
+
+// Says what a search wrote, and gives the status.
+fn end<F: Files, L: Listener, O: Write, E: Write>(
+    session: &mut Session<'_, '_, '_, F, O, E>,
+    watch: &Progress<'_, L>,
+    asked: &Search<'_>,
+    report: Report,
+    begun: Option<Duration>,
+) -> Result<u8, Failure> {
+    session.print_shown(&report)?;
+    if asked.stats {
+        put_stats(session, watch, report.sizes(watch.states()), begun)?;
+    }
+    Ok(report.status())
+}
+
+// Says that a search met as many states as it may, and gives the status.
+fn end_at_limit<F: Files, L: Listener, O: Write, E: Write>(
+    session: &mut Session<'_, '_, '_, F, O, E>,
+    watch: &Progress<'_, L>,
+    asked: &Search<'_>,
+    begun: Option<Duration>,
+    verbose: bool,
+) -> Result<u8, Failure> {
+    let status = session.report(&Failure::Limit);
+    if asked.stats {
+        let states = u64::from(asked.limit.count());
+        put_stats(session, watch, Sizes::met(states), begun)?;
+    }
+    if verbose {
+        tell_limit(session, asked.limit);
+    }
+    Ok(status)
 }
 
 fn search<R: Threads + Wait + Sync, F: Files, L: Listener + Sync, O: Write, E: Write>(
@@ -110,23 +144,23 @@ fn search<R: Threads + Wait + Sync, F: Files, L: Listener + Sync, O: Write, E: W
     texts: &mut Texts,
     listener: &L,
     asked: &Search<'_>,
+    verbose: bool,
 ) -> Result<u8, Failure> {
     let begun = listener.elapsed();
     texts.program = session.read_program(asked.program)?;
     let watch = Progress::new(listener, asked.progress);
-    let report = verify(
+    match verify(
         rt,
         session.alloc,
         session.files,
         &texts.program,
         asked,
         &watch,
-    )?;
-    session.print_shown(&report)?;
-    if asked.stats {
-        put_stats(session, &watch, report, begun)?;
+    ) {
+        Ok(report) => end(session, &watch, asked, report, begun),
+        Err(Failure::Limit) => end_at_limit(session, &watch, asked, begun, verbose),
+        Err(failure) => Err(failure),
     }
-    Ok(report.status())
 }
 
 // Does what the words ask for, and gives the status.
@@ -142,7 +176,7 @@ fn perform<R: Threads + Wait + Sync, F: Files, L: Listener + Sync, O: Write, E: 
             session.print(text.0.as_str())?;
             Ok(0)
         }
-        Asked::Verify(asked) => search(rt, session, texts, listener, asked),
+        Asked::Verify(asked) => search(rt, session, texts, listener, asked, request.verbose),
         Asked::Check(asked) => check(rt, session, texts, asked, request.verbose),
         Asked::Replay(asked) => replay(session, texts, asked),
         Asked::Parse(asked) => parse_file(session, texts, asked),
