@@ -10,3 +10,4 @@ pub mod Sites
 pub mod States
 pub mod Unordered
 pub mod Walks
+pub mod Whys

@@ -21,6 +21,7 @@ mod site;
 mod state;
 mod unordered;
 mod walk;
+mod why;
 
 pub use buffer::{push_buffer, push_memory, push_origin};
 pub use call::{Returned, TimedCall, calls_in};
@@ -31,9 +32,12 @@ pub use laws::{data_is_no_markup, escaped_text_is_no_markup};
 pub use line::line_text;
 pub use moment::{Moment, next_moment};
 pub use page::{Run, page_of};
-pub use print::{Answered, Asked, Name, ShowError, print_calls, print_labels, print_order};
+pub use print::{
+    Answered, Asked, Name, ShowError, print_calls, print_cause, print_labels, print_order,
+};
 pub use replayed::{Replayed, read_run};
 pub use site::{Site, core_site, taker};
 pub use state::{Show, push_shown};
 pub use unordered::{Served, ordered_part};
 pub use walk::{Walk, WalkError};
+pub use why::{Cause, cause_of};

@@ -1,5 +1,6 @@
 //! Labels with what is shown beside them, and the calls of a run, printed.
 
+use crate::buffer::push_buffer;
 use crate::call::{TimedCall, calls_in};
 use crate::line::line_text;
 use crate::moment::{Moment, next_moment};
@@ -7,6 +8,7 @@ use crate::site::Site;
 use crate::state::Show;
 use crate::unordered::{Served, ordered_part};
 use crate::walk::{Walk, WalkError};
+use crate::why::{Cause, answered, cause_of, end_of, value_of};
 use std::alloc::{AllocError, Global};
 use std::fmt;
 use std::io::Write;
@@ -193,6 +195,68 @@ pub fn print_labels<W: Write>(
     Ok(())
 }
 
+fn write_not_empty<W: fmt::Write>(
+    f: &mut fmt::Formatter<W>,
+    pop: TimedCall,
+    push: TimedCall,
+) -> fmt::Result {
+    let (thread, other) = (pop.thread, push.thread);
+    let (asked, label) = (Asked(push.kind), end_of(push.returns));
+    write!(
+        f,
+        "pop of thread {thread} was refused, though the queue was not empty: {asked} of thread {other} had returned before (label {label})"
+    )
+}
+
+fn write_overtaken<W: fmt::Write>(
+    f: &mut fmt::Formatter<W>,
+    pop: TimedCall,
+    push: TimedCall,
+) -> fmt::Result {
+    let word = value_of(answered(pop.returns)).unwrap_or(0);
+    let other = push.thread;
+    let (asked, label) = (Asked(push.kind), end_of(push.returns));
+    write!(
+        f,
+        "value {word} came out before that of {asked}: this push of thread {other} had returned (label {label}) before push {word} began"
+    )
+}
+
+fn write_not_full<W: fmt::Write>(
+    f: &mut fmt::Formatter<W>,
+    push: TimedCall,
+    items: usize,
+    capacity: usize,
+) -> fmt::Result {
+    let (thread, asked) = (push.thread, Asked(push.kind));
+    write!(
+        f,
+        "{asked} of thread {thread} was refused, though the queue of {capacity} was not full: it had at most {items}"
+    )
+}
+
+impl fmt::Display for Cause {
+    fn fmt<W: fmt::Write>(&self, f: &mut fmt::Formatter<W>) -> fmt::Result {
+        match *self {
+            Cause::Surplus { word, put: 0, .. } => write!(f, "value {word} was never pushed"),
+            Cause::Surplus { word, taken, put } => write!(
+                f,
+                "value {word} came out more often than it was pushed: {taken} and {put}"
+            ),
+            Cause::NotEmpty { pop, push } => write_not_empty(f, pop, push),
+            Cause::Overtaken { pop, push } => write_overtaken(f, pop, push),
+            Cause::Overfull { items, capacity } => {
+                write!(f, "{items} items in a queue of {capacity}")
+            }
+            Cause::NotFull {
+                push,
+                items,
+                capacity,
+            } => write_not_full(f, push, items, capacity),
+        }
+    }
+}
+
 /// Prints the calls of a run, one a line, with their answers and the labels from which and to which they last.
 pub fn print_calls<W: Write>(
     alloc: Global,
@@ -268,26 +332,92 @@ fn put_served<W: Write>(
     put_order(alloc, out, calls, order)
 }
 
-// Prints from which label on the calls have no order, the call that returns there, and an order of those before it.
-fn put_until<W: Write>(
+// Prints what was in the store buffer of a thread behind a run, if it was not empty.
+fn put_held<W: Write>(
+    alloc: Global,
+    out: &mut W,
+    walk: &Walk<'_>,
+    thread: usize,
+) -> Result<(), ShowError> {
+    let Some(holder) = walk.machine().threads.get(thread) else {
+        return Ok(());
+    };
+    if holder.buffer.live().is_empty() {
+        return Ok(());
+    }
+    let mut text = String::new(alloc);
+    let arrays = walk.checked().client.arrays.as_slice();
+    push_buffer(alloc, &mut text, arrays, holder)?;
+    put_made(
+        out,
+        format!(in alloc; "  stores of thread {thread} were still in its buffer:{text}\n"),
+    )
+}
+
+// Prints calls of which no sentence says why they have no order.
+fn put_unordered<W: Write>(
     alloc: Global,
     out: &mut W,
     calls: &[TimedCall],
+) -> Result<(), ShowError> {
+    put(out, b"  no order of these calls explains their answers\n")?;
+    for call in calls {
+        put_made(out, format!(in alloc; "    {call}\n"))?;
+    }
+    Ok(())
+}
+
+// Prints why the calls of a run have no order: a sentence where one holds, and else the calls.
+fn put_cause<W: Write>(alloc: Global, out: &mut W, walk: &Walk<'_>) -> Result<(), ShowError> {
+    let client = &walk.checked().client;
+    let calls = calls_in(alloc, walk.taken())?;
+    let Some(cause) = cause_of(&calls, client.mode, usize::from(client.capacity)) else {
+        return put_unordered(alloc, out, &calls);
+    };
+    put_made(out, format!(in alloc; "  {cause}\n"))?;
+    match cause {
+        Cause::NotEmpty { push, .. } => put_held(alloc, out, walk, push.thread),
+        _ => Ok(()),
+    }
+}
+
+// Prints from which label on the calls of a run have no order, the call that returns there, and why.
+fn put_end_of_order<W: Write>(
+    alloc: Global,
+    out: &mut W,
+    walk: &Walk<'_>,
+    calls: &[TimedCall],
     label: usize,
-    order: &Order,
 ) -> Result<(), ShowError> {
     put_made(out, format!(in alloc; "no order from label {label} on\n"))?;
     put_returning(alloc, out, calls, label)?;
-    put_served(alloc, out, calls, label.saturating_sub(1), order)
+    let labels = walk.taken();
+    let end = label.min(labels.len());
+    let part = Walk::to_end(alloc, walk.checked(), &labels[..end])?;
+    put_cause(alloc, out, &part)
 }
 
 /// Prints how far the calls of the labels that a walk has taken have an order, and one. Where they have none to the end, it
-/// prints the first label with which they have none, and the call that returns there.
+/// prints the first label with which they have none, the call that returns there, and why.
 pub fn print_order<W: Write>(alloc: Global, out: &mut W, walk: &Walk<'_>) -> Result<(), ShowError> {
     let labels = walk.taken();
     let calls = calls_in(alloc, labels)?;
     match ordered_part(alloc, &walk.checked().client, labels)? {
         Served::Whole(order) => put_served(alloc, out, &calls, labels.len(), &order),
-        Served::Until { label, order } => put_until(alloc, out, &calls, label, &order),
+        Served::Until { label, order } => {
+            put_end_of_order(alloc, out, walk, &calls, label)?;
+            put_served(alloc, out, &calls, label.saturating_sub(1), &order)
+        }
+    }
+}
+
+/// Prints from which label on the calls of a run have no order, if they have none, the call that returns there, and why: in a
+/// sentence, or by all its calls where none of the sentences holds.
+pub fn print_cause<W: Write>(alloc: Global, out: &mut W, walk: &Walk<'_>) -> Result<(), ShowError> {
+    let labels = walk.taken();
+    let calls = calls_in(alloc, labels)?;
+    match ordered_part(alloc, &walk.checked().client, labels)? {
+        Served::Whole(_) => Ok(()),
+        Served::Until { label, .. } => put_end_of_order(alloc, out, walk, &calls, label),
     }
 }

@@ -167,4 +167,22 @@ impl<'a> Walk<'a> {
         }
         Ok(moved)
     }
+
+    /// The walk behind all of these labels.
+    ///
+    /// Errors: `NotAStep` with the number of the first label that is no step, and `Memory`.
+    pub fn to_end(
+        alloc: Global,
+        checked: &'a Checked,
+        labels: &'a [Label],
+    ) -> Result<Walk<'a>, WalkError>
+        ensures end { IfOk result (λ w. (w.client ≡ checked.entry.now.client) × (w.labels ≡ labels.entry.now) × (w.position ≡ length labels.entry.now)) }
+        ensures run { IfOk result StandsAt }
+    {
+        let mut walk = Walk::new(alloc, checked, labels)?;
+        for _ in 0..labels.len() {
+            walk.forward(alloc)?;
+        }
+        Ok(walk)
+    }
 }

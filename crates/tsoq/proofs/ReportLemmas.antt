@@ -1,6 +1,6 @@
 -- What reports say, from what the search found.
 use Rattle.std.proofs.Common.{ℕ, List}
-use Rattle.std.specs.Prelude.{IfOk, Result, Ok, Err, length}
+use Rattle.std.specs.Prelude.{length}
 use Rattle.tso_cert.specs.Trees.{Tree, record_count}
 use Rattle.tso_check.proofs.Goodness.{each_run_is_good}
 use Rattle.tso_check.specs.Headline.{DenotesChecked}
@@ -11,18 +11,15 @@ use Rattle.tso_prog.specs.declared.client.Client.{Client}
 use Rattle.tso_trace.specs.Runs.{IsErrorTrace}
 use Rattle.tso_trace.specs.declared.trace.Violation.{Violation}
 use Rattle.tsoq.specs.Reports.{IsOfLabels, IsOfRecords, IsReport}
-use Rattle.tso_front.specs.declared.failure.Failure.{Failure}
 use Rattle.tsoq.specs.declared.report.Report.{Report}
 use Rattle.tsoq.specs.declared.report.Report.TheVariants.{Certified, Violated}
 
-pub all_good : (text : List ℕ) (c : Client) (limit : ℕ) (t : Table) (tree : Tree) (r : Result Report Failure) → DenotesChecked text c → IsCertificate c limit t tree
-    → IfOk r (IsOfRecords (record_count tree)) → IfOk r (IsReport text)
-all_good text c limit t tree (Ok (Certified records bytes)) d v is = record { verified = c; denotes = d; good = each_run_is_good c t tree v.valid }
-all_good text c limit t tree (Ok (Violated violation labels bytes)) d v is = absurd is
-all_good text c limit t tree (Err e) d v is = is
+pub all_good : (text : List ℕ) (c : Client) (limit : ℕ) (t : Table) (tree : Tree) (r : Report) → DenotesChecked text c → IsCertificate c limit t tree
+    → IsOfRecords (record_count tree) r → IsReport text r
+all_good text c limit t tree (Certified records bytes) d v is = record { verified = c; denotes = d; good = each_run_is_good c t tree v.valid }
+all_good text c limit t tree (Violated violation labels bytes) d v is = absurd is
 
-pub one_errs : (text : List ℕ) (c : Client) (ls : List Label) (wrong : Violation) (r : Result Report Failure) → DenotesChecked text c → ∥ IsErrorTrace c ls ∥₁
-    → IfOk r (IsOfLabels wrong (length ls)) → IfOk r (IsReport text)
-one_errs text c ls wrong (Ok (Certified records bytes)) d e is = absurd is
-one_errs text c ls wrong (Ok (Violated violation labels bytes)) d e is = record { erring = c; denotes = d; labels = ls; run = e }
-one_errs text c ls wrong (Err f) d e is = is
+pub one_errs : (text : List ℕ) (c : Client) (ls : List Label) (wrong : Violation) (r : Report) → DenotesChecked text c → ∥ IsErrorTrace c ls ∥₁
+    → IsOfLabels wrong (length ls) r → IsReport text r
+one_errs text c ls wrong (Certified records bytes) d e is = absurd is
+one_errs text c ls wrong (Violated violation labels bytes) d e is = record { erring = c; denotes = d; labels = ls; run = e }

@@ -10,7 +10,8 @@ use tso_check::{Verdict, checked_of};
 use tso_front::{Failure, Files, Session};
 use tso_prog::Fault;
 use tso_say::{Page, put_meaning, put_program, put_trace};
-use tso_trace::TraceFault;
+use tso_show::{ShowError, Walk, print_cause};
+use tso_trace::{Trace, TraceFault};
 
 // The files of a command: the program, and the other one.
 #[derive(Clone, Copy, Debug)]
@@ -158,6 +159,24 @@ pub fn tell_limit<F: Files, O: Write, E: Write>(
 ) {
     let mut page = Page::new(session.alloc);
     if put_limit(session.alloc, &mut page, limit).is_ok() {
+        session.note(&page.bytes);
+    }
+}
+
+// From which label on the calls of a run have no order, and why.
+fn put_cause(alloc: Global, page: &mut Page, trace: &Trace) -> Result<(), ShowError> {
+    let labels = trace.labels.as_slice();
+    let walk = Walk::to_end(alloc, &trace.checked, labels)?;
+    print_cause(alloc, &mut page.bytes, &walk)
+}
+
+/// Says in words why the calls of a run have no order, if they have none.
+pub fn tell_cause<F: Files, O: Write, E: Write>(
+    session: &mut Session<'_, '_, '_, F, O, E>,
+    trace: &Trace,
+) {
+    let mut page = Page::new(session.alloc);
+    if put_cause(session.alloc, &mut page, trace).is_ok() {
         session.note(&page.bytes);
     }
 }

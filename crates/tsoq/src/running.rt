@@ -4,11 +4,11 @@ use crate::asked::Replay;
 use crate::command::{Asked, Request, Search, request_of};
 use crate::page::write_page;
 use crate::parse::{Parsing, parse};
-use crate::people::{tell, tell_limit, tell_verdict};
+use crate::people::{tell, tell_cause, tell_limit, tell_verdict};
 use crate::progress::{Listener, Progress};
-use crate::report::{Report, Sizes};
+use crate::report::Sizes;
 use crate::show::{print_run, run_of};
-use crate::verify::verify;
+use crate::verify::{Found, verify};
 use std::alloc::{Alloc, Global};
 use std::env::Env;
 use std::io::Write;
@@ -18,6 +18,7 @@ use std::time::Duration;
 use tso_check::checked_of;
 use tso_front::{Check, Failure, Files, Session, check_bytes, reported, started, verdict_status};
 use tso_say::{Topic, explanation};
+use tso_show::Replayed;
 
 /// A trace text has at most 64 MiB, so one byte more shows that it is too long.
 pub const TRACE_BYTES: usize = 64 * 1024 * 1024;
@@ -35,6 +36,7 @@ fn replay<F: Files, O: Write, E: Write>(
     session: &mut Session<'_, '_, '_, F, O, E>,
     texts: &mut Texts,
     asked: &Replay<'_>,
+    verbose: bool,
 ) -> Result<u8, Failure> {
     texts.program = session.read_program(asked.program)?;
     texts.trace = session.read(asked.trace, TRACE_BYTES + 1)?;
@@ -48,6 +50,10 @@ fn replay<F: Files, O: Write, E: Write>(
     )?;
     write_page(session, &checked, &texts.program, &run, asked)?;
     print_run(session, &checked, &texts.program, &run, asked)?;
+    if let (true, Replayed::Erring(trace)) = (verbose, &run) {
+        session.flush()?;
+        tell_cause(session, trace);
+    }
     Ok(0)
 }
 
@@ -109,14 +115,20 @@ fn end<F: Files, L: Listener, O: Write, E: Write>(
     session: &mut Session<'_, '_, '_, F, O, E>,
     watch: &Progress<'_, L>,
     asked: &Search<'_>,
-    report: Report,
+    found: &Found,
     begun: Option<Duration>,
+    verbose: bool,
 ) -> Result<u8, Failure> {
-    session.print_shown(&report)?;
+    session.print_shown(&found.report)?;
     if asked.stats {
-        put_stats(session, watch, report.sizes(watch.states()), begun)?;
+        let sizes = found.report.sizes(watch.states());
+        put_stats(session, watch, sizes, begun)?;
     }
-    Ok(report.status())
+    if let (true, Some(trace)) = (verbose, &found.trace) {
+        session.flush()?;
+        tell_cause(session, trace);
+    }
+    Ok(found.report.status())
 }
 
 // Says that a search met as many states as it may, and gives the status.
@@ -157,7 +169,7 @@ fn search<R: Threads + Wait + Sync, F: Files, L: Listener + Sync, O: Write, E: W
         asked,
         &watch,
     ) {
-        Ok(report) => end(session, &watch, asked, report, begun),
+        Ok(found) => end(session, &watch, asked, &found, begun, verbose),
         Err(Failure::Limit) => end_at_limit(session, &watch, asked, begun, verbose),
         Err(failure) => Err(failure),
     }
@@ -178,7 +190,7 @@ fn perform<R: Threads + Wait + Sync, F: Files, L: Listener + Sync, O: Write, E: 
         }
         Asked::Verify(asked) => search(rt, session, texts, listener, asked, request.verbose),
         Asked::Check(asked) => check(rt, session, texts, asked, request.verbose),
-        Asked::Replay(asked) => replay(session, texts, asked),
+        Asked::Replay(asked) => replay(session, texts, asked, request.verbose),
         Asked::Parse(asked) => parse_file(session, texts, asked),
         Asked::Explain(topic) => explain(session, *topic),
     }

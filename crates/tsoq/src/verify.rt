@@ -107,6 +107,13 @@ fn certified_last<F: Files>(
     report
 }
 
+/// What a search found, and the trace that was written of it, if it is one.
+#[derive(Debug, Drop)]
+pub struct Found {
+    pub report: Report,
+    pub trace: Option<Trace>,
+}
+
 /// Searches the runs of the client of a program text, and writes the certificate that all are good, or the trace of one that
 /// is not.
 ///
@@ -119,8 +126,8 @@ pub fn verify<R: Threads + Wait + Sync, F: Files, L: Listener + Sync>(
     program: &[u8],
     search: &Search<'_>,
     watch: &Progress<'_, L>,
-) -> Result<Report, Failure>
-    ensures { IfOk result (IsReport program.now) }
+) -> Result<Found, Failure>
+    ensures { IfOk result (λ found. IsReport program.now found.report) }
 {
     let checked = checked_of(alloc, program)?;
     let outcome = explore(
@@ -134,9 +141,19 @@ pub fn verify<R: Threads + Wait + Sync, F: Files, L: Listener + Sync>(
     watch.answer();
     match outcome {
         Outcome::Certificate(table, cert) => {
-            certified_last(alloc, files, search.cert, &table, cert)
+            let report = certified_last(alloc, files, search.cert, &table, cert)?;
+            Ok(Found {
+                report,
+                trace: None,
+            })
         }
-        Outcome::Trace(trace) => violated(alloc, files, search.trace, &trace),
+        Outcome::Trace(trace) => {
+            let report = violated(alloc, files, search.trace, &trace)?;
+            Ok(Found {
+                report,
+                trace: Some(trace),
+            })
+        }
         Outcome::LimitReached => Err(Failure::Limit),
         Outcome::NoMemory => Err(Failure::Memory),
     }
