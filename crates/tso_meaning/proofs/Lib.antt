@@ -1,6 +1,15 @@
 pub mod Alike
 pub mod CellPlaces
+pub mod Certificate
 pub mod Conditions
 pub mod Doing
+pub mod Frames
 pub mod Held
+pub mod Litmus
+pub mod OneOf
+pub mod PairCertificate
+pub mod PairChoices
+pub mod PairStates
+pub mod Same
+pub mod States
 pub mod Written

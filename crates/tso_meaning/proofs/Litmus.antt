@@ -1,7 +1,7 @@
 -- The litmus tests, each by its schedule.
 use Rattle.std.proofs.Common.{ℕ, List, [], ◌∷◌, refl, arith}
 use Rattle.std.proofs.lemmas.Option.{none-some}
-use Rattle.tso_example.specs.Litmus.{BothReadZero, FencesWaitHere, LocksHoldHere, ReturnsAreNoDrains, both_zero, buffering, fencing, late_drain, locking, publishing}
+use Rattle.tso_meaning.specs.Litmus.{BothReadZero, FencesWaitHere, LocksHoldHere, ReturnsAreNoDrains, both_zero, buffering, fencing, late_drain, locking, publishing}
 use Rattle.tso_model.specs.Events.{CallOf, ReturnOf}
 use Rattle.tso_model.specs.Labels.{By, Call, Drain, Fence, Label, Lock, Read, Unlock, Write, first_machine}
 use Rattle.tso_model.specs.Programs.{Done, Pop, Push}

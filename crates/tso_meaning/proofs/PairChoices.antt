@@ -10,10 +10,10 @@ use Rattle.tso_model.specs.Steps.{Actor, Drains, Exec, Move, Read, move, step, t
 use Rattle.tso_model.specs.Table.{IsTableClosed, Table, future_writes, table_future}
 use Rattle.tso_model.specs.WellFormed.{IsWellFormed}
 use Rattle.tso_model.proofs.Theorems.{first_is_well_formed, steps_stay_well_formed}
-use Rattle.tso_example.specs.Small.{AfterLoad, AfterStore, Frame, Loads, Stores, pair}
-use Rattle.tso_example.proofs.Frames.{rank, ranked, sound}
-use Rattle.tso_example.proofs.OneOf.{Each, is_one}
-use Rattle.tso_example.proofs.PairStates.{a0, a1, a2, a3, a4, a5, a6, a7, b1, b2, b3, b4, b5, b6, b7, states}
+use Rattle.tso_meaning.specs.Small.{AfterLoad, AfterStore, Frame, Loads, Stores, pair}
+use Rattle.tso_meaning.proofs.Frames.{rank, ranked, sound}
+use Rattle.tso_meaning.proofs.OneOf.{Each, is_one}
+use Rattle.tso_meaning.proofs.PairStates.{a0, a1, a2, a3, a4, a5, a6, a7, b1, b2, b3, b4, b5, b6, b7, states}
 
 -- a push stores to place 0, a pop reads place 1
 abbrev pub reads : Frame → ℕ → Bool

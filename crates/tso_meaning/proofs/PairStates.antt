@@ -2,7 +2,7 @@
 use Rattle.std.proofs.Common.{ℕ, List, [], ◌∷◌, Some, None}
 use Rattle.tso_model.specs.Programs.{Push, Pop, Refused, Done}
 use Rattle.tso_model.specs.States.{Buffer, Called, CompactCore, Executing, Resting, State}
-use Rattle.tso_example.specs.Small.{Frame, Stores, AfterStore, Loads, AfterLoad}
+use Rattle.tso_meaning.specs.Small.{Frame, Stores, AfterStore, Loads, AfterLoad}
 
 -- place 0's word, thread 0's core and buffer, thread 1's core, and the calls of both
 abbrev pub at : ℕ → CompactCore Frame → Buffer → CompactCore Frame → List Called → List Called → State Frame

@@ -3,7 +3,7 @@ use Rattle.std.proofs.Common.{◌≡◌, ℕ, ◌==◌, ◌&&◌, Bool, true, fa
 use Rattle.std.proofs.lemmas.Bool.{eqb-true}
 use Rattle.tso_model.specs.Programs.{CallKind, Push, Pop, Answer, Refused, Done, Value}
 use Rattle.tso_model.specs.States.{CompactCore, Resting, Executing, Halted, CompactThread, Called, State}
-use Rattle.tso_example.specs.Small.{Frame, Stores, AfterStore, Loads, AfterLoad}
+use Rattle.tso_meaning.specs.Small.{Frame, Stores, AfterStore, Loads, AfterLoad}
 
 -- a test that passes no two different ones
 abbrev pub Tells : {X : Type 0} → (X → X → Bool) → Type 0

@@ -2,7 +2,7 @@
 use Rattle.std.proofs.Common.{◌≡◌, ℕ, ◌<◌, Bool, true, false, List, Option, refl, ap, arith}
 use Rattle.tso_model.specs.Measure.{IsRanked}
 use Rattle.tso_model.specs.Programs.{CallKind, Push, Pop, Answer, Refused, Done, IsAnswerOf, Silent, Load, Store, Barrier, Locked, Ret, Fail, FaultKind}
-use Rattle.tso_example.specs.Small.{Frame, Stores, AfterStore, Loads, AfterLoad, next, program, start}
+use Rattle.tso_meaning.specs.Small.{Frame, Stores, AfterStore, Loads, AfterLoad, next, program, start}
 
 -- the frames of each call
 abbrev pub sound : CallKind → Frame → Bool

@@ -3,7 +3,7 @@ use Rattle.std.proofs.Common.{◌≡◌, ℕ, List, [], ◌∷◌, Some, None, r
 use Rattle.tso_model.specs.Programs.{Push, Pop, Refused, Done}
 use Rattle.tso_model.specs.States.{Resting, Executing, CompactThread, Called, State}
 use Rattle.tso_model.specs.Steps.{Actor, Exec, Drains, step, move}
-use Rattle.tso_example.specs.Small.{Frame, Stores, AfterStore, Loads, AfterLoad, small}
+use Rattle.tso_meaning.specs.Small.{Frame, Stores, AfterStore, Loads, AfterLoad, small}
 
 abbrev pub rest : CompactThread Frame
 rest = record { core = Resting; buffer = [] }

@@ -3,8 +3,8 @@ use Rattle.std.proofs.Common.{◌≡◌, ◌||◌, Bool, true, false, List, [], 
 use Rattle.std.proofs.lemmas.Bool.{or_cases}
 use Rattle.tso_model.specs.Reduce.{Has}
 use Rattle.tso_model.specs.States.{State}
-use Rattle.tso_example.specs.Small.{Frame}
-use Rattle.tso_example.proofs.Same.{same_state, state_tells}
+use Rattle.tso_meaning.specs.Small.{Frame}
+use Rattle.tso_meaning.proofs.Same.{same_state, state_tells}
 
 abbrev pub is_one : List (State Frame) → State Frame → Bool
 is_one [] s = false

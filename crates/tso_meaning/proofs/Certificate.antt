@@ -14,10 +14,10 @@ use Rattle.tso_model.specs.Table.{Table, IsTableClosed, table_future}
 use Rattle.tso_model.specs.WellFormed.{IsWellFormed}
 use Rattle.tso_model.proofs.Moves.{move_of}
 use Rattle.tso_model.proofs.Theorems.{every_run_is_good, first_is_well_formed, steps_stay_well_formed}
-use Rattle.tso_example.specs.Small.{Frame, Stores, AfterStore, Loads, AfterLoad, small, EverySmallRunIsGood}
-use Rattle.tso_example.proofs.Frames.{rank, ranked, sound}
-use Rattle.tso_example.proofs.OneOf.{Each, each, is_one, one_has}
-use Rattle.tso_example.proofs.States.{s0, s1, s2, s3, s4, s5, s6, s7, pushed, popped, Goes, go0, go1, go2, go3, go4, go5, go6}
+use Rattle.tso_meaning.specs.Small.{Frame, Stores, AfterStore, Loads, AfterLoad, small, EverySmallRunIsGood}
+use Rattle.tso_meaning.proofs.Frames.{rank, ranked, sound}
+use Rattle.tso_meaning.proofs.OneOf.{Each, each, is_one, one_has}
+use Rattle.tso_meaning.proofs.States.{s0, s1, s2, s3, s4, s5, s6, s7, pushed, popped, Goes, go0, go1, go2, go3, go4, go5, go6}
 
 -- any place may be read and written from any frame
 all : Table Frame

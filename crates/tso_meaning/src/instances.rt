@@ -1,8 +1,7 @@
 //! Instances: the theorem's premises can be met, and the machine does what x86-TSO does in the standard litmus tests.
-#![tactic(auto)]
 
-ghost use Rattle.tso_example.specs.Litmus.{BothReadZero, FencesWaitHere, LocksHoldHere, ReturnsAreNoDrains};
-ghost use Rattle.tso_example.specs.Small.{EveryPairRunIsGood, EverySmallRunIsGood};
+ghost use Rattle.tso_meaning.specs.Litmus.{BothReadZero, FencesWaitHere, LocksHoldHere, ReturnsAreNoDrains};
+ghost use Rattle.tso_meaning.specs.Small.{EveryPairRunIsGood, EverySmallRunIsGood};
 
 /// A push before a pop, as a prologue, through the store buffer: eight kept states show that every run is good.
 pub fn every_small_run_is_good()

@@ -10,11 +10,11 @@ use Rattle.tso_model.specs.Reduce.{Has, Over}
 use Rattle.tso_model.specs.States.{Called, CompactThread, Resting, State}
 use Rattle.tso_model.specs.Steps.{Actor, Drains, Exec, step}
 use Rattle.tso_model.proofs.Theorems.{every_run_is_good}
-use Rattle.tso_example.specs.Small.{EveryPairRunIsGood, Frame, pair}
-use Rattle.tso_example.proofs.Frames.{rank, ranked, sound}
-use Rattle.tso_example.proofs.OneOf.{Each, each, one_has}
-use Rattle.tso_example.proofs.PairChoices.{Choices, W, all_choices, all_well, kept, masks, masks_closed}
-use Rattle.tso_example.proofs.PairStates.{a0, a1, a2, a3, a4, a5, a6, a7, b1, b2, b3, b4, b5, b6, b7, popped, pushed, states}
+use Rattle.tso_meaning.specs.Small.{EveryPairRunIsGood, Frame, pair}
+use Rattle.tso_meaning.proofs.Frames.{rank, ranked, sound}
+use Rattle.tso_meaning.proofs.OneOf.{Each, each, one_has}
+use Rattle.tso_meaning.proofs.PairChoices.{Choices, W, all_choices, all_well, kept, masks, masks_closed}
+use Rattle.tso_meaning.proofs.PairStates.{a0, a1, a2, a3, a4, a5, a6, a7, b1, b2, b3, b4, b5, b6, b7, popped, pushed, states}
 
 of_kept : (P : State Frame → Type 0) → Each P states → (s : State Frame) → kept s ≡ true → P s
 of_kept P ps s k = each P states s ps (one_has states s k)

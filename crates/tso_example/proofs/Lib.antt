@@ -1,9 +1,0 @@
-pub mod Certificate
-pub mod Frames
-pub mod Litmus
-pub mod OneOf
-pub mod PairCertificate
-pub mod PairChoices
-pub mod PairStates
-pub mod Same
-pub mod States
