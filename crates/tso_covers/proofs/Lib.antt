@@ -1,0 +1,11 @@
+pub mod Coded
+pub mod Exactness
+pub mod Following
+pub mod Looser
+pub mod Pairs
+pub mod Placed
+pub mod Prologues
+pub mod Reordered
+pub mod SameCode
+pub mod Serving
+pub mod Theorems

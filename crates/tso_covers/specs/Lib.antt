@@ -1,0 +1,6 @@
+pub mod Clients
+pub mod Covering
+pub mod Goodness
+pub mod Prologues
+pub mod Renamings
+pub mod Served
