@@ -1,11 +1,15 @@
 //! The verdict on a certificate.
 
-ghost use Rattle.std.specs.Prelude.{◌≡◌};
+ghost use Rattle.std.specs.Prelude.{◌≡◌, Ok};
+ghost use Rattle.tso_check.specs.Headline.{IsVerified};
+ghost use Rattle.tso_check.specs.declared.verdict.Verdict.TheVariants as verdicts;
 ghost use Rattle.tso_front.specs.Statuses.{status_of_verdict};
 
 use crate::failure::{Failure, misused};
 use crate::files::Files;
+use crate::json::{json_argument, verdict_object};
 use crate::session::Session;
+use crate::variant::{Variant, variant_arguments, variant_of};
 use crate::words::program_argument;
 use clap::{Arg, ArgAction, ArgMatches, Command, value_parser};
 use std::alloc::{AllocError, Global};
@@ -19,8 +23,11 @@ use tso_check::{Verdict, check_with};
 #[derive(Clone, Copy, Debug)]
 pub struct Check<'a> {
     pub program: &'a str,
+    pub variant: Variant<'a>,
     pub cert: &'a str,
     pub workers: Workers,
+    /// Whether the verdict is printed as an object of JSON.
+    pub json: bool,
 }
 
 /// The option that says how many workers there are.
@@ -34,18 +41,26 @@ pub fn workers_argument<'a>(alloc: Global, help: &'a str) -> Arg<'a> {
         .help(help)
 }
 
-/// The command with the words of a check.
+/// The word that names the certificate.
+pub fn cert_argument<'a>(alloc: Global) -> Arg<'a> {
+    Arg::new(alloc, "CERT").help("the certificate")
+}
+
+/// The command with the words of a check, of which one names the certificate.
 ///
 /// Errors: where a growth was refused.
-pub fn check_arguments<'a>(alloc: Global, command: Command<'a>) -> Result<Command<'a>, AllocError> {
-    let cert = Arg::new(alloc, "CERT")
-        .required(true)
-        .help("the certificate");
-    command
+pub fn check_arguments<'a>(
+    alloc: Global,
+    command: Command<'a>,
+    cert: Arg<'a>,
+) -> Result<Command<'a>, AllocError> {
+    let command = command
         .about("decides a certificate: where it is accepted, every run of the program is good")
         .arg(program_argument(alloc))?
         .arg(cert)?
-        .arg(workers_argument(alloc, "how many workers check, 1 to 64"))
+        .arg(workers_argument(alloc, "how many workers check, 1 to 64"))?
+        .arg(json_argument(alloc))?;
+    variant_arguments(alloc, command)
 }
 
 /// How many workers the words ask for.
@@ -64,8 +79,10 @@ pub fn workers_of<'a>(alloc: Global, matches: &ArgMatches<'a>) -> Result<Workers
 pub fn check_of<'a>(alloc: Global, check: &ArgMatches<'a>) -> Result<Check<'a>, Failure> {
     Ok(Check {
         program: check.get_str("FILE").unwrap_or(""),
+        variant: variant_of(check),
         cert: check.get_str("CERT").unwrap_or(""),
         workers: workers_of(alloc, check)?,
+        json: check.get_flag("json"),
     })
 }
 
@@ -83,13 +100,20 @@ pub fn verdict_status(verdict: Verdict) -> u8
 fn put_verdict<F: Files, O: Write, E: Write>(
     session: &mut Session<'_, '_, '_, F, O, E>,
     verdict: Verdict,
+    json: bool,
 ) -> Result<(), Failure> {
-    session.print_shown(&verdict)?;
-    session.print("\n")?;
+    if json {
+        let object = verdict_object(session.alloc, verdict)?;
+        session.print_object(&object)?;
+    } else {
+        session.print_shown(&verdict)?;
+        session.print("\n")?;
+    }
     session.flush()
 }
 
-/// Decides a certificate, whose bytes are in a file, for a program text, prints the verdict and gives it.
+/// Decides a certificate, whose bytes are in a file, for a program text, prints the verdict and gives it: where it is accepted,
+/// the text denotes a client, and each of its runs is good.
 ///
 /// Errors: `CannotRead`; `Program` with the first fault of the text; `CannotPrint`; `Memory`.
 pub fn check_bytes<R: Threads + Wait + Sync, F: Files, O: Write, E: Write>(
@@ -97,9 +121,11 @@ pub fn check_bytes<R: Threads + Wait + Sync, F: Files, O: Write, E: Write>(
     session: &mut Session<'_, '_, '_, F, O, E>,
     program: &[u8],
     asked: &Check<'_>,
-) -> Result<Verdict, Failure> {
+) -> Result<Verdict, Failure>
+    ensures headline { result ≡ Ok verdicts.Accepted → IsVerified program.now }
+{
     let cert = session.read(asked.cert, usize::MAX)?;
     let verdict = check_with(rt, session.alloc, program, &cert, asked.workers, &NoWatch)?;
-    put_verdict(session, verdict)?;
+    put_verdict(session, verdict, asked.json)?;
     Ok(verdict)
 }

@@ -18,6 +18,9 @@ pub trait Files {
 
     /// Opens a file to be written anew.
     fn create(&mut self, path: &str) -> io::Result<Self::Writer>;
+
+    /// Makes a folder.
+    fn create_folder(&mut self, path: &str) -> io::Result<()>;
 }
 
 // The first `limit` bytes that a reader gives, all of them where it has fewer. A read that is interrupted is tried again.

@@ -22,4 +22,8 @@ impl<'a, R: FileRuntime> Files for HostFiles<'a, R> {
     fn create(&mut self, path: &str) -> io::Result<R::File> {
         fs::create(self.rt, path)
     }
+
+    fn create_folder(&mut self, path: &str) -> io::Result<()> {
+        fs::create_dir(self.rt, path)
+    }
 }

@@ -2,20 +2,23 @@
 //! verdict on a certificate, which one of them gives and does nothing else.
 #![tactic(auto)]
 
-mod alone;
 mod checking;
 mod failure;
 mod files;
 mod host;
+mod json;
 mod session;
+mod variant;
 mod words;
 
-pub use alone::{run_check, run_check_process};
 pub use checking::{
-    Check, check_arguments, check_bytes, check_of, verdict_status, workers_argument, workers_of,
+    Check, cert_argument, check_arguments, check_bytes, check_of, verdict_status, workers_argument,
+    workers_of,
 };
 pub use failure::{Failure, cannot_read, cannot_write, misused};
 pub use files::{Files, read_up_to};
 pub use host::HostFiles;
+pub use json::{json_argument, json_line, number_or_null, verdict_object};
 pub use session::{Session, reported};
+pub use variant::{Variant, variant_arguments, variant_of};
 pub use words::{Ended, VERSION, ended_words, program_argument, started};

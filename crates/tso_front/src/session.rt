@@ -3,8 +3,11 @@
 ghost use Rattle.std.specs.Prelude.{◌≡◌, ◌≤◌, vec_len, IfOk};
 ghost use Rattle.tso_front.specs.Statuses.{status_of};
 
-use crate::failure::Failure;
+use crate::failure::{Failure, cannot_write};
 use crate::files::{Files, read_up_to};
+use crate::json::json_line;
+use crate::variant::Variant;
+use serde_json::Value;
 use std::alloc::Global;
 use std::fmt;
 use std::io::Write;
@@ -34,8 +37,18 @@ impl<F: Files, O: Write, E: Write> Session<'_, '_, '_, F, O, E> {
     /// The bytes of a program text, and one more where it is too long.
     ///
     /// Errors: `CannotRead`; `Memory`.
-    pub fn read_program(&mut self, path: &str) -> Result<Vec<u8>, Failure> {
+    pub fn read_program(&mut self, path: &str) -> Result<Vec<u8>, Failure>
+        ensures short { IfOk result (λ bytes. vec_len bytes ≤ 65537) }
+    {
         self.read(path, PROGRAM_BYTES)
+    }
+
+    /// The bytes of a program text, with other calls in place of its own.
+    ///
+    /// Errors: `CannotRead`; `Usage` where the words for the calls are none; `Memory`.
+    pub fn read_variant(&mut self, path: &str, variant: &Variant<'_>) -> Result<Vec<u8>, Failure> {
+        let text = self.read_program(path)?;
+        variant.applied(self.alloc, text)
     }
 
     /// Writes bytes to standard output.
@@ -61,6 +74,31 @@ impl<F: Files, O: Write, E: Write> Session<'_, '_, '_, F, O, E> {
     pub fn print_shown<T: fmt::Display>(&mut self, value: &T) -> Result<(), Failure> {
         let text = value.to_string(self.alloc)?;
         self.print(text.as_str())
+    }
+
+    /// Writes an object of JSON to standard output, as a line.
+    ///
+    /// Errors: `CannotPrint`; `Memory`.
+    pub fn print_object(&mut self, object: &Value) -> Result<(), Failure> {
+        let line = json_line(self.alloc, object)?;
+        self.print(line.as_str())
+    }
+
+    /// Writes a new file.
+    ///
+    /// Errors: `CannotWrite` where the file failed; `Memory`.
+    pub fn write(&mut self, path: &str, bytes: &[u8]) -> Result<(), Failure> {
+        let written = match self.files.create(path) {
+            Ok(mut file) => match file.write_all(bytes) {
+                Ok(()) => file.flush(),
+                Err(error) => Err(error),
+            },
+            Err(error) => Err(error),
+        };
+        match written {
+            Ok(()) => Ok(()),
+            Err(error) => Err(cannot_write(self.alloc, path, error.kind())),
+        }
     }
 
     /// Has all that was written to standard output written out.

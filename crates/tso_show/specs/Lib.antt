@@ -1,6 +1,7 @@
 pub mod Buffers
 pub mod Calls
 pub mod Data
+pub mod Drains
 pub mod Escapes
 pub mod Lines
 pub mod Moments

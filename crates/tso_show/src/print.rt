@@ -1,6 +1,8 @@
 //! Labels with what is shown beside them, and the calls of a run, printed.
 
-use crate::buffer::push_buffer;
+ghost use Rattle.std.specs.Prelude.{◌≡◌, IfSome};
+ghost use Rattle.tso_show.specs.Drains.{IsDrainAfter, is_drain_of};
+
 use crate::call::{TimedCall, calls_in};
 use crate::line::line_text;
 use crate::moment::{Moment, next_moment};
@@ -16,9 +18,9 @@ use thiserror::Error;
 use tso_fifo::Order;
 use tso_flow::ProcedureKind;
 use tso_line::CallKind;
-use tso_machine::Label;
-use tso_prog::{Answer, Client};
-use tso_trace::line_of;
+use tso_machine::{Entry, Label, LabelKind};
+use tso_prog::{Answer, Array, Client};
+use tso_trace::{cell_name, line_of};
 
 /// Why something is not printed to its end.
 #[derive(Debug, PartialEq, Eq, Drop, Error)]
@@ -332,22 +334,66 @@ fn put_served<W: Write>(
     put_order(alloc, out, calls, order)
 }
 
-// Prints what was in the store buffer of a thread behind a run, if it was not empty.
+fn is_drain_of(label: &Label, thread: usize) -> bool
+    ensures { result ≡ is_drain_of thread label.now }
+{
+    label.thread == thread && matches!(label.kind, LabelKind::Drain { .. })
+}
+
+// The number of the label, behind the first `from`, with which a thread's buffer drains once more after `earlier` times.
+fn drained_at(labels: &[Label], from: usize, thread: usize, earlier: usize) -> Option<usize>
+    ensures { IfSome result (IsDrainAfter labels.now from thread) }
+{
+    let mut left = earlier;
+    for at in from..labels.len() {
+        if is_drain_of(&labels[at], thread) {
+            if left == 0 {
+                return Some(at + 1);
+            }
+            left -= 1;
+        }
+    }
+    None
+}
+
+// A store that is in a buffer, and the label with which it drains, if it does.
+fn held(
+    alloc: Global,
+    arrays: &[Array],
+    entry: Entry,
+    drained: Option<usize>,
+) -> Result<String, AllocError> {
+    let cell = cell_name(alloc, arrays, entry.place)?;
+    let word = entry.word;
+    match drained {
+        Some(label) => format!(in alloc; "  {cell} = {word} (drained at {label})"),
+        None => format!(in alloc; "  {cell} = {word}"),
+    }
+}
+
+// Prints what was in the store buffer of a thread behind a run, if it was not empty, and where that drains in the labels that the
+// run begins.
 fn put_held<W: Write>(
     alloc: Global,
     out: &mut W,
     walk: &Walk<'_>,
+    labels: &[Label],
     thread: usize,
 ) -> Result<(), ShowError> {
     let Some(holder) = walk.machine().threads.get(thread) else {
         return Ok(());
     };
-    if holder.buffer.live().is_empty() {
+    let entries = holder.buffer.live();
+    if entries.is_empty() {
         return Ok(());
     }
-    let mut text = String::new(alloc);
     let arrays = walk.checked().client.arrays.as_slice();
-    push_buffer(alloc, &mut text, arrays, holder)?;
+    let from = walk.taken().len();
+    let mut text = String::new(alloc);
+    for (earlier, entry) in entries.iter().enumerate() {
+        let drained = drained_at(labels, from, thread, earlier);
+        text.push_str(held(alloc, arrays, *entry, drained)?.as_str())?;
+    }
     put_made(
         out,
         format!(in alloc; "  stores of thread {thread} were still in its buffer:{text}\n"),
@@ -367,8 +413,13 @@ fn put_unordered<W: Write>(
     Ok(())
 }
 
-// Prints why the calls of a run have no order: a sentence where one holds, and else the calls.
-fn put_cause<W: Write>(alloc: Global, out: &mut W, walk: &Walk<'_>) -> Result<(), ShowError> {
+// Prints why the calls of a run have no order, which begins these labels: a sentence where one holds, and else the calls.
+fn put_cause<W: Write>(
+    alloc: Global,
+    out: &mut W,
+    walk: &Walk<'_>,
+    labels: &[Label],
+) -> Result<(), ShowError> {
     let client = &walk.checked().client;
     let calls = calls_in(alloc, walk.taken())?;
     let Some(cause) = cause_of(&calls, client.mode, usize::from(client.capacity)) else {
@@ -376,7 +427,7 @@ fn put_cause<W: Write>(alloc: Global, out: &mut W, walk: &Walk<'_>) -> Result<()
     };
     put_made(out, format!(in alloc; "  {cause}\n"))?;
     match cause {
-        Cause::NotEmpty { push, .. } => put_held(alloc, out, walk, push.thread),
+        Cause::NotEmpty { push, .. } => put_held(alloc, out, walk, labels, push.thread),
         _ => Ok(()),
     }
 }
@@ -394,7 +445,7 @@ fn put_end_of_order<W: Write>(
     let labels = walk.taken();
     let end = label.min(labels.len());
     let part = Walk::to_end(alloc, walk.checked(), &labels[..end])?;
-    put_cause(alloc, out, &part)
+    put_cause(alloc, out, &part, labels)
 }
 
 /// Prints how far the calls of the labels that a walk has taken have an order, and one. Where they have none to the end, it

@@ -1,5 +1,5 @@
 -- What reports say, from what the search found.
-use Rattle.std.proofs.Common.{ℕ, List}
+use Rattle.std.proofs.Common.{ℕ, List, Some, None, refl}
 use Rattle.std.specs.Prelude.{length}
 use Rattle.tso_cert.specs.Trees.{Tree, record_count}
 use Rattle.tso_check.proofs.Goodness.{each_run_is_good}
@@ -8,9 +8,10 @@ use Rattle.tso_explore.specs.Outcomes.{IsCertificate}
 use Rattle.tso_foot.specs.declared.table.Table.{Table}
 use Rattle.tso_machine.specs.declared.label.Label.{Label}
 use Rattle.tso_prog.specs.declared.client.Client.{Client}
-use Rattle.tso_trace.specs.Runs.{IsErrorTrace}
+use Rattle.tso_trace.specs.Runs.{IsErrorTrace, first_fault, violation_of}
+use Rattle.tso_trace.specs.declared.trace.Trace.{Trace}
 use Rattle.tso_trace.specs.declared.trace.Violation.{Violation}
-use Rattle.tsoq.specs.Reports.{IsOfLabels, IsOfRecords, IsReport}
+use Rattle.tsoq.specs.Reports.{IsOfLabels, IsOfRecords, IsReport, IsTold}
 use Rattle.tsoq.specs.declared.report.Report.{Report}
 use Rattle.tsoq.specs.declared.report.Report.TheVariants.{Certified, Violated}
 
@@ -23,3 +24,13 @@ pub one_errs : (text : List ℕ) (c : Client) (ls : List Label) (wrong : Violati
     → IsOfLabels wrong (length ls) r → IsReport text r
 one_errs text c ls wrong (Certified records bytes) d e is = absurd is
 one_errs text c ls wrong (Violated violation labels bytes) d e is = record { erring = c; denotes = d; labels = ls; run = e }
+
+-- beside a certificate there is no trace
+pub told_certified : (r : Report) (count : ℕ) → IsOfRecords count r → IsTold r None
+told_certified (Certified records bytes) count is = refl
+told_certified (Violated violation labels bytes) count is = absurd is
+
+-- and beside a violation that of its run
+pub told_violated : (r : Report) (t : Trace) → IsOfLabels (violation_of (first_fault t.labels)) (length t.labels) r → IsTold r (Some t)
+told_violated (Certified records bytes) t is = absurd is
+told_violated (Violated violation labels bytes) t is = is

@@ -1,9 +1,10 @@
 -- What a report of a search says of the program text.
-use Rattle.std.specs.Prelude.{◌≡◌, ℕ, List}
+use Rattle.std.specs.Prelude.{◌≡◌, ℕ, List, Option, Some, None, length}
 use Rattle.tso_check.specs.Headline.{DenotesChecked, IsVerified}
 use Rattle.tso_machine.specs.declared.label.Label.{Label}
 use Rattle.tso_prog.specs.declared.client.Client.{Client}
-use Rattle.tso_trace.specs.Runs.{IsErrorTrace}
+use Rattle.tso_trace.specs.Runs.{IsErrorTrace, first_fault, violation_of}
+use Rattle.tso_trace.specs.declared.trace.Trace.{Trace}
 use Rattle.tso_trace.specs.declared.trace.Violation.{Violation}
 use Rattle.tsoq.specs.declared.report.Report.{Report}
 use Rattle.tsoq.specs.declared.report.Report.TheVariants.{Certified, Violated}
@@ -29,3 +30,9 @@ IsOfRecords count (Violated violation labels bytes) = ⊥
 abbrev pub IsOfLabels : Violation → ℕ → Report → Type 0
 IsOfLabels wrong count (Certified records bytes) = ⊥
 IsOfLabels wrong count (Violated violation labels bytes) = (violation ≡ wrong) × (labels ≡ count)
+
+-- beside a certificate no trace is handed out, and beside a violation the one whose run and labels are reported
+abbrev pub IsTold : Report → Option Trace → Type 0
+IsTold (Certified records bytes) trace = trace ≡ None
+IsTold (Violated violation labels bytes) None = ⊥
+IsTold (Violated violation labels bytes) (Some trace) = (violation ≡ violation_of (first_fault trace.labels)) × (labels ≡ length trace.labels)

@@ -2,12 +2,14 @@
 
 use clap::{Arg, ArgAction, ArgMatches, Command};
 use std::alloc::{AllocError, Global};
+use tso_front::{Variant, variant_of};
 use tso_show::Show;
 
 /// Which trace is replayed, and what is shown of it.
 #[derive(Clone, Copy, Debug)]
 pub struct Replay<'a> {
     pub program: &'a str,
+    pub variant: Variant<'a>,
     pub trace: &'a str,
     /// After which label the state is shown; after the last where there is none.
     pub to: Option<u64>,
@@ -19,6 +21,8 @@ pub struct Replay<'a> {
     pub partial: bool,
     /// Where the run is written as a page.
     pub html: Option<&'a str>,
+    /// Whether labels, the state and what is wrong are printed as objects of JSON.
+    pub json: bool,
 }
 
 impl Replay<'_> {
@@ -80,6 +84,7 @@ pub fn with_flags<'a>(alloc: Global, command: Command<'a>) -> Result<Command<'a>
 pub fn replay_of<'a>(replay: &ArgMatches<'a>) -> Replay<'a> {
     Replay {
         program: replay.get_str("FILE").unwrap_or(""),
+        variant: variant_of(replay),
         trace: replay.get_str("TRACE").unwrap_or(""),
         to: replay.get_one::<u64>("to"),
         show: Show {
@@ -90,5 +95,6 @@ pub fn replay_of<'a>(replay: &ArgMatches<'a>) -> Replay<'a> {
         history: replay.get_flag("history"),
         partial: replay.get_flag("partial"),
         html: replay.get_str("html"),
+        json: replay.get_flag("json"),
     }
 }

@@ -4,12 +4,14 @@ use crate::asked::{Replay, replay_of, with_flags};
 use crate::help;
 use crate::limit::StateLimit;
 use crate::parse::{Parsing, parse_command, parsing_of};
+use crate::survey::{Survey, survey_command, survey_of};
 use clap::{Arg, ArgAction, ArgMatches, Command, value_parser};
 use std::alloc::{AllocError, Global};
 use tso_cert::Workers;
 use tso_front::{
-    Check, Ended, Failure, VERSION, check_arguments, check_of, ended_words, misused,
-    program_argument, workers_argument, workers_of,
+    Check, Ended, Failure, VERSION, Variant, cert_argument, check_arguments, check_of, ended_words,
+    json_argument, misused, program_argument, variant_arguments, variant_of, workers_argument,
+    workers_of,
 };
 use tso_say::{Topic, find};
 
@@ -17,14 +19,19 @@ use tso_say::{Topic, find};
 #[derive(Clone, Copy, Debug)]
 pub struct Search<'a> {
     pub program: &'a str,
-    pub cert: &'a str,
-    pub trace: &'a str,
+    pub variant: Variant<'a>,
+    /// Where the certificate is written, if it is.
+    pub cert: Option<&'a str>,
+    /// Where the trace is written, if it is.
+    pub trace: Option<&'a str>,
     pub workers: Workers,
     pub limit: StateLimit,
     /// Whether it is to be said how much was met and written.
     pub stats: bool,
     /// Whether it is to be said how far the search has come.
     pub progress: bool,
+    /// Whether what was found is printed as an object of JSON.
+    pub json: bool,
 }
 
 /// What the words ask for.
@@ -38,6 +45,8 @@ pub enum Asked<'a> {
     Check(Check<'a>),
     /// The replay of a trace.
     Replay(Replay<'a>),
+    /// The search of all clients up to a size.
+    Survey(Survey<'a>),
     /// What is read of a program text.
     Parse(Parsing<'a>),
     /// What a code means.
@@ -59,24 +68,26 @@ fn verbose<'a>(alloc: Global) -> Arg<'a> {
         .help("says on standard error, behind the promised lines, why")
 }
 
-// An option with a value, which has to be there.
+// An option with a path.
 fn path_option<'a>(alloc: Global, name: &'a str, value: &'a str, help: &'a str) -> Arg<'a> {
     Arg::new(alloc, name)
         .long(name)
         .value_name(value)
         .action(ArgAction::Set)
-        .required(true)
         .help(help)
 }
 
-fn verify_command<'a>(alloc: Global) -> Result<Command<'a>, AllocError> {
-    let states = Arg::new(alloc, "states")
+fn states<'a>(alloc: Global) -> Arg<'a> {
+    Arg::new(alloc, "states")
         .long("states")
         .value_name("N")
         .action(ArgAction::Set)
         .value_parser(value_parser!(u64).range(1..=4_194_304))
         .default_value("4194304")
-        .help("how many states the search may meet, 1 to 4194304");
+        .help("how many states the search may meet, 1 to 4194304")
+}
+
+fn verify_command<'a>(alloc: Global) -> Result<Command<'a>, AllocError> {
     let stats = Arg::new(alloc, "stats")
         .long("stats")
         .action(ArgAction::SetTrue)
@@ -85,22 +96,35 @@ fn verify_command<'a>(alloc: Global) -> Result<Command<'a>, AllocError> {
         .long("progress")
         .action(ArgAction::SetTrue)
         .help("says on standard error how far the search has come");
-    Command::new(alloc, "verify")
+    let command = Command::new(alloc, "verify")
         .about(
             "searches all runs of a program, for a certificate that they are good or a trace of one that is not",
         )
         .after_help(help::VERIFY)
         .arg(program_argument(alloc))?
-        .arg(path_option(alloc, "out", "CERT", "where the certificate is written"))?
-        .arg(path_option(alloc, "trace", "TRACE", "where the trace is written"))?
+        .arg(path_option(
+            alloc,
+            "out",
+            "CERT",
+            "where the certificate is written, if it is to be",
+        ))?
+        .arg(path_option(
+            alloc,
+            "trace",
+            "TRACE",
+            "where the trace is written, if it is to be",
+        ))?
         .arg(workers_argument(alloc, "how many workers search, 1 to 64"))?
-        .arg(states)?
+        .arg(states(alloc))?
         .arg(stats)?
-        .arg(progress)
+        .arg(progress)?
+        .arg(json_argument(alloc))?;
+    variant_arguments(alloc, command)
 }
 
 fn check_command<'a>(alloc: Global) -> Result<Command<'a>, AllocError> {
-    check_arguments(alloc, Command::new(alloc, "check").after_help(help::CHECK))
+    let command = Command::new(alloc, "check").after_help(help::CHECK);
+    check_arguments(alloc, command, cert_argument(alloc).required(true))
 }
 
 fn explain_command<'a>(alloc: Global) -> Result<Command<'a>, AllocError> {
@@ -132,8 +156,9 @@ fn replay_command<'a>(alloc: Global) -> Result<Command<'a>, AllocError> {
         .after_help(help::REPLAY)
         .arg(program_argument(alloc))?
         .arg(trace)?
-        .arg(to)?;
-    with_flags(alloc, command)
+        .arg(to)?
+        .arg(json_argument(alloc))?;
+    variant_arguments(alloc, with_flags(alloc, command)?)
 }
 
 // All the words.
@@ -146,23 +171,32 @@ fn command<'a>(alloc: Global) -> Result<Command<'a>, AllocError> {
         .subcommand(verify_command(alloc)?.arg(verbose(alloc))?)?
         .subcommand(check_command(alloc)?.arg(verbose(alloc))?)?
         .subcommand(replay_command(alloc)?.arg(verbose(alloc))?)?
+        .subcommand(survey_command(alloc, states(alloc))?.arg(verbose(alloc))?)?
         .subcommand(parse_command(alloc)?.arg(verbose(alloc))?)?
         .subcommand(explain_command(alloc)?)
 }
 
+// How many states a search may meet.
+fn limit_of(alloc: Global, matches: &ArgMatches<'_>) -> Result<StateLimit, Failure> {
+    match StateLimit::new(matches.get_one::<u64>("states").unwrap_or(0)) {
+        Some(limit) => Ok(limit),
+        None => Err(misused(alloc, "the limit is 1 to 4194304 states\n")),
+    }
+}
+
 fn search_of<'a>(alloc: Global, verify: &ArgMatches<'a>) -> Result<Search<'a>, Failure> {
     let workers = workers_of(alloc, verify)?;
-    let Some(limit) = StateLimit::new(verify.get_one::<u64>("states").unwrap_or(0)) else {
-        return Err(misused(alloc, "the limit is 1 to 4194304 states\n"));
-    };
+    let limit = limit_of(alloc, verify)?;
     Ok(Search {
         program: verify.get_str("FILE").unwrap_or(""),
-        cert: verify.get_str("out").unwrap_or(""),
-        trace: verify.get_str("trace").unwrap_or(""),
+        variant: variant_of(verify),
+        cert: verify.get_str("out"),
+        trace: verify.get_str("trace"),
         workers,
         limit,
         stats: verify.get_flag("stats"),
         progress: verify.get_flag("progress"),
+        json: verify.get_flag("json"),
     })
 }
 
@@ -183,6 +217,10 @@ fn asked_of<'a>(alloc: Global, name: &str, found: &ArgMatches<'a>) -> Result<Ask
         "verify" => Ok(Asked::Verify(search_of(alloc, found)?)),
         "check" => Ok(Asked::Check(check_of(alloc, found)?)),
         "replay" => Ok(Asked::Replay(replay_of(found))),
+        "survey" => {
+            let limit = limit_of(alloc, found)?;
+            Ok(Asked::Survey(survey_of(alloc, limit, found)?))
+        }
         "parse" => Ok(Asked::Parse(parsing_of(found))),
         _ => {
             let code = found.get_str("CODE").unwrap_or("");

@@ -14,15 +14,17 @@ docs/TUTORIAL.md leads from a queue of your own to its first verdict; docs/LANGU
 /// Help for `verify`.
 pub const VERIFY: &str =
     "Reads FILE, a program text: the push and the pop of a ring queue in Intel syntax, and the calls of a few
-threads. Writes CERT where all runs are good, or TRACE where one is not, and never both. CERT is decided by
-`tsoq check`, TRACE is shown by `tsoq replay`.
+threads. Writes CERT where all runs are good, or TRACE where one is not, and never both; without --out or --trace
+that one is not written. CERT is decided by `tsoq check`, TRACE is shown by `tsoq replay`; where --client, --before
+or --mode put other calls in place of those of FILE, both want the same words.
 
 Example:
   tsoq verify queues/vyukov.tso --out vyukov.cert --trace vyukov.trace
+  tsoq verify queues/vyukov_weak.tso --client 'push 1 | push 2 | pop, pop' --before 'push 3'
 
 Status:
-  0   CERT is written              certificate: R records
-  1   TRACE is written             violation: fault in thread I, or violation: no order
+  0   all runs are good            certificate: R records
+  1   one is not                   violation: fault in thread I, or violation: no order
                                    trace: N labels
   2   FILE is refused              E04 line 7
   4   more states than --states    limit reached
@@ -49,7 +51,7 @@ Status:
 pub const REPLAY: &str =
     "Reads FILE, a program text, and TRACE, the trace of an error. It prints the labels, one a
 line, then each word of memory, each thread with what is in its store buffer, and what is wrong.
-With --html it writes OUT, one file that a browser shows, and nothing else.
+With --html it writes OUT as well, one file that a browser shows without any other.
 
 Example:
   tsoq replay queues/vyukov.tso vyukov.trace --to 40
@@ -62,6 +64,26 @@ Status:
   3   TRACE is refused             T01 label 5, T02, or T03 line 4
   5   out of memory
   6   a file failed                cannot read PATH, or cannot write PATH
+  64  the words are none of these";
+
+/// Help for `survey`.
+pub const SURVEY: &str =
+    "Reads FILE, a program text, and searches its queue with other clients than the file's: all those of at most T
+threads and N calls, of which at most P threads push and C pop, each push with a value of its own. Clients that
+differ in the order of threads alone are one, and one whose threads' calls begin those of a larger one is not
+searched: where all runs of the larger one are good, so are all of its.
+
+Example:
+  tsoq survey queues/vyukov_weak.tso --threads 3 --calls 4
+  tsoq survey queues/lamport_fenced.tso --calls 6 --producers 1 --consumers 1 --out certificates
+
+Status:
+  0   all runs of all clients are good   accepted: every client of at most 3 threads and 4 calls, 54 searched
+  1   one is not                         violation: the smallest client that has one
+  2   FILE is refused                    E04 line 7
+  4   more states than --states          limit reached: 1 of 54 searched
+  5   out of memory
+  6   a file failed                      cannot read PATH, or cannot write PATH
   64  the words are none of these";
 
 /// Help for `parse`.

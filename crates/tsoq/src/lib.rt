@@ -8,14 +8,17 @@ mod help;
 mod host;
 mod length;
 mod limit;
+mod objects;
 mod page;
 mod parse;
 mod people;
 mod progress;
 mod replay;
 mod report;
+mod round;
 mod running;
 mod show;
+mod survey;
 mod verify;
 
 pub use host::HostListener;

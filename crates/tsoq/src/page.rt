@@ -6,27 +6,8 @@ use crate::show::show_failure;
 use std::alloc::Global;
 use std::io::Write;
 use tso_flow::Checked;
-use tso_front::{Failure, Files, Session, cannot_write};
+use tso_front::{Failure, Files, Session};
 use tso_show::{Replayed, Run, ShowError, page_of};
-
-// Writes these bytes to a new file.
-fn write_file<F: Files, O: Write, E: Write>(
-    session: &mut Session<'_, '_, '_, F, O, E>,
-    path: &str,
-    bytes: &[u8],
-) -> Result<(), Failure> {
-    let mut file = match session.files.create(path) {
-        Ok(file) => file,
-        Err(error) => return Err(cannot_write(session.alloc, path, error.kind())),
-    };
-    if let Err(error) = file.write_all(bytes) {
-        return Err(cannot_write(session.alloc, path, error.kind()));
-    }
-    match file.flush() {
-        Ok(()) => Ok(()),
-        Err(error) => Err(cannot_write(session.alloc, path, error.kind())),
-    }
-}
 
 // What is wrong with a run, in words, if something is.
 fn wrong_words(alloc: Global, run: &Replayed) -> Result<Option<String>, Failure> {
@@ -75,7 +56,7 @@ fn write_run<F: Files, O: Write, E: Write>(
 ) -> Result<(), Failure> {
     let words = wrong_words(session.alloc, run)?;
     let bytes = shown_bytes(session.alloc, checked, program, run, name, words.as_deref())?;
-    write_file(session, path, &bytes)
+    session.write(path, &bytes)
 }
 
 /// Writes a run as a page to a new file, where that is asked for.

@@ -8,13 +8,14 @@ use crate::help;
 use clap::{Arg, ArgAction, ArgMatches, Command};
 use std::alloc::{AllocError, Global};
 use tso_check::checked_of;
-use tso_front::{Failure, program_argument};
+use tso_front::{Failure, Variant, program_argument, variant_arguments, variant_of};
 use tso_say::parsed;
 
 /// A program text that is to be parsed, and whether its canonical text is printed.
 #[derive(Clone, Copy, Debug)]
 pub struct Parsing<'a> {
     pub program: &'a str,
+    pub variant: Variant<'a>,
     pub print: bool,
 }
 
@@ -36,19 +37,21 @@ pub fn parse_command<'a>(alloc: Global) -> Result<Command<'a>, AllocError> {
         .long("print")
         .action(ArgAction::SetTrue)
         .help("prints the canonical text of the program");
-    Command::new(alloc, "parse")
+    let command = Command::new(alloc, "parse")
         .about(
             "reads a program, and says whether it is accepted and how many labels its runs have at most",
         )
         .after_help(help::PARSE)
         .arg(program_argument(alloc))?
-        .arg(print)
+        .arg(print)?;
+    variant_arguments(alloc, command)
 }
 
 /// What the words of `parse` ask for.
 pub fn parsing_of<'a>(parse: &ArgMatches<'a>) -> Parsing<'a> {
     Parsing {
         program: parse.get_str("FILE").unwrap_or(""),
+        variant: variant_of(parse),
         print: parse.get_flag("print"),
     }
 }

@@ -31,7 +31,11 @@ fn paths_of<'a>(asked: &Asked<'a>) -> Option<Paths<'a>> {
             program: replay.program,
             other: replay.trace,
         }),
-        Asked::Verify(_) | Asked::Parse(_) | Asked::Help(_) | Asked::Explain(_) => None,
+        Asked::Verify(_)
+        | Asked::Survey(_)
+        | Asked::Parse(_)
+        | Asked::Help(_)
+        | Asked::Explain(_) => None,
     }
 }
 

@@ -82,13 +82,20 @@ pub struct Times {
     written: Duration,
 }
 
-impl fmt::Display for Times {
-    fn fmt<W: fmt::Write>(&self, f: &mut fmt::Formatter<W>) -> fmt::Result {
-        let (searched, composed, written) = (
+impl Times {
+    /// The three in whole milliseconds.
+    pub fn milliseconds(&self) -> (u64, u64, u64) {
+        (
             milliseconds(self.searched),
             milliseconds(self.composed),
             milliseconds(self.written),
-        );
+        )
+    }
+}
+
+impl fmt::Display for Times {
+    fn fmt<W: fmt::Write>(&self, f: &mut fmt::Formatter<W>) -> fmt::Result {
+        let (searched, composed, written) = self.milliseconds();
         writeln!(
             f,
             "searched: {searched} ms\ncomposed: {composed} ms\nwritten: {written} ms"

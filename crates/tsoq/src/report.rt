@@ -3,7 +3,11 @@
 ghost use Rattle.std.specs.Prelude.{◌≡◌, None, Some};
 ghost use Rattle.tsoq.specs.Statuses.{status_of_report};
 
+use crate::progress::Times;
+use serde_json::{Value, json};
+use std::alloc::{AllocError, Global};
 use std::fmt;
+use tso_front::number_or_null;
 use tso_trace::Violation;
 
 /// What is wrong with a run, as it is printed.
@@ -19,19 +23,49 @@ impl fmt::Display for Wrong {
     }
 }
 
+/// A violation by its words, and the thread of a fault, as members of an object of JSON.
+pub fn violation_words(violation: Violation) -> (&'static str, Value) {
+    match violation {
+        Violation::Fault(thread) => ("fault", Value::from(thread as u64)),
+        Violation::NoOrder => ("no order", Value::Null),
+    }
+}
+
+// The parts of the time in milliseconds; nulls without a clock.
+fn parts_of(times: Option<Times>) -> (Value, Value, Value) {
+    match times {
+        Some(times) => {
+            let (searched, composed, written) = times.milliseconds();
+            (
+                Value::from(searched),
+                Value::from(composed),
+                Value::from(written),
+            )
+        }
+        None => (Value::Null, Value::Null, Value::Null),
+    }
+}
+
+/// That a search met as many states as it may, as an object of JSON.
+///
+/// Errors: where a growth was refused.
+pub fn limit_object(alloc: Global, states: u64) -> Result<Value, AllocError> {
+    json!(in alloc; {"verdict": "limit reached", "states": states})
+}
+
 /// What a search found, and what was written of it.
 #[derive(Clone, Copy, Debug)]
 pub enum Report {
-    /// Every run is good: a certificate of so many records, in so many bytes.
+    /// Every run is good: a certificate of so many records, in so many bytes if it was written.
     Certified {
         records: u64,
-        bytes: u64,
+        bytes: Option<u64>,
     },
-    /// A run is not good: a trace of so many labels, in so many bytes.
+    /// A run is not good: a trace of so many labels, in so many bytes if it was written.
     Violated {
         violation: Violation,
         labels: usize,
-        bytes: u64,
+        bytes: Option<u64>,
     },
 }
 
@@ -43,6 +77,33 @@ impl Report {
         match self {
             Report::Certified { .. } => 0,
             Report::Violated { .. } => 1,
+        }
+    }
+
+    /// The same as members of an object of JSON, beside the states that were met and the parts of the time.
+    ///
+    /// Errors: where a growth was refused.
+    pub fn object(
+        &self,
+        alloc: Global,
+        states: u64,
+        times: Option<Times>,
+    ) -> Result<Value, AllocError> {
+        let (searched, composed, written) = parts_of(times);
+        match self {
+            Report::Certified { records, bytes } => {
+                let (records, bytes) = (*records, number_or_null(*bytes));
+                json!(in alloc; {"verdict": "certificate", "records": records, "bytes": bytes, "states": states, "searched_ms": searched, "composed_ms": composed, "written_ms": written})
+            }
+            Report::Violated {
+                violation,
+                labels,
+                bytes,
+            } => {
+                let (what, thread) = violation_words(*violation);
+                let (labels, bytes) = (*labels as u64, number_or_null(*bytes));
+                json!(in alloc; {"verdict": "violation", "violation": what, "thread": thread, "labels": labels, "bytes": bytes, "states": states, "searched_ms": searched, "composed_ms": composed, "written_ms": written})
+            }
         }
     }
 
@@ -98,13 +159,19 @@ impl fmt::Display for Sizes {
     fn fmt<W: fmt::Write>(&self, f: &mut fmt::Formatter<W>) -> fmt::Result {
         let states = self.states;
         writeln!(f, "states: {states}")?;
-        match self.report {
+        let written = match self.report {
             Some(Report::Certified { records, bytes }) => {
-                writeln!(f, "records: {records}\nbytes: {bytes}")
+                writeln!(f, "records: {records}")?;
+                bytes
             }
             Some(Report::Violated { labels, bytes, .. }) => {
-                writeln!(f, "labels: {labels}\nbytes: {bytes}")
+                writeln!(f, "labels: {labels}")?;
+                bytes
             }
+            None => None,
+        };
+        match written {
+            Some(bytes) => writeln!(f, "bytes: {bytes}"),
             None => Ok(()),
         }
     }

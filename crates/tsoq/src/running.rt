@@ -2,12 +2,14 @@
 
 use crate::asked::Replay;
 use crate::command::{Asked, Request, Search, request_of};
+use crate::objects::print_objects;
 use crate::page::write_page;
 use crate::parse::{Parsing, parse};
 use crate::people::{tell, tell_cause, tell_limit, tell_verdict};
 use crate::progress::{Listener, Progress};
-use crate::report::Sizes;
+use crate::report::{Sizes, limit_object};
 use crate::show::{print_run, run_of};
+use crate::survey::{Survey, run_survey};
 use crate::verify::{Found, verify};
 use std::alloc::{Alloc, Global};
 use std::env::Env;
@@ -38,7 +40,7 @@ fn replay<F: Files, O: Write, E: Write>(
     asked: &Replay<'_>,
     verbose: bool,
 ) -> Result<u8, Failure> {
-    texts.program = session.read_program(asked.program)?;
+    texts.program = session.read_variant(asked.program, &asked.variant)?;
     texts.trace = session.read(asked.trace, TRACE_BYTES + 1)?;
     let checked = checked_of(session.alloc, &texts.program)?;
     let run = run_of(
@@ -49,7 +51,11 @@ fn replay<F: Files, O: Write, E: Write>(
         asked.partial,
     )?;
     write_page(session, &checked, &texts.program, &run, asked)?;
-    print_run(session, &checked, &texts.program, &run, asked)?;
+    if asked.json {
+        print_objects(session, &checked, &run, asked)?;
+    } else {
+        print_run(session, &checked, &texts.program, &run, asked)?;
+    }
     if let (true, Replayed::Erring(trace)) = (verbose, &run) {
         session.flush()?;
         tell_cause(session, trace);
@@ -64,7 +70,7 @@ fn check<R: Threads + Wait + Sync, F: Files, O: Write, E: Write>(
     asked: &Check<'_>,
     verbose: bool,
 ) -> Result<u8, Failure> {
-    texts.program = session.read_program(asked.program)?;
+    texts.program = session.read_variant(asked.program, &asked.variant)?;
     let verdict = check_bytes(rt, session, &texts.program, asked)?;
     if verbose {
         tell_verdict(session, verdict);
@@ -72,12 +78,22 @@ fn check<R: Threads + Wait + Sync, F: Files, O: Write, E: Write>(
     Ok(verdict_status(verdict))
 }
 
+fn survey_queue<R: Threads + Wait + Sync, F: Files, O: Write, E: Write>(
+    rt: &R,
+    session: &mut Session<'_, '_, '_, F, O, E>,
+    texts: &mut Texts,
+    asked: &Survey<'_>,
+) -> Result<u8, Failure> {
+    texts.program = session.read_program(asked.asking.program)?;
+    run_survey(rt, session, &texts.program, asked)
+}
+
 fn parse_file<F: Files, O: Write, E: Write>(
     session: &mut Session<'_, '_, '_, F, O, E>,
     texts: &mut Texts,
     asked: &Parsing<'_>,
 ) -> Result<u8, Failure> {
-    texts.program = session.read_program(asked.program)?;
+    texts.program = session.read_variant(asked.program, &asked.variant)?;
     let text = parse(session.alloc, &texts.program, asked.print)?;
     session.print(text.as_str())?;
     Ok(0)
@@ -119,7 +135,13 @@ fn end<F: Files, L: Listener, O: Write, E: Write>(
     begun: Option<Duration>,
     verbose: bool,
 ) -> Result<u8, Failure> {
-    session.print_shown(&found.report)?;
+    if asked.json {
+        let times = watch.times(begun);
+        let object = found.report.object(session.alloc, watch.states(), times)?;
+        session.print_object(&object)?;
+    } else {
+        session.print_shown(&found.report)?;
+    }
     if asked.stats {
         let sizes = found.report.sizes(watch.states());
         put_stats(session, watch, sizes, begun)?;
@@ -139,9 +161,14 @@ fn end_at_limit<F: Files, L: Listener, O: Write, E: Write>(
     begun: Option<Duration>,
     verbose: bool,
 ) -> Result<u8, Failure> {
-    let status = session.report(&Failure::Limit);
+    let states = u64::from(asked.limit.count());
+    let status = if asked.json {
+        session.print_object(&limit_object(session.alloc, states)?)?;
+        Failure::Limit.status()
+    } else {
+        session.report(&Failure::Limit)
+    };
     if asked.stats {
-        let states = u64::from(asked.limit.count());
         put_stats(session, watch, Sizes::met(states), begun)?;
     }
     if verbose {
@@ -159,7 +186,7 @@ fn search<R: Threads + Wait + Sync, F: Files, L: Listener + Sync, O: Write, E: W
     verbose: bool,
 ) -> Result<u8, Failure> {
     let begun = listener.elapsed();
-    texts.program = session.read_program(asked.program)?;
+    texts.program = session.read_variant(asked.program, &asked.variant)?;
     let watch = Progress::new(listener, asked.progress);
     match verify(
         rt,
@@ -191,6 +218,7 @@ fn perform<R: Threads + Wait + Sync, F: Files, L: Listener + Sync, O: Write, E: 
         Asked::Verify(asked) => search(rt, session, texts, listener, asked, request.verbose),
         Asked::Check(asked) => check(rt, session, texts, asked, request.verbose),
         Asked::Replay(asked) => replay(session, texts, asked, request.verbose),
+        Asked::Survey(asked) => survey_queue(rt, session, texts, asked),
         Asked::Parse(asked) => parse_file(session, texts, asked),
         Asked::Explain(topic) => explain(session, *topic),
     }

@@ -3,7 +3,7 @@
 ghost use Rattle.std.specs.Prelude.{◌≤◌, IfOk, length};
 ghost use Rattle.tso_cert.specs.Trees.{record_count, tree_of};
 ghost use Rattle.tso_trace.specs.Runs.{first_fault, violation_of};
-ghost use Rattle.tsoq.specs.Reports.{IsOfLabels, IsOfRecords, IsReport};
+ghost use Rattle.tsoq.specs.Reports.{IsOfLabels, IsOfRecords, IsReport, IsTold};
 
 use crate::command::Search;
 use crate::counted::Counted;
@@ -48,54 +48,83 @@ fn finished<W: Write + Drop>(
     }
 }
 
-// Writes a certificate to this path.
-fn certified<F: Files>(
+// Writes a certificate to this path, and says how many bytes it has.
+fn write_certificate<F: Files>(
     alloc: Global,
     files: &mut F,
     path: &str,
+    table: &Table,
+    cert: &Cert,
+) -> Result<u64, Failure> {
+    let mut file = created(alloc, files, path)?;
+    match tso_cert::write(alloc, table, cert, &mut file) {
+        Ok(()) => finished(alloc, path, file),
+        Err(WriteError::Io(error)) => Err(cannot_write(alloc, path, error.kind())),
+        Err(WriteError::Memory) => Err(Failure::Memory),
+    }
+}
+
+// Writes a certificate to this path, if there is one.
+fn certified<F: Files>(
+    alloc: Global,
+    files: &mut F,
+    path: Option<&str>,
     table: &Table,
     cert: &Cert,
 ) -> Result<Report, Failure>
     requires { record_count (tree_of cert.now) ≤ 4194304 }
     ensures { IfOk result (IsOfRecords (record_count (tree_of cert.now))) }
 {
-    let mut file = created(alloc, files, path)?;
-    match tso_cert::write(alloc, table, cert, &mut file) {
-        Ok(()) => Ok(Report::Certified {
-            records: cert.len(),
-            bytes: finished(alloc, path, file)?,
-        }),
-        Err(WriteError::Io(error)) => Err(cannot_write(alloc, path, error.kind())),
-        Err(WriteError::Memory) => Err(Failure::Memory),
-    }
+    let bytes = match path {
+        Some(path) => Some(write_certificate(alloc, files, path, table, cert)?),
+        None => None,
+    };
+    Ok(Report::Certified {
+        records: cert.len(),
+        bytes,
+    })
 }
 
-// Writes a trace to this path.
-fn violated<F: Files>(
+// Writes a trace to this path, and says how many bytes it has.
+fn write_trace<F: Files>(
     alloc: Global,
     files: &mut F,
     path: &str,
     trace: &Trace,
-) -> Result<Report, Failure>
-    ensures { IfOk result (IsOfLabels (violation_of (first_fault trace.now.labels)) (length trace.now.labels)) }
-{
+) -> Result<u64, Failure> {
     let mut file = created(alloc, files, path)?;
     match trace.print(&mut file) {
-        Ok(()) => Ok(Report::Violated {
-            violation: trace.violation(),
-            labels: trace.labels.len(),
-            bytes: finished(alloc, path, file)?,
-        }),
+        Ok(()) => finished(alloc, path, file),
         Err(error) => Err(cannot_write(alloc, path, error.kind())),
     }
 }
 
-// Writes a certificate to this path. What it takes in memory is left to the system, which has it back when the process ends, at
+// Writes a trace to this path, if there is one.
+fn violated<F: Files>(
+    alloc: Global,
+    files: &mut F,
+    path: Option<&str>,
+    trace: &Trace,
+) -> Result<Report, Failure>
+    ensures { IfOk result (IsOfLabels (violation_of (first_fault trace.now.labels)) (length trace.now.labels)) }
+{
+    let bytes = match path {
+        Some(path) => Some(write_trace(alloc, files, path, trace)?),
+        None => None,
+    };
+    Ok(Report::Violated {
+        violation: trace.violation(),
+        labels: trace.labels.len(),
+        bytes,
+    })
+}
+
+// Writes a certificate to this path, if there is one. What it takes in memory is left to the system, which has it back when the process ends, at
 // once: to let go of each record would take a tenth of the time of a search.
 fn certified_last<F: Files>(
     alloc: Global,
     files: &mut F,
-    path: &str,
+    path: Option<&str>,
     table: &Table,
     cert: Cert,
 ) -> Result<Report, Failure>
@@ -107,7 +136,7 @@ fn certified_last<F: Files>(
     report
 }
 
-/// What a search found, and the trace that was written of it, if it is one.
+/// What a search found, and the trace of it, if it is one.
 #[derive(Debug, Drop)]
 pub struct Found {
     pub report: Report,
@@ -115,7 +144,7 @@ pub struct Found {
 }
 
 /// Searches the runs of the client of a program text, and writes the certificate that all are good, or the trace of one that
-/// is not.
+/// is not, where there is a path for it.
 ///
 /// Errors: `Program` with the first fault of the text; `Limit` where more states can be reached than the search may meet;
 /// `CannotWrite` where the file failed; `Memory`.
@@ -127,7 +156,8 @@ pub fn verify<R: Threads + Wait + Sync, F: Files, L: Listener + Sync>(
     search: &Search<'_>,
     watch: &Progress<'_, L>,
 ) -> Result<Found, Failure>
-    ensures { IfOk result (λ found. IsReport program.now found.report) }
+    ensures report { IfOk result (λ found. IsReport program.now found.report) }
+    ensures trace { IfOk result (λ found. IsTold found.report found.trace) }
 {
     let checked = checked_of(alloc, program)?;
     let outcome = explore(

@@ -3,7 +3,8 @@
 
 use std::io;
 use std::process::ExitCode;
-use tso_front::{HostFiles, run_check_process};
+use tso_front::HostFiles;
+use tso_survey::run_check_process;
 
 fn main(rt: HostRuntime) -> ExitCode {
     let mut files = HostFiles { rt: &rt };

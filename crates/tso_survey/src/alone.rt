@@ -1,25 +1,31 @@
 //! The program that decides certificates and does nothing else.
 
-use crate::checking::{Check, check_arguments, check_bytes, check_of, verdict_status};
-use crate::failure::Failure;
-use crate::files::Files;
-use crate::session::{Session, reported};
-use crate::words::{VERSION, ended_words, started};
+use crate::collecting::Collector;
+use crate::surveying::survey;
+use crate::words::{asking_of, collect_arguments};
 use clap::{ArgMatches, Command};
 use std::alloc::{Alloc, AllocError, Global};
 use std::env::Env;
 use std::io::Write;
 use std::sync::Wait;
 use std::thread::Threads;
+use tso_front::{
+    Check, Failure, Files, Session, VERSION, cert_argument, check_arguments, check_bytes, check_of,
+    ended_words, reported, started, verdict_status,
+};
 
 const HELP: &str =
     "Reads FILE, a program text, and CERT, a certificate, and trusts neither. Writes no file. Its lines and its status
-are those of `tsoq check`; it has nothing else of that program.
+are those of `tsoq check`. With --collect DIR in the place of CERT it decides all that a survey of FILE has left in
+that folder; its lines and its status are those of `tsoq survey --collect`, and --before is then how many pushes a
+prologue has at most. It has nothing else of that program.
 
 Status:
   0   every run is good            accepted
+  1   a run is not good            violation: CALLS, from a folder
   2   FILE is refused              E04 line 7
   3   CERT is refused              rejected K01, or rejected K08 at record 2
+  4   nothing follows              undecided: .., from a folder
   5   out of memory
   6   a file failed                cannot read PATH
   64  the words are none of these";
@@ -29,7 +35,8 @@ fn command<'a>(alloc: Global) -> Result<Command<'a>, AllocError> {
     let command = Command::new(alloc, "tsoq-check")
         .version(VERSION)
         .after_help(HELP);
-    check_arguments(alloc, command)
+    let cert = cert_argument(alloc).required_unless_present("collect")?;
+    collect_arguments(alloc, check_arguments(alloc, command, cert)?)
 }
 
 // Decides the certificate that the words name, and gives the status.
@@ -38,9 +45,26 @@ fn answer<R: Threads + Wait + Sync, F: Files, O: Write, E: Write>(
     session: &mut Session<'_, '_, '_, F, O, E>,
     asked: &Check<'_>,
 ) -> Result<u8, Failure> {
-    let program = session.read_program(asked.program)?;
+    let program = session.read_variant(asked.program, &asked.variant)?;
     let verdict = check_bytes(rt, session, &program, asked)?;
     Ok(verdict_status(verdict))
+}
+
+// Decides what a folder has of the clients that the words ask about, and gives the status.
+fn collect<R: Threads + Wait + Sync, F: Files, O: Write, E: Write>(
+    rt: &R,
+    session: &mut Session<'_, '_, '_, F, O, E>,
+    matches: &ArgMatches<'_>,
+    asked: &Check<'_>,
+    folder: &str,
+) -> Result<u8, Failure> {
+    let asking = asking_of(session.alloc, matches)?;
+    let base = session.read_program(asked.program)?;
+    let collector = Collector {
+        folder,
+        workers: asked.workers,
+    };
+    survey(rt, &collector, session, &base, &asking)
 }
 
 // Does what the words ask for, and gives the status.
@@ -53,7 +77,10 @@ fn perform<R: Threads + Wait + Sync, F: Files, O: Write, E: Write>(
     match command(alloc)?.try_get_matches_from(words) {
         Ok(matches) => {
             let asked = check_of(alloc, &matches)?;
-            answer(rt, session, &asked)
+            match matches.get_str("collect") {
+                Some(folder) => collect(rt, session, &matches, &asked, folder),
+                None => answer(rt, session, &asked),
+            }
         }
         Err(error) => {
             let text = ended_words(alloc, &error)?;

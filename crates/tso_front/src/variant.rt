@@ -1,0 +1,220 @@
+//! Other calls than those that a program text has.
+
+use crate::failure::{Failure, misused};
+use clap::{Arg, ArgAction, ArgMatches, Command};
+use std::alloc::{AllocError, Global};
+use tso_check::{CheckError, checked_of};
+
+const CALLS: &str =
+    "--client has the calls of one to four threads, with | between two threads; --before has those of the prologue, or none.
+Each has one to four calls, push V or pop, with a comma between two, and all together have twelve at most.
+";
+
+const MODE: &str = "--mode is strict or weak
+";
+
+/// What stands in place of the threads, of the prologue and of the mode of a program text.
+#[derive(Clone, Copy, Debug)]
+pub struct Variant<'a> {
+    /// The calls of the threads, with `|` between two threads.
+    pub client: Option<&'a str>,
+    /// The calls of the prologue; blank where there is to be none.
+    pub before: Option<&'a str>,
+    /// `strict` or `weak`.
+    pub mode: Option<&'a str>,
+}
+
+/// Which part of a text a line is, as far as another can stand in its place.
+#[derive(Clone, Copy, Debug, PartialEq, Eq)]
+enum Part {
+    Mode,
+    Before,
+    Thread,
+    Other,
+}
+
+/// A text on its way: what stands before all calls, and the calls that stay.
+#[derive(Drop)]
+struct Draft {
+    head: Vec<u8>,
+    // How many lines the head has.
+    head_lines: u32,
+    calls: Vec<u8>,
+}
+
+fn is_word_byte(byte: u8) -> bool {
+    byte.is_ascii_alphanumeric() || byte == b'_'
+}
+
+// Whether a line begins with this word.
+fn begins(line: &[u8], word: &[u8]) -> bool {
+    let line = line.trim_ascii_start();
+    line.starts_with(word) && !line.get(word.len()).copied().is_some_and(is_word_byte)
+}
+
+fn part_of(line: &[u8]) -> Part {
+    if begins(line, b".mode") {
+        Part::Mode
+    } else if begins(line, b".before") {
+        Part::Before
+    } else if begins(line, b".thread") {
+        Part::Thread
+    } else {
+        Part::Other
+    }
+}
+
+// Puts a line of two parts at the end.
+fn put_line(text: &mut Vec<u8>, word: &[u8], rest: &[u8]) -> Result<(), AllocError> {
+    text.extend_from_slice(word)?;
+    text.extend_from_slice(rest)?;
+    text.push(b'\n')?;
+    Ok(())
+}
+
+impl Draft {
+    // Puts a line of two parts at the end of the head.
+    fn put_head(&mut self, word: &[u8], rest: &[u8]) -> Result<(), AllocError> {
+        put_line(&mut self.head, word, rest)?;
+        self.head_lines = self.head_lines.saturating_add(1);
+        Ok(())
+    }
+}
+
+// Whether words can stand for calls: neither a comment nor a second line is hidden in them.
+fn are_calls(words: &str) -> bool {
+    words.as_bytes().iter().all(
+        |byte| matches!(*byte, b' ' | b',' | b'-' | b'0'..=b'9' | b'a'..=b'z'),
+    )
+}
+
+/// The options that put other calls in place of a text's.
+///
+/// Errors: where a growth was refused.
+pub fn variant_arguments<'a>(
+    alloc: Global,
+    command: Command<'a>,
+) -> Result<Command<'a>, AllocError> {
+    let client = Arg::new(alloc, "client")
+        .long("client")
+        .value_name("CALLS")
+        .action(ArgAction::Set)
+        .help("the calls of the threads, in place of the text's: push 1, push 2 | pop");
+    let before = Arg::new(alloc, "before")
+        .long("before")
+        .value_name("CALLS")
+        .action(ArgAction::Set)
+        .help("the calls of the prologue, in place of the text's; none where they are blank");
+    let mode = Arg::new(alloc, "mode")
+        .long("mode")
+        .value_name("MODE")
+        .action(ArgAction::Set)
+        .help("strict or weak, in place of what the text says");
+    command.arg(client)?.arg(before)?.arg(mode)
+}
+
+/// What the words put in place of a text's calls.
+pub fn variant_of<'a>(matches: &ArgMatches<'a>) -> Variant<'a> {
+    Variant {
+        client: matches.get_str("client"),
+        before: matches.get_str("before"),
+        mode: matches.get_str("mode"),
+    }
+}
+
+impl<'a> Variant<'a> {
+    /// The text as it stands.
+    pub const PLAIN: Variant<'static> = Variant {
+        client: None,
+        before: None,
+        mode: None,
+    };
+
+    // Whether nothing stands in place of anything.
+    fn is_plain(&self) -> bool {
+        self.client.is_none() && self.before.is_none() && self.mode.is_none()
+    }
+
+    // Whether another stands in place of this part.
+    fn replaces(&self, part: Part) -> bool {
+        match part {
+            Part::Mode => self.mode.is_some(),
+            Part::Before => self.before.is_some(),
+            Part::Thread => self.client.is_some(),
+            Part::Other => false,
+        }
+    }
+
+    // Takes over a line of the text, or what stands in its place.
+    fn put(&self, draft: &mut Draft, line: &[u8]) -> Result<(), AllocError> {
+        let part = part_of(line);
+        match (part, self.mode) {
+            (Part::Mode, Some(mode)) => draft.put_head(b".mode ", mode.as_bytes()),
+            (Part::Mode | Part::Other, _) => draft.put_head(b"", line),
+            (Part::Before | Part::Thread, _) if self.replaces(part) => Ok(()),
+            (Part::Before | Part::Thread, _) => put_line(&mut draft.calls, b"", line),
+        }
+    }
+
+    // The text without what is replaced.
+    fn draft_of(&self, alloc: Global, text: &[u8]) -> Result<Draft, AllocError> {
+        let mut draft = Draft {
+            head: Vec::new(alloc),
+            head_lines: 0,
+            calls: Vec::new(alloc),
+        };
+        let text = text.strip_suffix(b"\n").unwrap_or(text);
+        for line in text.split(|byte| *byte == b'\n') {
+            self.put(&mut draft, line)?;
+        }
+        Ok(draft)
+    }
+
+    // Puts the prologue behind the head, the calls that stay behind that, and then the threads.
+    fn completed(&self, draft: Draft) -> Result<Vec<u8>, AllocError> {
+        let mut text = draft.head;
+        let before = self.before.unwrap_or("");
+        if !before.trim().is_empty() {
+            put_line(&mut text, b".before ", before.as_bytes())?;
+        }
+        text.extend_from_slice(&draft.calls)?;
+        if let Some(client) = self.client {
+            for thread in client.split('|') {
+                put_line(&mut text, b".thread ", thread.as_bytes())?;
+            }
+        }
+        Ok(text)
+    }
+
+    // Refuses words that can't stand in a text.
+    fn refused(&self, alloc: Global) -> Result<(), Failure> {
+        let client = self.client.unwrap_or("");
+        if !client.split('|').all(are_calls) || !are_calls(self.before.unwrap_or("")) {
+            return Err(misused(alloc, CALLS));
+        }
+        match self.mode {
+            None | Some("strict" | "weak") => Ok(()),
+            Some(_) => Err(misused(alloc, MODE)),
+        }
+    }
+
+    /// The text with other calls in place of its own. What stands before the calls keeps its lines.
+    ///
+    /// Errors: `Usage` where the words are no calls, or not those of a program; `Memory`.
+    pub fn applied(&self, alloc: Global, text: Vec<u8>) -> Result<Vec<u8>, Failure> {
+        if self.is_plain() {
+            return Ok(text);
+        }
+        self.refused(alloc)?;
+        let draft = self.draft_of(alloc, &text)?;
+        let head_lines = draft.head_lines;
+        let text = self.completed(draft)?;
+        match checked_of(alloc, &text) {
+            Err(CheckError::Program(fault)) if fault.line > head_lines => {
+                Err(misused(alloc, CALLS))
+            }
+            Err(CheckError::Memory) => Err(Failure::Memory),
+            Err(CheckError::Program(_)) | Ok(_) => Ok(text),
+        }
+    }
+}

@@ -1,0 +1,112 @@
+//! Clients and their texts.
+
+use crate::calls::{Calls, Numbering};
+use crate::plan::Plan;
+use crate::words::{Asking, Part};
+use std::alloc::Global;
+use tso_front::Failure;
+
+/// Clients, and the texts that they are the clients of.
+#[derive(Debug, Drop)]
+pub struct Cases {
+    pub calls: Vec<Calls>,
+    pub texts: Vec<Vec<u8>>,
+}
+
+/// The text with these calls in place of its own.
+///
+/// Errors: `Usage` where they are no calls; `Memory`.
+pub fn text_of(
+    alloc: Global,
+    base: &[u8],
+    asking: &Asking<'_>,
+    calls: &Calls,
+) -> Result<Vec<u8>, Failure> {
+    let text = Vec::from_slice(alloc, base)?;
+    calls.variant(asking.mode).applied(alloc, text)
+}
+
+impl Cases {
+    /// No client.
+    pub fn new(alloc: Global) -> Cases {
+        Cases {
+            calls: Vec::new(alloc),
+            texts: Vec::new(alloc),
+        }
+    }
+
+    /// Puts a client at the end.
+    ///
+    /// Errors: those of `text_of`.
+    pub fn put(
+        &mut self,
+        alloc: Global,
+        base: &[u8],
+        asking: &Asking<'_>,
+        calls: Calls,
+    ) -> Result<(), Failure> {
+        self.texts.push(text_of(alloc, base, asking, &calls)?)?;
+        self.calls.push(calls)?;
+        Ok(())
+    }
+
+    /// Those that a plan searches, and of these the ones of a part.
+    ///
+    /// Errors: those of `text_of`.
+    pub fn planned(
+        alloc: Global,
+        base: &[u8],
+        asking: &Asking<'_>,
+        plan: &Plan,
+    ) -> Result<Cases, Failure> {
+        let mut cases = Cases::new(alloc);
+        for (number, asked) in plan.largest.iter().enumerate() {
+            if is_taken(asking.part, number) {
+                let calls = asked.calls(alloc, &plan.words, Numbering::Larger)?;
+                cases.put(alloc, base, asking, calls)?;
+            }
+        }
+        Ok(cases)
+    }
+
+    /// Those of a list, a line each.
+    ///
+    /// Errors: `Usage` where a line is no client; `Memory`.
+    pub fn listed(
+        alloc: Global,
+        base: &[u8],
+        asking: &Asking<'_>,
+        list: &str,
+    ) -> Result<Cases, Failure> {
+        let mut cases = Cases::new(alloc);
+        for (number, line) in list.lines().enumerate() {
+            if line.trim().is_empty() {
+                continue;
+            }
+            let calls = Calls::of_line(alloc, line)?;
+            match cases.put(alloc, base, asking, calls) {
+                Err(Failure::Usage(_)) => return Err(no_client(alloc, number.saturating_add(1))),
+                put => put?,
+            }
+        }
+        Ok(cases)
+    }
+}
+
+// That a line of a list is no client.
+fn no_client(alloc: Global, number: usize) -> Failure {
+    let text = format!(in alloc;
+        "line {number} of LIST is no client, as `push 1, push 2 | pop` is, or `before push 7: pop | pop`\n"
+    );
+    match text {
+        Ok(text) => Failure::Usage(text),
+        Err(_) => Failure::Memory,
+    }
+}
+
+fn is_taken(part: Option<Part>, number: usize) -> bool {
+    match part {
+        Some(part) => part.has(number),
+        None => true,
+    }
+}

@@ -1,0 +1,98 @@
+//! What is said of one client.
+
+use crate::accepted::Accepted;
+use crate::calls::Calls;
+use serde_json::{Value, json};
+use std::alloc::{AllocError, Global};
+use std::fmt;
+use tso_check::Verdict;
+use tso_front::number_or_null;
+use tso_trace::{TraceFault, Violation};
+
+/// What is said of one client of a survey.
+#[derive(Debug, Drop)]
+pub enum Decided {
+    /// All its runs are good, by a certificate of so many records, if they were counted.
+    Accepted {
+        client: Accepted,
+        records: Option<u64>,
+    },
+    /// One is not, by a trace of so many labels.
+    Violated {
+        violation: Violation,
+        labels: usize,
+    },
+    /// More states can be reached than the search may meet.
+    Limit,
+    /// There is neither a certificate nor a trace of it.
+    Missing,
+    /// Its certificate is refused.
+    Rejected(Verdict),
+    /// Its trace is refused.
+    Untraced(TraceFault),
+}
+
+// A violation by its words, and the thread of a fault.
+fn violation_words(violation: Violation) -> (&'static str, Value) {
+    match violation {
+        Violation::Fault(thread) => ("fault", Value::from(thread as u64)),
+        Violation::NoOrder => ("no order", Value::Null),
+    }
+}
+
+impl Decided {
+    /// What is said of a client with these calls, as an object of JSON.
+    ///
+    /// Errors: where a growth was refused.
+    pub fn object(&self, alloc: Global, calls: &Calls) -> Result<Value, AllocError> {
+        let (before, client) = (calls.before.as_str(), calls.client.as_str());
+        match self {
+            Decided::Accepted { records, .. } => {
+                let records = number_or_null(*records);
+                json!(in alloc; {"client": client, "before": before, "verdict": "accepted", "records": records})
+            }
+            Decided::Violated { violation, labels } => {
+                let (what, thread) = violation_words(*violation);
+                let labels = *labels as u64;
+                json!(in alloc; {"client": client, "before": before, "verdict": "violation", "violation": what, "thread": thread, "labels": labels})
+            }
+            Decided::Limit => {
+                json!(in alloc; {"client": client, "before": before, "verdict": "limit reached"})
+            }
+            Decided::Missing => {
+                json!(in alloc; {"client": client, "before": before, "verdict": "missing"})
+            }
+            Decided::Rejected(_) | Decided::Untraced(_) => {
+                let why = self.to_string(alloc)?;
+                json!(in alloc; {"client": client, "before": before, "verdict": "refused", "why": why})
+            }
+        }
+    }
+
+    /// Whether one of the client's runs is not good.
+    pub fn is_violated(&self) -> bool {
+        matches!(self, Decided::Violated { .. })
+    }
+}
+
+/// As the line of a client says it, behind its calls.
+impl fmt::Display for Decided {
+    fn fmt<W: fmt::Write>(&self, f: &mut fmt::Formatter<W>) -> fmt::Result {
+        match self {
+            Decided::Accepted { records, .. } => match records {
+                Some(records) => write!(f, "certificate: {records} records"),
+                None => write!(f, "accepted"),
+            },
+            Decided::Violated { violation, labels } => match violation {
+                Violation::Fault(thread) => {
+                    write!(f, "violation: fault in thread {thread}, {labels} labels")
+                }
+                Violation::NoOrder => write!(f, "violation: no order, {labels} labels"),
+            },
+            Decided::Limit => write!(f, "limit reached"),
+            Decided::Missing => write!(f, "missing"),
+            Decided::Rejected(verdict) => write!(f, "{verdict}"),
+            Decided::Untraced(fault) => write!(f, "{fault}"),
+        }
+    }
+}

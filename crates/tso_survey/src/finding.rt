@@ -1,0 +1,33 @@
+//! What is found of clients.
+
+ghost use Rattle.std.specs.Thread.{IsSync};
+
+use crate::calls::Calls;
+use crate::decided::Decided;
+use std::io::Write;
+use std::sync::Wait;
+use std::thread::Threads;
+use tso_front::{Failure, Files, Session};
+
+/// What is found of a client, and the bytes of its certificate or trace, if they are to be written.
+#[derive(Debug, Drop)]
+pub struct Finding {
+    pub decided: Decided,
+    pub bytes: Option<Vec<u8>>,
+}
+
+/// Who decides clients: by a search, or by what lies in a folder.
+pub trait Finder {
+    /// How many clients are decided before their lines are printed.
+    fn width(&self) -> usize;
+
+    /// What is found of each of these clients, in their order.
+    fn find<R: Threads + Wait + Sync, F: Files, O: Write, E: Write>(
+        &self,
+        rt: &R,
+        session: &mut Session<'_, '_, '_, F, O, E>,
+        calls: &[Calls],
+        texts: &[Vec<u8>],
+    ) -> Result<Vec<Finding>, Failure>
+        requires { IsSync R.row };
+}

@@ -1,0 +1,425 @@
+//! The survey of a queue: all its clients up to a size.
+
+ghost use Rattle.std.specs.Prelude.{All, IfOk, IsTrue};
+ghost use Rattle.tso_check.specs.Headline.{IsVerified};
+
+use crate::accepted::{Accepted, are_all_accepted};
+use crate::calls::{Calls, Numbering};
+use crate::cases::{Cases, text_of};
+use crate::finding::{Finder, Finding};
+use crate::method::Words;
+use crate::plan::{Asked, Plan, count_of};
+use crate::tally::{Tally, Violated};
+use crate::words::Asking;
+use serde_json::json;
+use std::alloc::{AllocError, Global};
+use std::io::Write;
+use std::sync::Wait;
+use std::thread::Threads;
+use tso_check::checked_of;
+use tso_front::{Failure, Files, Session, misused};
+
+/// How many clients a survey asks about at the most.
+const MOST_CLIENTS: usize = 100_000;
+
+// Whether the survey is over.
+fn is_over(tally: &Tally, asking: &Asking<'_>) -> bool {
+    tally.violated.is_some() && !asking.all
+}
+
+// Prints the lines of these clients, one after the other, until the survey is over.
+fn put_all<F: Files, O: Write, E: Write>(
+    session: &mut Session<'_, '_, '_, F, O, E>,
+    tally: &mut Tally,
+    asking: &Asking<'_>,
+    calls: &[Calls],
+    texts: &[Vec<u8>],
+    findings: Vec<Finding>,
+) -> Result<(), Failure> {
+    for (number, finding) in findings.into_iter().enumerate() {
+        if let (Some(calls), Some(text)) = (calls.get(number), texts.get(number)) {
+            tally.put(session, asking.out, calls, text, finding)?;
+        }
+        if is_over(tally, asking) {
+            break;
+        }
+    }
+    Ok(())
+}
+
+// Says how far the survey has come, if that is asked for.
+fn note_progress<F: Files, O: Write, E: Write>(
+    session: &mut Session<'_, '_, '_, F, O, E>,
+    tally: &Tally,
+    asking: &Asking<'_>,
+    cases: &Cases,
+) -> Result<(), Failure> {
+    if asking.progress {
+        let (count, all) = (tally.count, cases.calls.len());
+        let line = format!(in session.alloc; "{count} of {all} clients\n")?;
+        session.note(line.as_bytes());
+    }
+    Ok(())
+}
+
+// Decides the clients, some at a time, until the survey is over.
+fn decide_all<R: Threads + Wait + Sync, D: Finder, F: Files, O: Write, E: Write>(
+    rt: &R,
+    finder: &D,
+    session: &mut Session<'_, '_, '_, F, O, E>,
+    tally: &mut Tally,
+    asking: &Asking<'_>,
+    cases: &Cases,
+) -> Result<(), Failure> {
+    let width = finder.width().max(1);
+    for (calls, texts) in cases.calls.chunks(width).zip(cases.texts.chunks(width)) {
+        let findings = finder.find(rt, session, calls, texts)?;
+        put_all(session, tally, asking, calls, texts, findings)?;
+        note_progress(session, tally, asking, cases)?;
+        if is_over(tally, asking) {
+            break;
+        }
+    }
+    Ok(())
+}
+
+// Decides one client.
+fn decide_one<R: Threads + Wait + Sync, D: Finder, F: Files, O: Write, E: Write>(
+    rt: &R,
+    finder: &D,
+    session: &mut Session<'_, '_, '_, F, O, E>,
+    tally: &mut Tally,
+    base: &[u8],
+    asking: &Asking<'_>,
+    calls: Calls,
+) -> Result<(), Failure> {
+    let mut cases = Cases::new(session.alloc);
+    cases.put(session.alloc, base, asking, calls)?;
+    decide_all(rt, finder, session, tally, asking, &cases)
+}
+
+// The clients that are smaller than this, but for the largest that were decided, the smallest first.
+fn smaller_than(
+    alloc: Global,
+    plan: &Plan,
+    decided: usize,
+    size: usize,
+) -> Result<Vec<&Asked>, AllocError> {
+    let mut smaller = Vec::new(alloc);
+    for asked in plan.smaller.iter().chain(plan.largest.iter().skip(decided)) {
+        if asked.size() < size {
+            smaller.push(asked)?;
+        }
+    }
+    smaller.sort_by_key(|asked| (asked.size(), asked.threads()))?;
+    Ok(smaller)
+}
+
+// Decides these clients up to one that has a run that is not good.
+fn decide_smaller<R: Threads + Wait + Sync, D: Finder, F: Files, O: Write, E: Write>(
+    rt: &R,
+    finder: &D,
+    session: &mut Session<'_, '_, '_, F, O, E>,
+    tally: &mut Tally,
+    base: &[u8],
+    asking: &Asking<'_>,
+    words: &Words,
+    smaller: &[&Asked],
+) -> Result<(), Failure> {
+    for asked in smaller {
+        let calls = asked.calls(session.alloc, words, Numbering::Taken)?;
+        decide_one(rt, finder, session, tally, base, asking, calls)?;
+        if tally.violated.is_some() {
+            break;
+        }
+    }
+    Ok(())
+}
+
+// A smaller client by one that covers it, if that was accepted.
+fn served(
+    alloc: Global,
+    base: &[u8],
+    asking: &Asking<'_>,
+    plan: &Plan,
+    accepted: &[Accepted],
+    smaller: &Asked,
+) -> Result<Option<(Vec<u8>, Accepted)>, Failure> {
+    let calls = smaller.calls(alloc, &plan.words, Numbering::Larger)?;
+    let text = text_of(alloc, base, asking, &calls)?;
+    let checked = checked_of(alloc, &text)?;
+    let Some(number) = plan.larger(alloc, smaller)? else {
+        return Ok(None);
+    };
+    let Some(larger) = accepted.get(number) else {
+        return Ok(None);
+    };
+    let copy = Vec::from_slice(alloc, &text)?;
+    match larger.covered(copy, checked) {
+        Some(accepted) => Ok(Some((text, accepted))),
+        None => Ok(None),
+    }
+}
+
+// Whether the clients that were accepted answer for all that the survey asks about, of which the texts of the smaller ones are put
+// behind those of the largest. It is true only where each run of each of these texts is good.
+fn answers_for_all(
+    alloc: Global,
+    base: &[u8],
+    asking: &Asking<'_>,
+    plan: &Plan,
+    texts: &mut Vec<Vec<u8>>,
+    accepted: &mut Vec<Accepted>,
+) -> Result<bool, Failure>
+    ensures { IfOk result (λ all. IsTrue all → All (λ text. ∥ IsVerified text.items ∥₁) texts.new.items) }
+{
+    for smaller in plan.smaller.iter() {
+        match served(alloc, base, asking, plan, accepted, smaller)? {
+            Some((text, client)) => {
+                texts.push(text)?;
+                accepted.push(client)?;
+            }
+            None => return Ok(false),
+        }
+    }
+    Ok(are_all_accepted(accepted, texts))
+}
+
+// Says of how many clients nothing follows, and gives the status.
+fn put_undecided<F: Files, O: Write, E: Write>(
+    session: &mut Session<'_, '_, '_, F, O, E>,
+    tally: &mut Tally,
+) -> Result<u8, Failure> {
+    let alloc = session.alloc;
+    let count = tally.count;
+    let (limits, missing, refused) = (tally.limits, tally.missing, tally.refused);
+    let line = format!(in alloc;
+        "undecided: of {count} clients {limits} at the limit, {missing} missing, {refused} refused\n"
+    )?;
+    let (count, limits) = (count as u64, limits as u64);
+    let (gone, faulty) = (missing as u64, refused as u64);
+    let object =
+        json!(in alloc; {"verdict": "undecided", "clients": count, "limits": limits, "missing": gone, "refused": faulty})?;
+    tally.say(session, line.as_str(), &object)?;
+    Ok(if refused > 0 { 3 } else { 4 })
+}
+
+// Says which client has a run that is not good, and gives the status.
+fn put_violated<F: Files, O: Write, E: Write>(
+    session: &mut Session<'_, '_, '_, F, O, E>,
+    tally: &mut Tally,
+    violated: &Violated,
+) -> Result<u8, Failure> {
+    let calls = violated.calls.as_str();
+    let line = format!(in session.alloc; "violation: {calls}\n")?;
+    let object = json!(in session.alloc; {"verdict": "violation", "smallest": calls})?;
+    tally.say(session, line.as_str(), &object)?;
+    Ok(1)
+}
+
+// Says that each client of a list or of a part was accepted, and gives the status.
+fn put_accepted<F: Files, O: Write, E: Write>(
+    session: &mut Session<'_, '_, '_, F, O, E>,
+    tally: &mut Tally,
+    of: usize,
+) -> Result<u8, Failure> {
+    let count = tally.count;
+    let s = if count == 1 { "" } else { "s" };
+    let line = if count == of {
+        format!(in session.alloc; "accepted: {count} client{s}\n")?
+    } else {
+        format!(in session.alloc; "accepted: {count} of the {of} clients that are searched\n")?
+    };
+    let (count, of) = (count as u64, of as u64);
+    let object = json!(in session.alloc; {"verdict": "accepted", "searched": count, "of": of})?;
+    tally.say(session, line.as_str(), &object)?;
+    Ok(0)
+}
+
+// Ends a survey of some clients: those of a list, or a part of those that are searched, of which there are so many.
+fn end_some<F: Files, O: Write, E: Write>(
+    session: &mut Session<'_, '_, '_, F, O, E>,
+    tally: &mut Tally,
+    texts: &[Vec<u8>],
+    of: usize,
+) -> Result<u8, Failure> {
+    if let Some(violated) = tally.violated.take() {
+        return put_violated(session, tally, &violated);
+    }
+    if are_all_accepted(&tally.accepted, texts) {
+        put_accepted(session, tally, of)
+    } else {
+        put_undecided(session, tally)
+    }
+}
+
+// Ends a survey of all clients within the bounds in which one has a run that is not good: the smaller clients are decided too.
+fn end_violated<R: Threads + Wait + Sync, D: Finder, F: Files, O: Write, E: Write>(
+    rt: &R,
+    finder: &D,
+    session: &mut Session<'_, '_, '_, F, O, E>,
+    tally: &mut Tally,
+    base: &[u8],
+    asking: &Asking<'_>,
+    plan: &Plan,
+    violated: Violated,
+) -> Result<u8, Failure> {
+    let smaller = smaller_than(session.alloc, plan, tally.count, violated.size)?;
+    decide_smaller(
+        rt,
+        finder,
+        session,
+        tally,
+        base,
+        asking,
+        &plan.words,
+        &smaller,
+    )?;
+    let smallest = match tally.violated.take() {
+        Some(smaller) => smaller,
+        None => violated,
+    };
+    put_violated(session, tally, &smallest)
+}
+
+// Ends a survey of all clients within the bounds.
+fn end_whole<R: Threads + Wait + Sync, D: Finder, F: Files, O: Write, E: Write>(
+    rt: &R,
+    finder: &D,
+    session: &mut Session<'_, '_, '_, F, O, E>,
+    tally: &mut Tally,
+    base: &[u8],
+    asking: &Asking<'_>,
+    plan: &Plan,
+    cases: Cases,
+) -> Result<u8, Failure> {
+    let alloc = session.alloc;
+    if let Some(violated) = tally.violated.take() {
+        return end_violated(rt, finder, session, tally, base, asking, plan, violated);
+    }
+    let mut texts = cases.texts;
+    let clean = tally.is_clean();
+    let accepted = &mut tally.accepted;
+    if !clean || !answers_for_all(alloc, base, asking, plan, &mut texts, accepted)? {
+        return put_undecided(session, tally);
+    }
+    let (bounds, count) = (asking.bounds, tally.count);
+    let line = format!(in alloc; "accepted: every client of {bounds}, {count} searched\n")?;
+    let object = bounds.object(alloc, count)?;
+    tally.say(session, line.as_str(), &object)?;
+    Ok(0)
+}
+
+// Writes the lines of a survey into its folder, if it has one.
+fn write_index<F: Files, O: Write, E: Write>(
+    session: &mut Session<'_, '_, '_, F, O, E>,
+    tally: &Tally,
+    asking: &Asking<'_>,
+) -> Result<(), Failure> {
+    let alloc = session.alloc;
+    let Some(folder) = asking.out else {
+        return Ok(());
+    };
+    let path = match asking.part {
+        None => format!(in alloc; "{folder}/index")?,
+        Some(part) => format!(in alloc; "{folder}/index-{part}")?,
+    };
+    session.write(path.as_str(), &tally.lines)
+}
+
+// The clients of a list.
+fn survey_list<R: Threads + Wait + Sync, D: Finder, F: Files, O: Write, E: Write>(
+    rt: &R,
+    finder: &D,
+    session: &mut Session<'_, '_, '_, F, O, E>,
+    tally: &mut Tally,
+    base: &[u8],
+    asking: &Asking<'_>,
+    list: &str,
+) -> Result<u8, Failure> {
+    let alloc = session.alloc;
+    let bytes = session.read(list, usize::MAX)?;
+    let Ok(list) = std::str::from_utf8(&bytes) else {
+        return Err(misused(alloc, "the list of clients is not UTF-8\n"));
+    };
+    let cases = Cases::listed(alloc, base, asking, list)?;
+    decide_all(rt, finder, session, tally, asking, &cases)?;
+    let count = cases.texts.len();
+    end_some(session, tally, &cases.texts, count)
+}
+
+// The clients within the bounds.
+fn survey_bounds<R: Threads + Wait + Sync, D: Finder, F: Files, O: Write, E: Write>(
+    rt: &R,
+    finder: &D,
+    session: &mut Session<'_, '_, '_, F, O, E>,
+    tally: &mut Tally,
+    base: &[u8],
+    asking: &Asking<'_>,
+) -> Result<u8, Failure> {
+    let alloc = session.alloc;
+    let plan = plan_of(alloc, asking)?;
+    let cases = Cases::planned(alloc, base, asking, &plan)?;
+    decide_all(rt, finder, session, tally, asking, &cases)?;
+    if asking.part.is_some() {
+        let count = plan.largest.len();
+        return end_some(session, tally, &cases.texts, count);
+    }
+    end_whole(rt, finder, session, tally, base, asking, &plan, cases)
+}
+
+// The clients within the bounds, if they are not too many.
+fn plan_of(alloc: Global, asking: &Asking<'_>) -> Result<Plan, Failure> {
+    let bounds = asking.bounds;
+    let count = count_of(alloc, &bounds)?;
+    if count > MOST_CLIENTS {
+        let text = format!(in alloc;
+            "there are {count} clients of {bounds}, and a survey asks about {MOST_CLIENTS} at most\n"
+        )?;
+        return Err(misused(alloc, text.as_str()));
+    }
+    Ok(Plan::new(alloc, &bounds)?)
+}
+
+/// Prints the clients that a survey would search, a line each.
+///
+/// Errors: `Usage` where there are too many; `CannotPrint`; `Memory`.
+pub fn list<F: Files, O: Write, E: Write>(
+    session: &mut Session<'_, '_, '_, F, O, E>,
+    asking: &Asking<'_>,
+) -> Result<u8, Failure> {
+    let alloc = session.alloc;
+    let plan = plan_of(alloc, asking)?;
+    for asked in plan.largest.iter() {
+        let calls = asked.calls(alloc, &plan.words, Numbering::Larger)?;
+        session.print(format!(in alloc; "{calls}\n")?.as_str())?;
+    }
+    Ok(0)
+}
+
+/// Surveys the clients of a program text, prints a line for each that is decided and a last one that says what follows, writes what
+/// is asked for, and gives the status.
+///
+/// Errors: `Program` with the first fault of the text; `Usage` where there are too many clients, or a line of a list is none;
+/// `CannotRead`; `CannotWrite`; `CannotPrint`; `Memory`.
+pub fn survey<R: Threads + Wait + Sync, D: Finder, F: Files, O: Write, E: Write>(
+    rt: &R,
+    finder: &D,
+    session: &mut Session<'_, '_, '_, F, O, E>,
+    base: &[u8],
+    asking: &Asking<'_>,
+) -> Result<u8, Failure> {
+    let _checked = checked_of(session.alloc, base)?;
+    if let Some(folder) = asking.out {
+        // One that is there serves, and where there is none the first file says so.
+        let _made = session.files.create_folder(folder);
+    }
+    let mut tally = Tally::new(session.alloc, asking.json);
+    let status = match asking.clients {
+        Some(list) => survey_list(rt, finder, session, &mut tally, base, asking, list)?,
+        None => survey_bounds(rt, finder, session, &mut tally, base, asking)?,
+    };
+    session.flush()?;
+    write_index(session, &tally, asking)?;
+    Ok(status)
+}

@@ -1,0 +1,153 @@
+//! What a survey has come to.
+
+use crate::accepted::Accepted;
+use crate::calls::Calls;
+use crate::decided::Decided;
+use crate::finding::Finding;
+use serde_json::Value;
+use std::alloc::{AllocError, Global};
+use std::io::Write;
+use tso_front::{Failure, Files, Session};
+
+/// A client that has a run that is not good.
+#[derive(Debug, Drop)]
+pub struct Violated {
+    pub calls: String,
+    /// How many calls it has.
+    pub size: usize,
+}
+
+/// What a survey has come to.
+#[derive(Drop)]
+pub struct Tally {
+    pub accepted: Vec<Accepted>,
+    /// How many clients were decided, or tried.
+    pub count: usize,
+    /// Of how many more states can be reached than a search may meet.
+    pub limits: usize,
+    /// How many had neither a certificate nor a trace.
+    pub missing: usize,
+    /// Of how many the certificate or the trace was refused.
+    pub refused: usize,
+    /// Of the clients that have a run that is not good the smallest, and of these the first.
+    pub violated: Option<Violated>,
+    /// All lines so far.
+    pub lines: Vec<u8>,
+    /// Whether objects of JSON are printed in place of the lines.
+    json: bool,
+}
+
+impl Tally {
+    /// Of no client.
+    pub fn new(alloc: Global, json: bool) -> Tally {
+        Tally {
+            accepted: Vec::new(alloc),
+            count: 0,
+            limits: 0,
+            missing: 0,
+            refused: 0,
+            violated: None,
+            lines: Vec::new(alloc),
+            json,
+        }
+    }
+
+    /// Whether each client was accepted.
+    pub fn is_clean(&self) -> bool {
+        self.violated.is_none() && self.limits == 0 && self.missing == 0 && self.refused == 0
+    }
+
+    // Notes that a client has a run that is not good.
+    fn note_violated(&mut self, alloc: Global, calls: &Calls) -> Result<(), AllocError> {
+        let size = calls.count();
+        let is_smaller = match &self.violated {
+            Some(violated) => size < violated.size,
+            None => true,
+        };
+        if is_smaller {
+            let calls = calls.to_string(alloc)?;
+            self.violated = Some(Violated { calls, size });
+        }
+        Ok(())
+    }
+
+    // Counts what was found of a client.
+    fn note(&mut self, alloc: Global, calls: &Calls, decided: Decided) -> Result<(), AllocError> {
+        self.count = self.count.saturating_add(1);
+        match decided {
+            Decided::Accepted { client, .. } => self.accepted.push(client)?,
+            Decided::Violated { .. } => self.note_violated(alloc, calls)?,
+            Decided::Limit => self.limits = self.limits.saturating_add(1),
+            Decided::Missing => self.missing = self.missing.saturating_add(1),
+            Decided::Rejected(_) | Decided::Untraced(_) => {
+                self.refused = self.refused.saturating_add(1);
+            }
+        }
+        Ok(())
+    }
+
+    /// Keeps a line, and prints it, or the object that says the same.
+    ///
+    /// Errors: `CannotPrint`; `Memory`.
+    pub fn say<F: Files, O: Write, E: Write>(
+        &mut self,
+        session: &mut Session<'_, '_, '_, F, O, E>,
+        line: &str,
+        object: &Value,
+    ) -> Result<(), Failure> {
+        self.lines.extend_from_slice(line.as_bytes())?;
+        if self.json {
+            session.print_object(object)
+        } else {
+            session.print(line)
+        }
+    }
+
+    /// Prints the line of a client, writes its files, if there is a folder for them, and counts it.
+    ///
+    /// Errors: `CannotPrint`; `CannotWrite`; `Memory`.
+    pub fn put<F: Files, O: Write, E: Write>(
+        &mut self,
+        session: &mut Session<'_, '_, '_, F, O, E>,
+        folder: Option<&str>,
+        calls: &Calls,
+        text: &[u8],
+        finding: Finding,
+    ) -> Result<(), Failure> {
+        let alloc = session.alloc;
+        if let Some(folder) = folder {
+            write_files(session, folder, calls, text, &finding)?;
+        }
+        let decided = &finding.decided;
+        let line = format!(in alloc; "{calls}: {decided}\n")?;
+        let object = decided.object(alloc, calls)?;
+        self.say(session, line.as_str(), &object)?;
+        session.flush()?;
+        self.note(alloc, calls, finding.decided)?;
+        Ok(())
+    }
+}
+
+// Writes the text of a client and what was found into a folder, if it is to be written.
+fn write_files<F: Files, O: Write, E: Write>(
+    session: &mut Session<'_, '_, '_, F, O, E>,
+    folder: &str,
+    calls: &Calls,
+    text: &[u8],
+    finding: &Finding,
+) -> Result<(), Failure> {
+    let Some(bytes) = &finding.bytes else {
+        return Ok(());
+    };
+    let alloc = session.alloc;
+    let name = calls.name(alloc)?;
+    let path = format!(in alloc; "{folder}/{name}.tso")?;
+    session.write(path.as_str(), text)?;
+    let ending = if finding.decided.is_violated() {
+        "trace"
+    } else {
+        "cert"
+    };
+    let path = format!(in alloc; "{folder}/{name}.{ending}")?;
+    session.write(path.as_str(), bytes)
+}

@@ -1,0 +1,243 @@
+//! The words of a survey.
+
+use crate::bounds::Bounds;
+use clap::{Arg, ArgAction, ArgMatches, Command, value_parser};
+use std::alloc::{AllocError, Global};
+use std::fmt;
+use tso_front::{Failure, json_argument, misused, program_argument};
+
+/// Which of the clients that are searched are taken: those whose numbers, from 0, leave `part` when divided by `parts`.
+#[derive(Clone, Copy, Debug, PartialEq, Eq)]
+pub struct Part {
+    pub part: usize,
+    pub parts: usize,
+}
+
+/// What a survey asks about, of which text, and where its files lie.
+#[derive(Clone, Copy, Debug)]
+pub struct Asking<'a> {
+    pub program: &'a str,
+    pub bounds: Bounds,
+    /// In place of the mode that the text says.
+    pub mode: Option<&'a str>,
+    /// A file of clients, a line each, in place of those within the bounds.
+    pub clients: Option<&'a str>,
+    /// Which of the clients are searched, if not all.
+    pub part: Option<Part>,
+    /// The folder where texts, certificates and traces are written, if they are.
+    pub out: Option<&'a str>,
+    /// A folder with those of an earlier survey, which are decided in place of a search.
+    pub collect: Option<&'a str>,
+    /// Whether the clients are told and not searched.
+    pub lists: bool,
+    /// Whether it goes on behind a violation.
+    pub all: bool,
+    /// Whether it is to be said how far the survey has come.
+    pub progress: bool,
+    /// Whether objects of JSON are printed in place of the lines.
+    pub json: bool,
+}
+
+fn flag<'a>(alloc: Global, name: &'a str, help: &'a str) -> Arg<'a> {
+    Arg::new(alloc, name)
+        .long(name)
+        .action(ArgAction::SetTrue)
+        .help(help)
+}
+
+fn option<'a>(alloc: Global, name: &'a str, value: &'a str, help: &'a str) -> Arg<'a> {
+    Arg::new(alloc, name)
+        .long(name)
+        .value_name(value)
+        .action(ArgAction::Set)
+        .help(help)
+}
+
+fn number<'a>(alloc: Global, name: &'a str, least: i64, most: i64, help: &'a str) -> Arg<'a> {
+    Arg::new(alloc, name)
+        .long(name)
+        .value_name("N")
+        .action(ArgAction::Set)
+        .value_parser(value_parser!(u64).range(least..=most))
+        .help(help)
+}
+
+// The words for how large the clients are, but for their prologues.
+fn bounds_arguments<'a>(alloc: Global, command: Command<'a>) -> Result<Command<'a>, AllocError> {
+    command
+        .arg(number(
+            alloc,
+            "threads",
+            1,
+            4,
+            "how many threads a client has at most; 3 if not said",
+        ))?
+        .arg(number(
+            alloc,
+            "calls",
+            1,
+            12,
+            "how many calls its threads have at most; 4 if not said",
+        ))?
+        .arg(number(
+            alloc,
+            "producers",
+            0,
+            4,
+            "how many threads push at most; all if not said",
+        ))?
+        .arg(number(
+            alloc,
+            "consumers",
+            0,
+            4,
+            "how many threads pop at most; all if not said",
+        ))
+}
+
+/// The words that say which clients' files are decided, but for `--before` and `--mode`.
+///
+/// Errors: where a growth was refused.
+pub fn collect_arguments<'a>(
+    alloc: Global,
+    command: Command<'a>,
+) -> Result<Command<'a>, AllocError> {
+    let collect = option(
+        alloc,
+        "collect",
+        "DIR",
+        "checks the certificates and replays the traces of a folder, and searches nothing",
+    );
+    let clients = option(
+        alloc,
+        "clients",
+        "LIST",
+        "a file of clients, a line each, in place of those within the bounds",
+    );
+    bounds_arguments(alloc, command.arg(collect)?.arg(clients)?)
+}
+
+/// The words that say what a survey asks about.
+///
+/// Errors: where a growth was refused.
+pub fn asking_arguments<'a>(
+    alloc: Global,
+    command: Command<'a>,
+) -> Result<Command<'a>, AllocError> {
+    let before = number(
+        alloc,
+        "before",
+        0,
+        4,
+        "how many pushes its prologue has at most; none if not said",
+    );
+    let mode = option(
+        alloc,
+        "mode",
+        "MODE",
+        "strict or weak, in place of what the text says",
+    );
+    let out = option(
+        alloc,
+        "out",
+        "DIR",
+        "the folder where each client's text and certificate or trace are written",
+    );
+    let part = option(
+        alloc,
+        "part",
+        "I/N",
+        "takes each Nth client alone, from the Ith on",
+    );
+    collect_arguments(alloc, command.arg(program_argument(alloc))?)?
+        .arg(before)?
+        .arg(mode)?
+        .arg(out)?
+        .arg(part)?
+        .arg(flag(
+            alloc,
+            "list",
+            "prints the clients that would be searched, a line each",
+        ))?
+        .arg(flag(alloc, "all", "goes on behind a violation"))?
+        .arg(flag(
+            alloc,
+            "progress",
+            "says on standard error how far the survey has come",
+        ))?
+        .arg(json_argument(alloc))
+}
+
+fn asked_number(matches: &ArgMatches<'_>, name: &str, otherwise: usize) -> usize {
+    match matches.get_one::<u64>(name) {
+        Some(number) => usize::try_from(number).unwrap_or(otherwise),
+        None => otherwise,
+    }
+}
+
+// The bounds that the words say.
+fn bounds_of(matches: &ArgMatches<'_>) -> Bounds {
+    let threads = asked_number(matches, "threads", 3);
+    Bounds {
+        threads,
+        calls: asked_number(matches, "calls", 4),
+        before: asked_number(matches, "before", 0),
+        producers: asked_number(matches, "producers", threads),
+        consumers: asked_number(matches, "consumers", threads),
+    }
+}
+
+/// What the words ask about.
+///
+/// Errors: `Usage`; `Memory`.
+pub fn asking_of<'a>(alloc: Global, matches: &ArgMatches<'a>) -> Result<Asking<'a>, Failure> {
+    let part = match matches.get_str("part") {
+        Some(word) => Some(part_of(alloc, word)?),
+        None => None,
+    };
+    Ok(Asking {
+        program: matches.get_str("FILE").unwrap_or(""),
+        bounds: bounds_of(matches),
+        mode: matches.get_str("mode"),
+        clients: matches.get_str("clients"),
+        part,
+        out: matches.get_str("out"),
+        collect: matches.get_str("collect"),
+        lists: matches.get_flag("list"),
+        all: matches.get_flag("all"),
+        progress: matches.get_flag("progress"),
+        json: matches.get_flag("json"),
+    })
+}
+
+// The part that a word says: `2/8` is the second of eight.
+fn part_of(alloc: Global, word: &str) -> Result<Part, Failure> {
+    let numbers = match word.split_once('/') {
+        Some((part, parts)) => (part.parse::<usize>(), parts.parse::<usize>()),
+        None => return Err(misused(alloc, PART)),
+    };
+    match numbers {
+        (Ok(part), Ok(parts)) if part >= 1 && part <= parts => Ok(Part {
+            part: part - 1,
+            parts,
+        }),
+        _ => Err(misused(alloc, PART)),
+    }
+}
+
+const PART: &str = "--part is I/N, with I from 1 to N\n";
+
+impl Part {
+    /// Whether the client with this number belongs to it.
+    pub fn has(&self, number: usize) -> bool {
+        self.parts != 0 && number % self.parts == self.part
+    }
+}
+
+/// As it is written, but with `-` for the stroke: `2-8`.
+impl fmt::Display for Part {
+    fn fmt<W: fmt::Write>(&self, f: &mut fmt::Formatter<W>) -> fmt::Result {
+        let (part, parts) = (self.part.saturating_add(1), self.parts);
+        write!(f, "{part}-{parts}")
+    }
+}

@@ -1,0 +1,173 @@
+//! Clients that several workers search, each client by one of them.
+
+ghost use Rattle.std.specs.Prelude.{◌≤◌};
+ghost use Rattle.std.specs.Thread.{IsSync};
+ghost use Rattle.tso_cert.specs.Trees.{record_count, tree_of};
+ghost use Rattle.tso_check.specs.Headline.{DenotesChecked, EachRunIsGood};
+
+use crate::limit::StateLimit;
+use std::alloc::Global;
+use std::sync::Wait;
+use std::sync::atomic::{AtomicUsize, Ordering};
+use std::thread;
+use std::thread::Threads;
+use tso_cert::{Cert, NoWatch, Workers, encode};
+use tso_check::checked_of;
+use tso_explore::{Outcome, explore};
+use tso_flow::Checked;
+use tso_foot::Table;
+use tso_front::Failure;
+use tso_survey::{Accepted, Decided, Finding};
+use tso_trace::Trace;
+
+/// The texts of clients that are searched, each by one worker, and which is searched next.
+#[derive(Drop)]
+pub struct Round<'a> {
+    pub texts: &'a [Vec<u8>],
+    /// Those that are searched, by their numbers.
+    pub numbers: &'a [usize],
+    /// How many of these were taken.
+    pub next: &'a AtomicUsize,
+    pub alloc: Global,
+    pub limit: StateLimit,
+    /// Whether the bytes of what is found are asked for.
+    pub writes: bool,
+}
+
+/// What is found of the client with this number.
+#[derive(Debug, Drop)]
+pub struct Done {
+    pub number: usize,
+    pub finding: Finding,
+}
+
+// That all runs of a text's client are good.
+fn certified(
+    alloc: Global,
+    text: &[u8],
+    checked: Checked,
+    table: &Table,
+    cert: &Cert,
+    writes: bool,
+) -> Result<Finding, Failure>
+    requires denoted { DenotesChecked text.now checked.client }
+    requires good { EachRunIsGood checked.client }
+    requires few { record_count (tree_of cert.now) ≤ 4194304 }
+{
+    let bytes = if writes {
+        Some(encode(alloc, table, cert)?)
+    } else {
+        None
+    };
+    let decided = Decided::Accepted {
+        client: Accepted::certified(Vec::from_slice(alloc, text)?, checked),
+        records: Some(cert.len()),
+    };
+    Ok(Finding { decided, bytes })
+}
+
+// A trace as text.
+fn text_of(alloc: Global, trace: &Trace) -> Result<Vec<u8>, Failure> {
+    let mut text = Vec::new(alloc);
+    match trace.print(&mut text) {
+        Ok(()) => Ok(text),
+        Err(_) => Err(Failure::Memory),
+    }
+}
+
+// That one is not.
+fn violated(alloc: Global, trace: &Trace, writes: bool) -> Result<Finding, Failure> {
+    let bytes = if writes {
+        Some(text_of(alloc, trace)?)
+    } else {
+        None
+    };
+    let decided = Decided::Violated {
+        violation: trace.violation(),
+        labels: trace.labels.len(),
+    };
+    Ok(Finding { decided, bytes })
+}
+
+// One worker.
+fn alone() -> Workers {
+    match Workers::new(1) {
+        Some(workers) => workers,
+        None => unreachable!(),
+    }
+}
+
+/// What one worker finds of the client of a text.
+///
+/// Errors: `Program` with the first fault of the text; `Memory`.
+pub fn found_of<R: Threads + Wait + Sync>(
+    rt: &R,
+    alloc: Global,
+    text: &[u8],
+    limit: StateLimit,
+    writes: bool,
+) -> Result<Finding, Failure> {
+    let checked = checked_of(alloc, text)?;
+    match explore(rt, alloc, &checked, alone(), limit.count(), &NoWatch) {
+        Outcome::Certificate(table, cert) => {
+            certified(alloc, text, checked, &table, &cert, writes)
+        }
+        Outcome::Trace(trace) => violated(alloc, &trace, writes),
+        Outcome::LimitReached => Ok(Finding {
+            decided: Decided::Limit,
+            bytes: None,
+        }),
+        Outcome::NoMemory => Err(Failure::Memory),
+    }
+}
+
+// Searches one client after another, until none is left.
+fn work<R: Threads + Wait + Sync>(rt: &R, round: &Round<'_>) -> Result<Vec<Done>, Failure> {
+    let mut done = Vec::new(round.alloc);
+    for _ in 0..round.numbers.len() {
+        let taken = round.next.fetch_add(1, Ordering::SeqCst);
+        let Some(number) = round.numbers.get(taken).copied() else {
+            break;
+        };
+        let Some(text) = round.texts.get(number) else {
+            break;
+        };
+        let finding = found_of(rt, round.alloc, text, round.limit, round.writes)?;
+        done.push(Done { number, finding })?;
+    }
+    Ok(done)
+}
+
+// Puts the second list behind the first.
+fn joined(first: Vec<Done>, second: Vec<Done>) -> Result<Vec<Done>, Failure> {
+    let mut all = first;
+    for done in second {
+        all.push(done)?;
+    }
+    Ok(all)
+}
+
+/// What so many workers find of the clients of a round, in no order.
+///
+/// Errors: those of `found_of`.
+pub fn work_by<R: Threads + Wait + Sync>(
+    rt: &R,
+    round: &Round<'_>,
+    workers: u64,
+) -> Result<Vec<Done>, Failure> {
+    if workers < 2 {
+        return work(rt, round);
+    }
+    let fewer = workers / 2;
+    let more = workers - fewer;
+    let (first, second) = thread::join(
+        rt,
+        || -> Result<Vec<Done>, Failure>
+            requires { IsSync R.row }
+        { work_by(rt, round, more) },
+        || -> Result<Vec<Done>, Failure>
+            requires { IsSync R.row }
+        { work_by(rt, round, fewer) },
+    );
+    joined(first?, second?)
+}
