@@ -3,8 +3,8 @@
 use crate::failure::Failure;
 use crate::input::{client_of, file_at, number_at, word};
 use crate::{
-    actors, arithmetic, choices, cursors, events, leaf, machine, meetings, plain, runs, states,
-    stores, ticket, writing,
+    actors, arithmetic, choices, cursors, events, judged, leaf, machine, meetings, plain, runs,
+    states, stores, ticket, writing,
 };
 use std::alloc::Global;
 use std::rt::Files;
@@ -54,6 +54,9 @@ fn answer_of_client(
     if cursors::answer(alloc, checked, call, out)? {
         return Ok(true);
     }
+    if judged::answer(alloc, checked, call, out)? {
+        return Ok(true);
+    }
     match word(call, 0) {
         "walk" => stores::put_walk(alloc, checked, out)?,
         _ => return Ok(false),
@@ -93,10 +96,11 @@ fn answer_of_files<R: Files + AllocGlobal + Threads + Wait + Sync>(
     let alloc = rt.alloc();
     let program = file_at(rt, call, 1)?;
     let cert = file_at(rt, call, 2)?;
-    if word(call, 0) == "leaf" {
-        leaf::put_records(alloc, &program, &cert, out)
-    } else {
-        meetings::put_two_check(rt, alloc, &program, &cert, out)
+    match word(call, 0) {
+        "check" => meetings::put_check(alloc, &program, &cert, out),
+        "check_client" => meetings::put_check_client(alloc, &program, &cert, out),
+        "leaf" => leaf::put_records(alloc, &program, &cert, call, out),
+        _ => meetings::put_two_check(rt, alloc, &program, &cert, out),
     }
 }
 
@@ -134,7 +138,7 @@ pub fn answer<R: Files + AllocGlobal + Threads + Wait + Sync>(
 ) -> Result<(), Failure> {
     let alloc = rt.alloc();
     match word(call, 0) {
-        "leaf" | "two_workers_check" => answer_of_files(rt, call, out),
+        "check" | "check_client" | "leaf" | "two_workers_check" => answer_of_files(rt, call, out),
         "two_workers_find" => ticket::put_found_by_two(rt, alloc, call, out),
         "workers" => meetings::put_workers(number_at(call, 1)?, out),
         _ => {

@@ -37,8 +37,8 @@ fn placed_of(item: &str) -> Result<Placed, Failure> {
     })
 }
 
-// The order of these items.
-fn order_of(alloc: Global, text: &str) -> Result<Order, Failure> {
+/// The order of these items.
+pub fn order_of(alloc: Global, text: &str) -> Result<Order, Failure> {
     let mut order = Order::new(alloc);
     for item in text.split(';') {
         if word(item, 0) != "" {

@@ -1,17 +1,17 @@
 //! Records of a certificate that is one leaf.
 
-ghost use Rattle.std.specs.Prelude.{◌<◌, ◌≤◌, length};
+ghost use Rattle.std.specs.Prelude.{◌≡◌, ◌<◌, ◌≤◌, length};
 ghost use Rattle.tso_cert.specs.Lookup.{IsOrdered};
 ghost use Rattle.tso_cert.specs.Trees.{record_count, tree_of};
 
 use crate::failure::{Failure, ensure};
-use crate::input::client_of;
+use crate::input::{behind, client_of};
+use crate::packed::{has_state, put_numbers};
 use std::alloc::{AllocError, Global};
-use tso_cert::{Cert, DecodeError, decode};
+use tso_cert::{Cert, DecodeError, decode, encode};
 use tso_flow::Checked;
 use tso_foot::Table;
 use tso_judge::{Code, judge, judge_alone};
-use tso_list::is_same;
 use tso_rec::{Packed, Record};
 
 // The record with this number.
@@ -61,14 +61,6 @@ fn judged_in_own(
     judged_in(alloc, checked, table, &cert, found)
 }
 
-// Whether the leaf has the record's state at this number.
-fn has_state(leaf: &Packed, number: usize, found: &Record) -> Result<(), Failure>
-    requires { number < length leaf.now }
-{
-    let state = leaf.state(number)?;
-    ensure(is_same(&state, &found.state))
-}
-
 // Writes how many parts a record keeps of its own, and what is found of it, by itself and as the only one.
 fn put_record(
     alloc: Global,
@@ -81,7 +73,7 @@ fn put_record(
 ) -> Result<(), Failure>
     requires { number < length leaf.now }
 {
-    has_state(leaf, number, found)?;
+    has_state(leaf, number, &found.state)?;
     let kept = leaf.parts_kept(number);
     let Record { state, end } = found;
     let alone = judge_alone(alloc, checked, table, state, &state.history, end)?;
@@ -89,26 +81,67 @@ fn put_record(
     Ok(write!(out, "{kept} {alone:?} {in_own:?}; ")?)
 }
 
-// Writes all of them, from a leaf that is made of the records.
+// Writes this of all records, and then which of them have the states that a case tells.
+fn put_all(
+    alloc: Global,
+    checked: &Checked,
+    table: &Table,
+    leaf: &Packed,
+    records: &[Record],
+    call: &str,
+    out: &mut String,
+) -> Result<(), Failure>
+    requires { leaf.now ≡ records.now }
+{
+    for (number, found) in records.iter().enumerate() {
+        put_record(alloc, checked, table, leaf, number, found, out)?;
+    }
+    put_numbers(alloc, checked, leaf, behind(call, ":"), out)
+}
+
+// The same from a leaf that is made of the records.
 fn put_leaf(
     alloc: Global,
     checked: &Checked,
     table: &Table,
     records: &[Record],
+    call: &str,
     out: &mut String,
 ) -> Result<(), Failure> {
     let leaf = Packed::from_records(alloc, records)?;
-    for (number, found) in records.iter().enumerate() {
-        put_record(alloc, checked, table, &leaf, number, found, out)?;
-    }
-    Ok(())
+    put_all(alloc, checked, table, &leaf, records, call, out)
 }
 
-// Writes what is found of the records of a certificate.
+// The same of a certificate that is one leaf.
+fn put_cert(
+    alloc: Global,
+    checked: &Checked,
+    table: &Table,
+    cert: &Cert,
+    call: &str,
+    out: &mut String,
+) -> Result<(), Failure> {
+    match cert {
+        Cert::Leaf(leaf) => {
+            let records = records_of(alloc, leaf)?;
+            put_leaf(alloc, checked, table, &records, call, out)
+        }
+        Cert::Fork(..) => Err(Failure::Unreadable),
+    }
+}
+
+// Whether a certificate is spelled so.
+fn ask_spelled(alloc: Global, table: &Table, cert: &Cert, bytes: &[u8]) -> Result<(), Failure> {
+    let spelled = encode(alloc, table, cert)?;
+    ensure(spelled.as_slice() == bytes)
+}
+
+// The same of a certificate that is read.
 fn put_decoded(
     alloc: Global,
     checked: &Checked,
     bytes: &[u8],
+    call: &str,
     out: &mut String,
 ) -> Result<(), Failure> {
     let (table, cert) = match decode(alloc, bytes) {
@@ -116,20 +149,18 @@ fn put_decoded(
         Err(DecodeError::Memory) => return Err(Failure::Memory),
         Err(DecodeError::Fault(_)) => return Err(Failure::Unreadable),
     };
-    let Cert::Leaf(leaf) = cert else {
-        return Err(Failure::Unreadable);
-    };
-    let records = records_of(alloc, &leaf)?;
-    put_leaf(alloc, checked, &table, &records, out)
+    ask_spelled(alloc, &table, &cert, bytes)?;
+    put_cert(alloc, checked, &table, &cert, call, out)
 }
 
-/// Writes what is found of the records of a certificate for a program.
+/// Writes what is found of the records of a certificate for a program, and which records have the states that a case tells.
 pub fn put_records(
     alloc: Global,
     program: &[u8],
     bytes: &[u8],
+    call: &str,
     out: &mut String,
 ) -> Result<(), Failure> {
     let checked = client_of(alloc, program)?;
-    put_decoded(alloc, &checked, bytes, out)
+    put_decoded(alloc, &checked, bytes, call, out)
 }

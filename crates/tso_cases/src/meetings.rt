@@ -1,12 +1,13 @@
 //! Several workers who check one certificate or search one client together, of whom one is held until another has come.
 
 use crate::failure::{Failure, ensure};
+use crate::input::client_of;
 use crate::meeting::Meeting;
 use std::alloc::Global;
 use std::sync::Wait;
 use std::thread::Threads;
 use tso_cert::{NoWatch, Watch, Workers};
-use tso_check::{CheckError, Verdict, check_with};
+use tso_check::{CheckError, Verdict, check, check_client, check_with};
 use tso_explore::{Outcome, explore};
 use tso_flow::Checked;
 use tso_foot::build;
@@ -60,6 +61,33 @@ fn workers_of(count: u64) -> Result<Workers, Failure> {
         Some(workers) => Ok(workers),
         None => Err(Failure::Unreadable),
     }
+}
+
+/// One thread checks a certificate for a program.
+pub fn put_check(
+    alloc: Global,
+    program: &[u8],
+    cert: &[u8],
+    out: &mut String,
+) -> Result<(), Failure> {
+    match check(alloc, program, cert) {
+        Ok(verdict) => write!(out, "{verdict}")?,
+        Err(CheckError::Program(_)) => out.push_str("no program")?,
+        Err(CheckError::Memory) => return Err(Failure::Memory),
+    }
+    Ok(())
+}
+
+/// The same for the client of a program.
+pub fn put_check_client(
+    alloc: Global,
+    program: &[u8],
+    cert: &[u8],
+    out: &mut String,
+) -> Result<(), Failure> {
+    let checked = client_of(alloc, program)?;
+    let verdict = check_client(alloc, &checked, cert)?;
+    Ok(write!(out, "{verdict}")?)
 }
 
 /// Two workers check a fork of two leaves of two records, and meet.
@@ -155,6 +183,7 @@ pub fn put_pool<R: Threads + Wait + Sync>(
     let (states, open, calls) = sums_of(&tables);
     let why = match ending {
         Ending::Quiet => "quiet",
+        Ending::Astray => "astray",
         Ending::Full(_) => "full",
         Ending::Violation(_) => "a violation",
         Ending::Memory => return Err(Failure::Memory),

@@ -1,5 +1,9 @@
 //! Tickets that are offered and found at seats.
 
+ghost use Rattle.std.specs.Prelude.{◌≡◌, IfOk, OnOk};
+ghost use Rattle.tso_ticket.specs.Linked.{AreLinked, places};
+ghost use Rattle.tso_ticket.specs.Seats.{place_of};
+
 use crate::failure::Failure;
 use crate::input::{behind, index_at, number_at, word};
 use std::alloc::{AllocError, Global};
@@ -7,10 +11,12 @@ use std::sync::Wait;
 use std::sync::atomic::{AtomicU64, Ordering};
 use std::thread;
 use std::thread::Threads;
-use tso_ticket::{Seat, seats};
+use tso_ticket::{Seat, seats, tickets_left};
 
 // So many seats, at most 64.
-fn row_of(alloc: Global, call: &str) -> Result<Vec<Seat<u64>>, Failure> {
+fn row_of(alloc: Global, call: &str) -> Result<Vec<Seat<u64>>, Failure>
+    ensures { IfOk result (λ row. AreLinked (places row.items)) }
+{
     let count = index_at(call, 1)?;
     if count > 64 {
         return Err(Failure::Unreadable);
@@ -19,7 +25,9 @@ fn row_of(alloc: Global, call: &str) -> Result<Vec<Seat<u64>>, Failure> {
 }
 
 // Offers the tickets from the first one on, without the last one.
-fn offer_all(seat: &mut Seat<u64>, first: u64, last: u64) -> Result<(), AllocError> {
+fn offer_all(seat: &mut Seat<u64>, first: u64, last: u64) -> Result<(), AllocError>
+    ensures { place_of seat.new ≡ place_of seat.old }
+{
     for ticket in first..last {
         seat.make_room()?;
         seat.offer(ticket);
@@ -40,13 +48,17 @@ fn find_all(seat: &mut Seat<u64>) -> (u64, u64) {
     (count, sum)
 }
 
-// Offers or finds tickets at a seat: `offer 0 7 8`, `find 2`, `find_all 0`.
+// Offers, finds or counts tickets at a seat: `offer 0 7 8`, `find 2`, `find_all 0`, `left 0`.
 fn act(seat: &mut Seat<u64>, item: &str, out: &mut String) -> Result<(), Failure> {
     match word(item, 0) {
         "offer" => offer_all(seat, number_at(item, 2)?, number_at(item, 3)?)?,
         "find_all" => {
             let (count, sum) = find_all(seat);
             write!(out, "{count} {sum} ")?;
+        }
+        "left" => {
+            let (count, left) = (seat.count(), seat.left());
+            write!(out, "{count} {left} ")?;
         }
         _ => match seat.find() {
             Some(ticket) => write!(out, "{ticket} ")?,
@@ -67,13 +79,35 @@ fn put_found(row: &mut Vec<Seat<u64>>, items: &str, out: &mut String) -> Result<
     Ok(())
 }
 
+// Offers so many tickets at the first seat.
+fn offer_first(row: &mut Vec<Seat<u64>>, count: u64) -> Result<(), AllocError>
+    requires { AreLinked (places row.old.items) }
+    ensures { OnOk result (AreLinked (places row.new.items)) }
+{
+    if let Some(seat) = row.first_mut() {
+        offer_all(seat, 0, count)?;
+    }
+    Ok(())
+}
+
+// Offers so many tickets at the first of some seats, and writes how many are left once all seats are back.
+fn put_left(alloc: Global, call: &str, out: &mut String) -> Result<(), Failure> {
+    let mut row = row_of(alloc, call)?;
+    offer_first(&mut row, number_at(call, 2)?)?;
+    let left = tickets_left(row);
+    Ok(write!(out, "{left}")?)
+}
+
 /// Makes calls on seats. Whether the case is one.
 pub fn answer(alloc: Global, call: &str, out: &mut String) -> Result<bool, Failure> {
-    if word(call, 0) != "tickets" {
-        return Ok(false);
+    match word(call, 0) {
+        "tickets" => {
+            let mut row = row_of(alloc, call)?;
+            put_found(&mut row, behind(call, ":"), out)?;
+        }
+        "tickets_left" => put_left(alloc, call, out)?,
+        _ => return Ok(false),
     }
-    let mut row = row_of(alloc, call)?;
-    put_found(&mut row, behind(call, ":"), out)?;
     Ok(true)
 }
 

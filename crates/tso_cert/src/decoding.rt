@@ -1,5 +1,5 @@
 //! Certificates read from bytes.
-ghost use Rattle.std.specs.Prelude.{◌≡◌, ◌<◌, ◌≤◌, ℕ, Err, IfOk, min, Ok};
+ghost use Rattle.std.specs.Prelude.{◌≡◌, ◌<◌, ◌≤◌, ◌∷◌, ℕ, Err, IfOk, min, Ok};
 ghost use Rattle.tso_code.specs.Numbers.{number};
 ghost use Rattle.tso_cert.specs.Certificates.{certificate_at, Decodes, field, fork_at, front_at, Gives, leaf_at, magic_at, Spells, tree_at};
 ghost use Rattle.tso_cert.specs.Limits.{IsNoCertificate, PassesLimit, SpellingsAreUnique};
@@ -68,7 +68,8 @@ fn branch_of<'a>(
     room: u32,
     bytes: &'a [u8],
 ) -> Result<(Cert, u32, &'a [u8]), DecodeError>
-    ensures { Gives (λ x. (tree_of x.0, x.1, x.2.now)) result (tree_at depth room bytes.now) }
+    ensures read { Gives (λ x. (tree_of x.0, x.1, x.2.now)) result (tree_at depth room bytes.now) }
+    ensures bare { (n : ℕ) → 0 < n → n ≤ min 64 room → bytes.now ≡ 0 ∷ number n → result ≡ Err (DecodeError.Fault Fault.K01) }
 {
     match bytes {
         [0, rest @ ..] => leaf_of(alloc, known, room, rest),
@@ -129,13 +130,24 @@ pub fn read_table(alloc: Global, bytes: &[u8]) -> Result<(Table, &[u8]), DecodeE
     Ok((table, rest))
 }
 
+/// The tree at the front of the bytes, how many records more it might have had, and the bytes after it. A leaf whose count of
+/// records is all that is left of the bytes is refused, and asks for no memory: nothing grows but by what was read.
+///
+/// Errors: as for `decode`, of the bytes up to the end of the tree.
+pub fn read_tree(alloc: Global, bytes: &[u8]) -> Result<(Cert, u32, &[u8]), DecodeError>
+    ensures read { Gives (λ x. (tree_of x.0, x.1, x.2.now)) result (tree_at 64 4194304 bytes.now) }
+    ensures bare { (n : ℕ) → 0 < n → n ≤ 64 → bytes.now ≡ 0 ∷ number n → result ≡ Err (DecodeError.Fault Fault.K01) }
+{
+    let mut known = Known::new(alloc);
+    branch_of(alloc, &mut known, FORKS, RECORDS, bytes)
+}
+
 #[tactic(auto, unfolding(crate::specs::Certificates::certificate_at))]
 fn whole(alloc: Global, bytes: &[u8]) -> Result<(Table, Cert), DecodeError>
     ensures { Decodes result (certificate_at bytes.now) }
 {
     let (table, rest) = read_table(alloc, bytes)?;
-    let mut known = Known::new(alloc);
-    let (cert, _, rest) = branch_of(alloc, &mut known, FORKS, RECORDS, rest)?;
+    let (cert, _, rest) = read_tree(alloc, rest)?;
     if rest.is_empty() {
         Ok((table, cert))
     } else {

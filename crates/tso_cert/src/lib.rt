@@ -9,7 +9,7 @@ mod lookup;
 mod workers;
 
 pub use cert::Cert;
-pub use decoding::{decode, read_table};
+pub use decoding::{decode, read_table, read_tree};
 pub use encoding::{encode, write};
 pub use fault::{DecodeError, Fault, WriteError};
 pub use workers::{NoWatch, Watch, Workers};

@@ -11,7 +11,7 @@ use Rattle.tso_choose.proofs.ChoosingLemmas.{at_number, number_at, same_actor}
 use Rattle.tso_choose.proofs.ClosureLemmas.{has_bit-or}
 use Rattle.tso_foot.proofs.BitLemmas.{same_masks}
 use Rattle.tso_choose.proofs.NeedLemmas.{nobody}
-use Rattle.tso_choose.specs.Choices.{AreReasons, AreValid, IsRising, actors_below, actors_of, choice_of, choices_of, lowest, position_of, reasons_below, reasons_if}
+use Rattle.tso_choose.specs.Choices.{AreReasons, AreValid, IsRising, actors_below, actors_of, choice_of, choices_of, position_of, reason_for, reasons_below, reasons_if}
 use Rattle.tso_choose.specs.Choosing as Choosing
 use Rattle.tso_choose.specs.Choosing.{HasNeeds, HasNoLone, IsChoice, IsFirstLone, IsLeast, IsSmallestOf, is_lone, is_lone_if}
 use Rattle.tso_choose.specs.Closures.{GoesBefore, has_bit, IsIn}
@@ -297,18 +297,18 @@ module _ (c : Client) (t : Table) (s : State) (chosen : List Actor) (kind : Step
   abbrev is_so : Reason → Bool
   is_so reason = is_reason c t s chosen kind j reason
 
-  -- where a reason holds, the lowest is one that holds
-  lowest_so : (reason : Reason) → is_so reason ≡ true → is_so (lowest c t s chosen kind j) ≡ true
-  lowest_so reason h = go (is_so reasons.Own) (is_so reasons.Far) (is_so reasons.Inside) (is_so reasons.Buffer) (is_so reasons.Return) refl refl refl refl refl
+  -- where a reason holds, one that holds is given
+  reason_so : (reason : Reason) → is_so reason ≡ true → is_so (reason_for c t s chosen kind j) ≡ true
+  reason_so reason h = go (is_so reasons.Return) (is_so reasons.Own) (is_so reasons.Far) (is_so reasons.Inside) (is_so reasons.Buffer) refl refl refl refl refl
     where
-      go : (a b d e f : Bool) → is_so reasons.Own ≡ a → is_so reasons.Far ≡ b → is_so reasons.Inside ≡ d → is_so reasons.Buffer ≡ e → is_so reasons.Return ≡ f
-          → is_so (if a then reasons.Own else if b then reasons.Far else if d then reasons.Inside else if e then reasons.Buffer else if f then reasons.Return else reasons.NoReturn) ≡ true
-      go true b d e f p q r u v = p
-      go false true d e f p q r u v = q
-      go false false true e f p q r u v = r
-      go false false false true f p q r u v = u
-      go false false false false true p q r u v = v
-      go false false false false false p q r u v = last reason h
+      go : (f a b d e : Bool) → is_so reasons.Return ≡ f → is_so reasons.Own ≡ a → is_so reasons.Far ≡ b → is_so reasons.Inside ≡ d → is_so reasons.Buffer ≡ e
+          → is_so (if f then reasons.Return else if a then reasons.Own else if b then reasons.Far else if d then reasons.Inside else if e then reasons.Buffer else reasons.NoReturn) ≡ true
+      go true a b d e v p q r u = v
+      go false true b d e v p q r u = p
+      go false false true d e v p q r u = q
+      go false false false true e v p q r u = r
+      go false false false false true v p q r u = u
+      go false false false false false v p q r u = last reason h
         where
           last : (reason : Reason) → is_so reason ≡ true → is_so reasons.NoReturn ≡ true
           last reasons.Own h = absurd (no_clash (is_so reasons.Own) h p)
@@ -395,12 +395,12 @@ position_after (suc i) (suc j) lt = let e = position_after i j (omega (arith, lt
 record AreListed (c : Client) (t : Table) (s : State) (chosen : List Actor) (kind : StepKind) (i n : ℕ) (given : List Reason) : Type 0 where
   before : n ≤ i → length given ≡ n
   after : i < n → length given + 1 ≡ n
-  each : (j : ℕ) → j < n → j ≢ i → slice_get given (position_of i j) ≡ Some (lowest c t s chosen kind j)
+  each : (j : ℕ) → j < n → j ≢ i → slice_get given (position_of i j) ≡ Some (reason_for c t s chosen kind j)
 
 one_more : (c : Client) (t : Table) (s : State) (chosen : List Actor) (kind : StepKind) (i n : ℕ) (given : List Reason) → AreListed c t s chosen kind i n given → n ≢ i
-    → AreListed c t s chosen kind i (suc n) (given ++ lowest c t s chosen kind n ∷ [])
+    → AreListed c t s chosen kind i (suc n) (given ++ reason_for c t s chosen kind n ∷ [])
 one_more c t s chosen kind i n given known apart =
-    let y = lowest c t s chosen kind n in
+    let y = reason_for c t s chosen kind n in
     let long = length-append given (y ∷ []) in
     record {
       before = λ le. let e = known.before (omega (arith, le)) in omega (arith, e, long);
@@ -419,7 +419,7 @@ one_more c t s chosen kind i n given known apart =
                 | inr same ↦ absurd (apart (omega (arith, le, same)))
               ]
             ] in
-            subst (λ x. slice_get (given ++ y ∷ []) (position_of i x) ≡ Some (lowest c t s chosen kind x)) at (got_last given y (position_of i n) place)
+            subst (λ x. slice_get (given ++ y ∷ []) (position_of i x) ≡ Some (reason_for c t s chosen kind x)) at (got_last given y (position_of i n) place)
       ];
     }
 
@@ -442,7 +442,7 @@ reasons_listed c t s chosen kind i zero = record {
 reasons_listed c t s chosen kind i (suc n) = go (n == i) refl (reasons_listed c t s chosen kind i n)
   where
     go : (b : Bool) → (n == i) ≡ b → AreListed c t s chosen kind i n (reasons_below c t s chosen kind i n)
-        → AreListed c t s chosen kind i (suc n) (if b then reasons_below c t s chosen kind i n else reasons_below c t s chosen kind i n ++ lowest c t s chosen kind n ∷ [])
+        → AreListed c t s chosen kind i (suc n) (if b then reasons_below c t s chosen kind i n else reasons_below c t s chosen kind i n ++ reason_for c t s chosen kind n ∷ [])
     go true e known = none_more c t s chosen kind i n (reasons_below c t s chosen kind i n) known (eqb-true n i e)
     go false e known = one_more c t s chosen kind i n (reasons_below c t s chosen kind i n) known (λ at. no_clash (n == i) (eq-eqb n i at) e)
 
@@ -488,8 +488,8 @@ have_reasons c t s set a choice there =
           count = known.after inside;
           each = λ j reason lt apart at.
               let (so, h) = choice_so c t s set a kind j choice there is apart in
-              let same : lowest c t s chosen kind j ≡ reason = same_Some _ reason (sym (known.each j lt apart) ∙ at) in
-              subst (λ o. is_reason_if c t s chosen o j reason ≡ true) (sym is) (ap (is_reason c t s chosen kind j) (sym same) ∙ lowest_so c t s chosen kind j so h);
+              let same : reason_for c t s chosen kind j ≡ reason = same_Some _ reason (sym (known.each j lt apart) ∙ at) in
+              subst (λ o. is_reason_if c t s chosen o j reason ≡ true) (sym is) (ap (is_reason c t s chosen kind j) (sym same) ∙ reason_so c t s chosen kind j so h);
         }
 
 pub chosen_are_valid : (c : Client) → ChosenAreValid c

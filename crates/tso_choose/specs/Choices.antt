@@ -49,19 +49,20 @@ abbrev pub actors_below : ℕ → ℕ → List Actor
 actors_below set zero = []
 actors_below set (suc n) = if has_bit set n then actors_below set n ++ actor_at n ∷ [] else actors_below set n
 
--- the lowest reason that holds for a step of this kind and thread j; the last where none of the others does
-abbrev pub lowest : Client → Table → State → List Actor → StepKind → ℕ → Reason
-lowest c t s chosen kind j = if is_reason c t s chosen kind j reasons.Own then reasons.Own else
+-- the reason that is given for a step of this kind and thread j: of a return that it is one, of any other step the lowest that holds; the last
+-- where none of the others does
+abbrev pub reason_for : Client → Table → State → List Actor → StepKind → ℕ → Reason
+reason_for c t s chosen kind j = if is_reason c t s chosen kind j reasons.Return then reasons.Return else
+    if is_reason c t s chosen kind j reasons.Own then reasons.Own else
     if is_reason c t s chosen kind j reasons.Far then reasons.Far else
     if is_reason c t s chosen kind j reasons.Inside then reasons.Inside else
-    if is_reason c t s chosen kind j reasons.Buffer then reasons.Buffer else
-    if is_reason c t s chosen kind j reasons.Return then reasons.Return else reasons.NoReturn
+    if is_reason c t s chosen kind j reasons.Buffer then reasons.Buffer else reasons.NoReturn
 
--- the lowest reasons of a step of thread i for each other thread below n
+-- the reasons of a step of thread i for each other thread below n
 abbrev pub reasons_below : Client → Table → State → List Actor → StepKind → ℕ → ℕ → List Reason
 reasons_below c t s chosen kind i zero = []
 reasons_below c t s chosen kind i (suc j) =
-    if j == i then reasons_below c t s chosen kind i j else reasons_below c t s chosen kind i j ++ lowest c t s chosen kind j ∷ []
+    if j == i then reasons_below c t s chosen kind i j else reasons_below c t s chosen kind i j ++ reason_for c t s chosen kind j ∷ []
 
 -- for each other thread
 abbrev pub reasons_for : Client → Table → State → List Actor → StepKind → ℕ → List Reason
@@ -76,7 +77,7 @@ reasons_if c t s chosen i (Some kind) = reasons_for c t s chosen kind i
 abbrev pub choice_of : Client → Table → State → List Actor → Actor → Choice
 choice_of c t s chosen a = record { actor = a; reasons = reasons_if c t s chosen (thread_of a) (kind_in c s a) }
 
--- the actors of a set, each with the lowest reason that holds for each other thread
+-- the actors of a set, each with its reason for each other thread
 abbrev pub choices_of : Client → Table → State → ℕ → List Choice
 choices_of c t s set = let chosen = actors_below set (2 * length s.threads) in map (choice_of c t s chosen) chosen
 

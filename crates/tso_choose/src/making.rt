@@ -1,7 +1,7 @@
 //! Chosen actors with their reasons.
 
 ghost use Rattle.std.specs.Prelude.{◌≡◌, ◌≤◌, IfOk, length, map, take};
-ghost use Rattle.tso_choose.specs.Choices.{AreChosen, actors_below, choice_of, lowest, reasons_for};
+ghost use Rattle.tso_choose.specs.Choices.{AreChosen, actors_below, choice_of, reason_for, reasons_for};
 ghost use Rattle.tso_indep.specs.Reasons.{kind_in};
 ghost use Rattle.tso_state.specs.Actors.{thread_of};
 ghost use Rattle.tso_state.specs.WellFormed.{IsWellFormed};
@@ -35,8 +35,9 @@ fn list_actors(set: u16, upto: usize, actors: &mut [Actor]) -> usize
     count
 }
 
-// The lowest reason that holds for a step of this kind and another thread; the last where none of the others does.
-fn lowest<S: Viewed>(
+// The reason that is given for a step of this kind and another thread: of a return that it is one, of any other step the lowest
+// that holds; the last where none of the others does.
+fn reason_for<S: Viewed>(
     checked: &Checked,
     table: &Table,
     state: &S,
@@ -44,8 +45,11 @@ fn lowest<S: Viewed>(
     kind: StepKind,
     other: usize,
 ) -> Reason
-    ensures { result ≡ lowest checked.now.client table.now (S.state state.now) chosen.now kind other }
+    ensures { result ≡ reason_for checked.now.client table.now (S.state state.now) chosen.now kind other }
 {
+    if is_reason(checked, table, state, chosen, kind, other, Reason::Return) {
+        return Reason::Return;
+    }
     if is_reason(checked, table, state, chosen, kind, other, Reason::Own) {
         return Reason::Own;
     }
@@ -58,13 +62,10 @@ fn lowest<S: Viewed>(
     if is_reason(checked, table, state, chosen, kind, other, Reason::Buffer) {
         return Reason::Buffer;
     }
-    if is_reason(checked, table, state, chosen, kind, other, Reason::Return) {
-        return Reason::Return;
-    }
     Reason::NoReturn
 }
 
-// The lowest reasons of a step of this kind, of thread `own`, for each other thread.
+// The reasons of a step of this kind, of thread `own`, for each other thread.
 fn reasons_of<S: Viewed>(
     alloc: Global,
     checked: &Checked,
@@ -79,7 +80,7 @@ fn reasons_of<S: Viewed>(
     let mut given = Short::new(alloc);
     for other in 0..state.thread_count() {
         if other != own {
-            given.push(lowest(checked, table, state, chosen, kind, other))?;
+            given.push(reason_for(checked, table, state, chosen, kind, other))?;
         }
     }
     Ok(given)
@@ -120,8 +121,9 @@ fn choices_of<S: Viewed>(
     Ok(choices)
 }
 
-/// The chosen actors of a well-formed state in rising order, each with the lowest reason that holds for each other thread: a
-/// persistent choice over a closed table (Godefroid 1996). It takes no memory but for them.
+/// The chosen actors of a well-formed state in rising order, each with a reason that holds for each other thread: a persistent
+/// choice over a closed table (Godefroid 1996). A return is chosen alone and gives that it is one; any other step gives the lowest
+/// reason that holds. It takes no memory but for them.
 pub fn choose<S: Viewed>(
     alloc: Global,
     checked: &Checked,

@@ -22,16 +22,17 @@ use Rattle.tso_choose.proofs.ChoiceLemmas.{chosen_are_valid}
 use Rattle.tso_choose.specs.Choices.{AreChosen, AreReasons, actors_of}
 use Rattle.tso_choose.specs.Needs.{is_enabled}
 use Rattle.tso_choose.specs.declared.choice.Choice.{Choice}
-use Rattle.tso_explore.specs.Cutting.{AreNumbers, AreRecordsOf, AreRising, IsCut, IsEndOf, IsFork, IsRecordOf}
+use Rattle.tso_explore.specs.Cutting.{AreNumbers, AreRecordsOf, AreRising, IsCut, IsEndOf, IsFork, IsHalved, IsRecordOf}
 use Rattle.tso_explore.specs.Outcomes.{IsCertificate}
 use Rattle.tso_explore.specs.Searched.{AreSearched, IsWorked}
 use Rattle.tso_foot.specs.Closed.{IsClosed, IsLeastClosed}
 use Rattle.tso_foot.specs.declared.table.Table.{Table}
 use Rattle.tso_judge.specs.Conditions.{IsOver, SuccessorsAreKept}
 use Rattle.tso_judge.specs.Judging.{AreMet}
-use Rattle.tso_judge.specs.Valid.{AreValidRecords, HasInitial}
+use Rattle.tso_judge.specs.Valid.{AreValidRecords, HasInitial, IsValidTree}
 use Rattle.tso_parts.specs.Numbers.{IsNumbered}
 use Rattle.tso_prog.specs.declared.client.Client.{Client}
+use Rattle.tso_range.specs.Certified.{CertificatesFit, ForksAreFirsts, IsReachedRecord}
 use Rattle.tso_rec.proofs.KeptLemmas.{same_state}
 use Rattle.tso_rec.specs.Keeping.{record_of}
 use Rattle.tso_rec.specs.Records.{states_of}
@@ -432,20 +433,38 @@ module _ (c : Client) (t : Table) (states : List State) (ns : List ℕ) (tree : 
       let count = few_records in
       (cut.within 64 (omega (arith, few, many)), omega (arith, few, count))
 
--- the table and the tree are a valid certificate
+  -- each record is of a state that steps reach
+  reached_records : AreSearched c t states → (k : ℕ) (r : Record) → slice_get (records_of tree) k ≡ Some r → IsReachedRecord c t states r
+  reached_records searched k r there =
+      let lt = slice_get_within (records_of tree) k r there in
+      let count = cut.records.count in
+      got ns k (omega (arith, lt, count)) (λ n here.
+      let known = cut.records.each k n r here there in
+      let met = searched.begun.met n r.state known.at in
+      record { valid = known.valid; actors = met.reached.0; steps = met.reached.1 })
+
+firsts : (tree : Tree) → IsHalved tree → ForksAreFirsts tree
+firsts (leaf records) h = tt
+firsts (fork left s right) h = (h.0.first, firsts left h.1, firsts right h.2)
+
+-- the table and the tree are a valid certificate, and so is their spelling
 pub certificate_is_valid : (c : Client) (limit : ℕ) (t : Table) (states : List State) (ns : List ℕ) (tree : Tree) → AreSearched c t states → IsClosed c t → IsLeastClosed c t → orders.IsRising states ns → IsNumbered states
-    → IsCut c t states ns tree → length states ≤ limit → limit ≤ 4194304 → IsCertificate c limit t tree
-certificate_is_valid c limit t states ns tree searched closed least all differ cut few small =
+    → IsCut c t states ns tree → length states ≤ limit → limit ≤ 4194304 → CertificatesFit c → IsCertificate c limit t tree
+certificate_is_valid c limit t states ns tree searched closed least all differ cut few small fit =
     let count = few_records c t states ns tree all differ cut in
+    let within = within_limits c t states ns tree all differ cut (omega (arith, few, small)) in
+    let valid : IsValidTree c t tree = record {
+      ordered = (tree_rises c t states ns tree all differ cut, cut.forks);
+      closed = closed;
+      initial = has_initial c t states ns tree all differ cut searched;
+      records = valid_records c t states ns tree all differ cut;
+    } in
+    let fits = fit t tree states closed within.0 (firsts tree cut.halved) (reached_records c t states ns tree all differ cut searched) in
     record {
-      valid = record {
-        ordered = (tree_rises c t states ns tree all differ cut, cut.forks);
-        closed = closed;
-        initial = has_initial c t states ns tree all differ cut searched;
-        records = valid_records c t states ns tree all differ cut;
-      };
+      valid = valid;
       least = least;
-      within = within_limits c t states ns tree all differ cut (omega (arith, few, small));
+      within = within;
       few = omega (arith, few, count);
       halved = cut.halved;
+      bytes = record { table = t; tree = tree; spelled = (fits, refl); within = within; valid = valid };
     }

@@ -12,9 +12,7 @@ use Rattle.tso_explore.specs.declared.first.First.{First}
 use Rattle.tso_explore.specs.declared.first.First.TheVariants as firsts
 use Rattle.tso_explore.specs.declared.origin.Origin.{Origin}
 use Rattle.tso_explore.specs.declared.outcome.Outcome.TheVariants as found
-use Rattle.tso_fifo.specs.Orders.{HasOrder}
 use Rattle.tso_foot.specs.declared.table.Table.{Table}
-use Rattle.tso_judge.specs.Conditions.{HasNoStopped}
 use Rattle.tso_prog.specs.declared.client.Client.{Client}
 use Rattle.tso_state.specs.declared.state.State.{State}
 use Rattle.tso_store.specs.Sheets.{Sheet}
@@ -32,9 +30,9 @@ all_good_one c states x s only at good n t here = by n (subst (λ (xs : List Sta
 
 -- the initial state is judged
 pub first_judged : {E : Type 0} (c : Client) (states : List State) (s : State) → slice_get states 0 ≡ Some s → IsStarted c states → (r : Result Bool E)
-    → IfOk r (λ good. good ≡ true → HasNoStopped s × HasOrder c.mode c.capacity s.history) → IfOk r (λ good. good ≡ false → IsBad c s)
+    → IfOk r (λ good. good ≡ true → IsGood c s) → IfOk r (λ good. good ≡ false → IsBad c s)
     → IfOk r (λ good. MatchBool good (AllGood c states) (IsBadAt c states 0))
-first_judged c states s at started (Ok true) good bad = let (unstopped, explained) = good refl in all_good_one c states started.initial s started.only at (record { unstopped = unstopped; explained = explained })
+first_judged c states s at started (Ok true) good bad = all_good_one c states started.initial s started.only at (good refl)
 first_judged c states s at started (Ok false) good bad = record { state = s; at = at; bad = bad refl }
 first_judged c states s at started (Err e) good bad = tt
 

@@ -367,7 +367,7 @@ pub good_with : (c : Client) (old new : List State) (n m : ℕ) (a : Actor) → 
 good_with c old new n m a s good one k x at =
     of_longer old s.to x k (subst (λ (xs : List State). slice_get xs k ≡ Some x) s.grown at) (λ before. good k x before) (λ last same.
     let here : one.state ≡ x = same_Some one.state x (sym one.at ∙ new_at c old new n m a s ∙ ap Some same) in
-    subst (IsGood c) here (record { unstopped = one.unstopped; explained = one.explained }))
+    subst (IsGood c) here one.good)
 
 pub good_as : (c : Client) (old new : List State) → AllGood c old → new ≡ old → AllGood c new
 good_as c old new good same = subst (AllGood c) (sym same) good
@@ -540,8 +540,8 @@ closed_end c t states n s here is good x at =
     let one : good.state ≡ s = same_Some good.state s (sym good.at ∙ here) in
     let this : IsWorked c t states s = record {
       moves = nobody_followed c t s states is;
-      unstopped = λ over. subst HasNoStopped one good.unstopped;
-      explained = λ over. subst (λ (y : State). HasOrder c.mode c.capacity y.history) one good.explained;
+      unstopped = λ over. subst HasNoStopped one good.good.unstopped;
+      explained = λ over. subst (λ (y : State). HasOrder c.mode c.capacity y.history) one good.good.explained;
     } in
     subst (IsWorked c t states) (same_Some s x (sym here ∙ at)) this
 

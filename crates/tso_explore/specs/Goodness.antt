@@ -4,7 +4,6 @@ use Rattle.tso_compact.specs.Plans.{IsStep}
 use Rattle.tso_compact.specs.declared.sort.StepKind.{StepKind}
 use Rattle.tso_compact.specs.declared.sort.StepKind.TheVariants as kinds
 use Rattle.tso_fifo.specs.Orders.{HasOrder}
-use Rattle.tso_hist.specs.Views.{history_view}
 use Rattle.tso_judge.specs.Conditions.{HasNoStopped}
 use Rattle.tso_prog.specs.declared.client.Client.{Client}
 use Rattle.tso_state.specs.declared.actor.Actor.{Actor}
@@ -22,16 +21,15 @@ AllGood c states = (n : ℕ) (s : State) → slice_get states n ≡ Some s → I
 abbrev pub AllGoodBelow : Client → List State → ℕ → Type 0
 AllGoodBelow c states m = (n : ℕ) (s : State) → n < m → slice_get states n ≡ Some s → IsGood c s
 
--- a step of this kind begins a call or returns
-abbrev pub is_logged : Option StepKind → Bool
-is_logged None = false
-is_logged (Some kinds.Call) = true
-is_logged (Some kinds.Return) = true
-is_logged (Some _) = false
+-- a step of this kind returns from a call
+abbrev pub is_return : Option StepKind → Bool
+is_return None = false
+is_return (Some kinds.Return) = true
+is_return (Some _) = false
 
--- the actor's step from s leaves the calls as they are
-abbrev pub IsUnlogged : Client → State → Actor → Type 0
-IsUnlogged c s a = (t : State) → IsStep c s a t → history_view t.history ≡ history_view s.history
+-- where an order explains the calls of s, one explains those after the actor's step
+abbrev pub StaysExplained : Client → State → Actor → Type 0
+StaysExplained c s a = (t : State) → IsStep c s a t → HasOrder c.mode c.capacity s.history → HasOrder c.mode c.capacity t.history
 
 -- state number known, which has a lower number, has the history of state number new
 pub record IsKnown (states : List State) (known new : ℕ) : Type 0 where

@@ -6,7 +6,7 @@ use Rattle.tso_choose.specs.Sets.{actor_at}
 use Rattle.tso_choose.specs.declared.choice.Choice.{Choice}
 use Rattle.tso_compact.specs.Laws.{initial_of}
 use Rattle.tso_compact.specs.Plans.{HasStep}
-use Rattle.tso_explore.specs.Goodness.{AllGood}
+use Rattle.tso_explore.specs.Goodness.{AllGood, IsGood}
 use Rattle.tso_explore.specs.Reached.{AllMet, AreOrigins, IsBadAt, IsReached}
 use Rattle.tso_explore.specs.declared.origin.Origin.{Origin}
 use Rattle.tso_explore.specs.declared.stop.Stop.{Stop}
@@ -68,12 +68,11 @@ IsStop c limit states origins (stops.Violation n) = IsBegun c states origins × 
 IsStop c limit states origins stops.Limit = HasMore c limit
 IsStop c limit states origins stops.Memory = Unit {0}
 
--- in state number n no thread is stopped, and an order explains the calls
+-- state number n is a good one
 pub record IsGoodAt (c : Client) (states : List State) (n : ℕ) : Type 0 where
   pub state : State
   pub at : slice_get states n ≡ Some state
-  pub unstopped : HasNoStopped state
-  pub explained : HasOrder c.mode c.capacity state.history
+  pub good : IsGood c state
 
 -- a search stops at state number n, which is bad, or for want of memory
 abbrev pub IsStopAt : Client → List State → ℕ → Stop → Type 0

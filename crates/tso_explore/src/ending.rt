@@ -1,9 +1,9 @@
 //! Whether the runs to a state are good.
 
 ghost use Rattle.std.specs.Prelude.{◌≡◌, true, false, IfOk, MatchBool};
+ghost use Rattle.tso_explore.specs.Goodness.{IsGood};
 ghost use Rattle.tso_explore.specs.Reached.{IsBad};
 ghost use Rattle.tso_fifo.specs.Orders.{HasOrder};
-ghost use Rattle.tso_judge.specs.Conditions.{HasNoStopped};
 
 use std::alloc::{AllocError, Global};
 use tso_fifo::linearize;
@@ -22,7 +22,7 @@ pub fn has_order(alloc: Global, checked: &Checked, state: &State) -> Result<bool
 
 /// Whether no fault has stopped a thread of the state, and an order explains its calls.
 pub fn is_good(alloc: Global, checked: &Checked, state: &State) -> Result<bool, AllocError>
-    ensures good { IfOk result (λ good. good ≡ true → HasNoStopped state.now × HasOrder checked.now.client.mode checked.now.client.capacity state.now.history) }
+    ensures good { IfOk result (λ good. good ≡ true → IsGood checked.now.client state.now) }
     ensures bad { IfOk result (λ good. good ≡ false → IsBad checked.now.client state.now) }
 {
     if !has_no_stopped(state) {

@@ -32,6 +32,7 @@ use tso_flow::Checked;
 use tso_foot::{Table, build};
 use tso_machine::thread_count;
 use tso_pool::{Ending, search as search_together};
+use tso_range::certificates_fit;
 use tso_state::initial_state;
 use tso_store::{AddError, Store};
 use tso_table::Kept;
@@ -75,6 +76,7 @@ fn certificate_of(
     ensures { IfOk result (IsOutcome checked.now.client limit) }
 {
     store.states_differ();
+    certificates_fit(checked);
     let numbers = store.rising(alloc)?;
     let cert = cut(alloc, checked, &table, store, numbers.as_slice())?;
     Ok(Outcome::Certificate(table, cert))
@@ -99,6 +101,7 @@ fn certificate_by<R: Threads + Sync>(
     ensures { IfOk result (IsOutcome checked.now.client limit) }
 {
     store.states_differ();
+    certificates_fit(checked);
     let rising = store.rising(alloc)?;
     let cert = cut_by(
         rt,
@@ -126,9 +129,7 @@ fn short_trace(
     ensures { IfOk result (IsTraceOf checked.now.client) }
 {
     let trace = trace_to(alloc, checked, store, origins, number)?;
-    let long = trace;
-    let short = shortened(alloc, checked, long, thread_count(&checked.client))?;
-    Ok(short)
+    shortened(alloc, checked, trace, thread_count(&checked.client))
 }
 
 // Whether the runs to the initial state are good.
@@ -372,12 +373,14 @@ fn found_from<R: Wait, W: Watch>(
     }
 }
 
-// What the first states and hunts tell, where there is memory.
-fn found_first<R: Wait>(
+// What the first states and hunts tell, where there is memory. The watch hears of them at their end alone, and only where that is the
+// answer.
+fn found_first<R: Wait, W: Watch>(
     rt: &R,
     alloc: Global,
     checked: &Checked,
     limit: u32,
+    watch: &W,
 ) -> Result<Option<Outcome>, AllocError>
     requires { limit ≤ 4194304 }
     ensures { IfOk result (λ found. IfSome found (IsOutcome checked.now.client limit)) }
@@ -401,7 +404,10 @@ fn found_first<R: Wait>(
         limit,
         &NoWatch,
     )? {
-        First::Found(outcome) => Ok(Some(outcome)),
+        First::Found(outcome) => {
+            watch.met(store.len() as u64, 0);
+            Ok(Some(outcome))
+        }
         First::GoesOn(_) => Ok(None),
     }
 }
@@ -517,6 +523,7 @@ fn found_together<R: Threads + Sync>(
             None => Ok(None),
         },
         Ending::Full(kept) => over_with(alloc, checked, store, &kept, limit),
+        Ending::Astray => Ok(None),
         Ending::Memory => Err(AllocError),
     }
 }
@@ -577,7 +584,7 @@ fn explored_by<R: Threads + Wait + Sync, W: Watch + Sync>(
     if count < 2 || count > 64 {
         return explored(rt, alloc, checked, limit, watch);
     }
-    if let Some(outcome) = found_first(rt, alloc, checked, limit)? {
+    if let Some(outcome) = found_first(rt, alloc, checked, limit, watch)? {
         return Ok(outcome);
     }
     match explored_together(rt, alloc, checked, count, limit, watch)? {
@@ -587,8 +594,14 @@ fn explored_by<R: Threads + Wait + Sync, W: Watch + Sync>(
 }
 
 /// Searches the client's compact states from the initial one, following chosen actors alone (Godefroid 1996), with the least
-/// closed table of footprints: one worker by breadth, several together. Where several end without an answer, as where a table
-/// is not what it was made for, one searches anew.
+/// closed table of footprints. Of a certificate that it hands out the spelling is a valid certificate of the client.
+///
+/// One worker searches by breadth. Where 65,536 states do not end that, two short hunts look for a violation alone, one by breadth
+/// and one by depth, and the search goes on where they find none. Of a violation the shorter trace is handed out, with those
+/// labels left out that it does without.
+///
+/// Several workers search together where the caller, alone, has found no violation among the first states and by these hunts;
+/// the watch is then told of theirs. Where several end without an answer, as where a table is not what it was made for, one searches anew.
 pub fn explore<R: Threads + Wait + Sync, W: Watch + Sync>(
     rt: &R,
     alloc: Global,

@@ -1,7 +1,7 @@
 //! New states: whether the runs to them are still good.
 
 ghost use Rattle.std.specs.Prelude.{◌≡◌, ◌↔◌, ◌<◌, true, false, IfOk, IsTrue, MatchBool, length, slice_get};
-ghost use Rattle.tso_explore.specs.Goodness.{AllGoodBelow, HasOrderAt, HasNoOrderAt, IsKnown, IsUnlogged, is_logged};
+ghost use Rattle.tso_explore.specs.Goodness.{AllGoodBelow, HasOrderAt, HasNoOrderAt, IsKnown, StaysExplained, is_return};
 ghost use Rattle.tso_explore.specs.Reached.{IsBadAt};
 ghost use Rattle.tso_explore.specs.Searched.{IsGoodAt};
 ghost use Rattle.tso_store.specs.Sheets.{IsKeptSuccessor};
@@ -116,18 +116,19 @@ fn has_same_history<A: Viewed, B: Viewed>(a: &A, b: &B) -> bool
     true
 }
 
-// Whether a step of this kind begins a call or returns.
-fn is_logged(kind: Option<StepKind>) -> bool
-    ensures { result ≡ is_logged kind }
+// Whether a step of this kind returns from a call.
+fn is_return(kind: Option<StepKind>) -> bool
+    ensures { result ≡ is_return kind }
 {
-    matches!(kind, Some(StepKind::Call | StepKind::Return))
+    matches!(kind, Some(StepKind::Return))
 }
 
-// Whether the actor's step leaves the calls as they are.
-fn is_unlogged<S: Viewed>(checked: &Checked, state: &S, actor: Actor) -> bool
-    ensures { result ≡ true → IsUnlogged checked.now.client (S.state state.now) actor }
+// Whether an order that explains the calls explains them after the actor's step: a call that begins is left out of it, and only an
+// answer asks for more.
+fn stays_explained<S: Viewed>(checked: &Checked, state: &S, actor: Actor) -> bool
+    ensures { result ≡ true → StaysExplained checked.now.client (S.state state.now) actor }
 {
-    !is_logged(kind(checked, state, actor))
+    !is_return(kind(checked, state, actor))
 }
 
 // Whether the history of state `new` is that of the state that is noted at its mark.
@@ -173,8 +174,8 @@ fn is_explained(
 }
 
 /// Whether the runs to state `new` are good, which the actor's step from state `number` has led to, where those to all states with
-/// lower numbers are: no fault has stopped a thread, and an order explains the calls. Of a step that neither begins a call nor
-/// returns the calls stay explained; a history is judged once, as long as it is noted.
+/// lower numbers are: no fault has stopped a thread, and an order explains the calls. Where no call returns they stay explained; a
+/// history is judged once, as long as it is noted.
 ///
 /// Errors: where a growth was refused.
 pub fn is_new_good(
@@ -200,7 +201,7 @@ pub fn is_new_good(
     if !has_no_stopped(&after) {
         return Ok(false);
     }
-    if is_unlogged(checked, &before, actor) {
+    if stays_explained(checked, &before, actor) {
         return Ok(true);
     }
     is_explained(alloc, checked, store, judged, new)

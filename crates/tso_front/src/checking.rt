@@ -8,6 +8,7 @@ ghost use Rattle.tso_front.specs.Statuses.{status_of_verdict};
 use crate::failure::{Failure, misused};
 use crate::files::Files;
 use crate::json::{json_argument, verdict_object};
+use crate::paths::read_apart;
 use crate::session::Session;
 use crate::variant::{Variant, variant_arguments, variant_of};
 use crate::words::program_argument;
@@ -75,12 +76,15 @@ pub fn workers_of<'a>(alloc: Global, matches: &ArgMatches<'a>) -> Result<Workers
 
 /// What the words of a check ask for.
 ///
-/// Errors: those of `workers_of`.
+/// Errors: those of `workers_of` and `read_apart`.
 pub fn check_of<'a>(alloc: Global, check: &ArgMatches<'a>) -> Result<Check<'a>, Failure> {
+    let program = check.get_str("FILE").unwrap_or("");
+    let cert = check.get_str("CERT").unwrap_or("");
+    read_apart(alloc, program, cert)?;
     Ok(Check {
-        program: check.get_str("FILE").unwrap_or(""),
+        program,
         variant: variant_of(check),
-        cert: check.get_str("CERT").unwrap_or(""),
+        cert,
         workers: workers_of(alloc, check)?,
         json: check.get_flag("json"),
     })

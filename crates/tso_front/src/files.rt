@@ -7,6 +7,9 @@ use std::alloc::Global;
 use std::io;
 use std::io::{ErrorKind, Read, Write};
 
+/// The name that stands for standard input where a file is read, and for standard output where one is written.
+pub const STREAM: &str = "-";
+
 /// Opens files.
 pub trait Files {
     type Reader: Read + Drop;
@@ -18,6 +21,15 @@ pub trait Files {
 
     /// Opens a file to be written anew.
     fn create(&mut self, path: &str) -> io::Result<Self::Writer>;
+
+    /// Whether something is at the path that is no ordinary file: a device, a pipe, a link, or standard output.
+    fn is_special(&mut self, path: &str) -> bool;
+
+    /// Gives a file another name. What had that name is gone.
+    fn rename(&mut self, from: &str, to: &str) -> io::Result<()>;
+
+    /// Takes a file away.
+    fn remove(&mut self, path: &str) -> io::Result<()>;
 
     /// Makes a folder.
     fn create_folder(&mut self, path: &str) -> io::Result<()>;

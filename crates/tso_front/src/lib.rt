@@ -3,10 +3,12 @@
 #![tactic(auto)]
 
 mod checking;
+mod draft;
 mod failure;
 mod files;
 mod host;
 mod json;
+mod paths;
 mod session;
 mod variant;
 mod words;
@@ -15,10 +17,12 @@ pub use checking::{
     Check, cert_argument, check_arguments, check_bytes, check_of, verdict_status, workers_argument,
     workers_of,
 };
+pub use draft::Draft;
 pub use failure::{Failure, cannot_read, cannot_write, misused};
-pub use files::{Files, read_up_to};
+pub use files::{Files, STREAM, read_up_to};
 pub use host::HostFiles;
 pub use json::{json_argument, json_line, number_or_null, verdict_object};
+pub use paths::{both_apart, read_apart, written_apart};
 pub use session::{Session, reported};
 pub use variant::{Variant, variant_arguments, variant_of};
 pub use words::{Ended, VERSION, ended_words, program_argument, started};

@@ -3,14 +3,15 @@
 ghost use Rattle.std.specs.Prelude.{◌≡◌, ◌≤◌, vec_len, IfOk};
 ghost use Rattle.tso_front.specs.Statuses.{status_of};
 
+use crate::draft::Draft;
 use crate::failure::{Failure, cannot_write};
 use crate::files::{Files, read_up_to};
 use crate::json::json_line;
 use crate::variant::Variant;
 use serde_json::Value;
 use std::alloc::Global;
-use std::fmt;
 use std::io::Write;
+use std::{fmt, io};
 
 /// A program text has at most 65,536 bytes, so one more shows that it is too long.
 pub const PROGRAM_BYTES: usize = 65_537;
@@ -84,21 +85,23 @@ impl<F: Files, O: Write, E: Write> Session<'_, '_, '_, F, O, E> {
         self.print(line.as_str())
     }
 
-    /// Writes a new file.
+    // Writes a file anew.
+    fn write_anew(&mut self, path: &str, bytes: &[u8]) -> io::Result<()> {
+        let mut file = self.files.create(path)?;
+        file.write_all(bytes)?;
+        file.flush()
+    }
+
+    /// Writes a new file. It has its name when it is whole; where it fails, what had that name is as it was.
     ///
     /// Errors: `CannotWrite` where the file failed; `Memory`.
     pub fn write(&mut self, path: &str, bytes: &[u8]) -> Result<(), Failure> {
-        let written = match self.files.create(path) {
-            Ok(mut file) => match file.write_all(bytes) {
-                Ok(()) => file.flush(),
-                Err(error) => Err(error),
-            },
-            Err(error) => Err(error),
-        };
-        match written {
+        let draft = Draft::of(self.alloc, self.files, path)?;
+        let written = match self.write_anew(draft.path(), bytes) {
             Ok(()) => Ok(()),
             Err(error) => Err(cannot_write(self.alloc, path, error.kind())),
-        }
+        };
+        draft.settle(self.alloc, self.files, written)
     }
 
     /// Has all that was written to standard output written out.

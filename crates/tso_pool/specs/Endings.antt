@@ -3,7 +3,7 @@ use Rattle.std.specs.Prelude.{◌⊎◌}
 use Rattle.tso_fifo.specs.Orders.{HasOrder}
 use Rattle.tso_judge.specs.Conditions.{HasNoStopped}
 use Rattle.tso_pool.specs.declared.ending.Ending.{Ending}
-use Rattle.tso_pool.specs.declared.ending.Ending.TheVariants.{Quiet, Violation, Full, Memory}
+use Rattle.tso_pool.specs.declared.ending.Ending.TheVariants.{Quiet, Astray, Violation, Full, Memory}
 use Rattle.tso_prog.specs.declared.client.Client.{Client}
 use Rattle.tso_state.specs.declared.state.State.{State}
 use Rattle.tso_table.specs.Leading.{IsKept}
@@ -15,6 +15,7 @@ IsBad c s = (HasNoStopped s → ⊥) ⊎ (HasOrder c.mode c.capacity s.history �
 -- a state that ends a worker is one that the client's steps reach, by the actors that are kept with it
 abbrev pub IsEndingOf : Client → Ending → Type 0
 IsEndingOf c Quiet = Unit {0}
+IsEndingOf c Astray = Unit {0}
 IsEndingOf c (Violation k) = IsKept c k × IsBad c k.state
 IsEndingOf c (Full k) = IsKept c k
 IsEndingOf c Memory = Unit {0}

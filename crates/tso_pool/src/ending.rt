@@ -6,8 +6,11 @@ use tso_table::Kept;
 /// How a worker ends.
 #[derive(Debug, Drop)]
 pub enum Ending {
-    /// Nothing was left to do, or another worker noted its end, or a table was of another search.
+    /// Nothing was left to do, or another worker noted its end.
     Quiet,
+    /// A shard, the budget or a successor was not where its number says. No run is known to meet that, and of what was searched
+    /// nothing follows.
+    Astray,
     /// A run to this state is not good: no actor has a step there, and a fault has stopped a thread or no order explains the
     /// calls.
     Violation(Kept),

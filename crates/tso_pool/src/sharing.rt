@@ -59,7 +59,7 @@ pub fn take<U: Search, E: Ledger, R: Wait, W: Watch>(
     ensures ending { IfErr result (IsEndingOf team.now.checked.now.client) }
 {
     let Some(cell) = team.shards.get(ticket.number.shard as usize) else {
-        return Err(Ending::Quiet);
+        return Err(Ending::Astray);
     };
     let mut shard = lock(cell, team.rt);
     shard.is_of(team.checked, team.table);
@@ -85,7 +85,7 @@ fn afford<U: Search, E: Ledger, R: Wait, W: Watch>(
     }
     let mut budget = lock(team.budget, team.rt);
     if !budget.is_for(team.limit) {
-        return Err(Ending::Quiet);
+        return Err(Ending::Astray);
     }
     Ok(shard.afford(&mut budget))
 }
@@ -207,11 +207,11 @@ fn place<U: Search, E: Ledger, R: Wait, W: Watch>(
 {
     let number = shard_of(state);
     let Some(cell) = team.shards.get(number as usize) else {
-        return Err(Ending::Quiet);
+        return Err(Ending::Astray);
     };
     let mut shard = lock(cell, team.rt);
     if shard.table().number() != number {
-        return Err(Ending::Quiet);
+        return Err(Ending::Astray);
     }
     shard.is_of(team.checked, team.table);
     match number_in(team, &mut shard, near, state, actors, fresh, share)? {
@@ -268,8 +268,7 @@ pub fn intern<U: Search, E: Ledger, R: Wait, W: Watch>(
     }
 }
 
-/// Files the end of a ticket's state, by one entry of its shard's log. False where the table is not ready for it: then nothing
-/// changes.
+/// Files the end of a ticket's state, by one entry of its shard's log. Where the table is not ready for it, nothing changes.
 pub fn file<U: Search, E: Ledger, R: Wait, W: Watch>(
     team: &Team<'_, '_, U, E, R, W>,
     number: Number,
@@ -277,26 +276,26 @@ pub fn file<U: Search, E: Ledger, R: Wait, W: Watch>(
     filed: Filed,
     near: &[Near],
     share: &mut Share<E>,
-) -> Result<bool, Ending>
+) -> Result<(), Ending>
     requires part { 0 < share.old.parts }
     requires end { IsEnd team.now.checked.now.client team.now.table.now state.now filed }
     requires near { AreNear team.now.checked.now.client number.shard state.now filed near.now }
     ensures parts { share.new.parts ≡ share.old.parts }
-    ensures counted { IfOk result (λ filed. MatchBool filed (share.new.amount ≡ share.old.amount + 1) (share.new.amount ≡ share.old.amount)) }
+    ensures counted { OnOk result (share.new.amount ≡ share.old.amount + 1) }
     ensures uncounted { OnErr result (share.new.amount ≡ share.old.amount) }
     ensures ending { IfErr result (IsEndingOf team.now.checked.now.client) }
 {
     let Some(cell) = team.shards.get(number.shard as usize) else {
-        return Ok(false);
+        return Err(Ending::Astray);
     };
     let mut shard = lock(cell, team.rt);
     if shard.table().number() != number.shard {
-        return Err(Ending::Quiet);
+        return Err(Ending::Astray);
     }
     shard.is_of(team.checked, team.table);
     match shard.finish(number.place, state, filed, near, share) {
-        Ok(()) => Ok(true),
-        Err(FinishError::NotReady) => Ok(false),
+        Ok(()) => Ok(()),
+        Err(FinishError::NotReady) => Err(Ending::Astray),
         Err(FinishError::Memory) => Err(Ending::Memory),
     }
 }

@@ -137,7 +137,7 @@ fn work_moves<U: Search, E: Ledger, R: Wait, W: Watch>(
     ensures parts { share.new.parts ≡ share.old.parts }
     ensures place { place_of seat.new ≡ place_of seat.old }
     ensures client { desk.new.client ≡ desk.old.client }
-    ensures counted { OnOk result (share.old.amount + length choices ≤ share.new.amount) }
+    ensures counted { OnOk result (share.new.amount ≡ share.old.amount + length choices + 1) }
     ensures ending { IfErr result (IsEndingOf team.now.checked.now.client) }
 {
     let own = number.shard;
@@ -148,8 +148,7 @@ fn work_moves<U: Search, E: Ledger, R: Wait, W: Watch>(
     let Some(state) = desk.view(held) else {
         unreachable!()
     };
-    file(team, number, &state, filed, near.as_slice(), share)?;
-    Ok(())
+    file(team, number, &state, filed, near.as_slice(), share)
 }
 
 // Files that an order explains the calls of a state in which no actor has a step.
@@ -165,14 +164,13 @@ fn file_order<U: Search, E: Ledger, R: Wait, W: Watch>(
     requires over { IsOver team.now.checked.now.client state.now }
     requires good { HasNoStopped state.now × IsExplained team.now.checked.now.client state.now (ends.Order order) }
     ensures parts { share.new.parts ≡ share.old.parts }
-    ensures counted { OnOk result (share.old.amount ≤ share.new.amount) }
+    ensures counted { OnOk result (share.new.amount ≡ share.old.amount + 1) }
     ensures ending { IfErr result (IsEndingOf team.now.checked.now.client) }
 {
     let end = End::Order(order);
     let numbers = Numbers::new(team.alloc);
     let filed = Filed { end, numbers };
-    file(team, number, state, filed, &[], share)?;
-    Ok(())
+    file(team, number, state, filed, &[], share)
 }
 
 // Works a state in which no actor has a step.
@@ -188,7 +186,7 @@ fn work_end<U: Search, E: Ledger, R: Wait, W: Watch>(
     requires there { held < length desk.now.states }
     requires over { IsOverAt team.now.checked.now.client desk.now.states held }
     ensures parts { share.new.parts ≡ share.old.parts }
-    ensures counted { OnOk result (share.old.amount ≤ share.new.amount) }
+    ensures counted { OnOk result (share.new.amount ≡ share.old.amount + 1) }
     ensures ending { IfErr result (IsEndingOf team.now.checked.now.client) }
 {
     let Some(kept) = desk.kept(team.alloc, held)? else {

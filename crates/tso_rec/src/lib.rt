@@ -15,5 +15,5 @@ pub use known::{Known, Shelf};
 pub use packed::Packed;
 pub use places::{Places, mark_of_front};
 pub use record::{End, Record};
-pub use shared::{Part, Shared, copy_all, copy_of, keep_all};
+pub use shared::{Part, Shared, copy_of, keep_all};
 pub use told::{Readable, Reader};

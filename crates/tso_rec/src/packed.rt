@@ -106,14 +106,6 @@ impl Packed {
         self.kept.as_slice()[k].end.get()
     }
 
-    /// Record `k`, as it is kept. It takes no memory.
-    pub fn kept(&self, k: usize) -> &Kept
-        requires { k < length self.now }
-        ensures { slice_get (states_of self.now) k ≡ Some (record_of result.now).state }
-    {
-        &self.kept.as_slice()[k]
-    }
-
     /// How the state of record `k` is ordered against a state. It takes no memory, and builds no state.
     pub fn compare(&self, k: usize, state: &State) -> Ordering
         requires { k < length self.now }

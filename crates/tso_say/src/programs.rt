@@ -1,8 +1,10 @@
 //! Why a program is refused.
 
+use crate::instead::put_instead;
 use crate::lines::{put_fault, put_meaning, put_number, put_read};
 use crate::page::Page;
 use crate::reading::{UnwrittenRead, location_word, unwritten};
+use crate::reason::put_reason;
 use std::alloc::{AllocError, Global};
 use tso_machine::procedure_of;
 use tso_prog::{Client, Code, Fault};
@@ -97,6 +99,8 @@ pub fn put_program(
         Code::E14 => put_flow(alloc, page, text, fault)?,
         _ => put_fault(alloc, page, text, fault)?,
     }
+    put_reason(alloc, page, text, fault)?;
+    put_instead(alloc, page, text, fault)?;
     let code = fault.code;
     put_meaning(alloc, page, format!(in alloc; "{code}")?.as_str())
 }

@@ -17,8 +17,8 @@ fn line_len(text: &[u8]) -> usize
     text.iter().take_while(|b| **b != b'\n').count()
 }
 
-// The first line, and what stands behind its newline.
-fn cut(text: &[u8]) -> Option<(&[u8], &[u8])>
+/// The first line, and what stands behind its newline.
+pub fn cut(text: &[u8]) -> Option<(&[u8], &[u8])>
     ensures some { IfSome result (λ x. lines_of text.now ≡ x.0.now ∷ lines_of x.1.now) }
     ensures none { IfNone result (lines_of text.now ≡ text.now ∷ []) }
 {

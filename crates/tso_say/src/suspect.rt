@@ -27,7 +27,8 @@ fn is_among(word: &[u8], list: &str) -> bool {
         .any(|known| known == word)
 }
 
-fn is_register(word: &[u8]) -> bool {
+/// Whether the word is a register's.
+pub fn is_register(word: &[u8]) -> bool {
     is_among(
         word,
         "rax|rbx|rcx|rdx|rsi|rdi|rbp|r8|r9|r10|r11|r12|r13|r14|r15",
@@ -43,7 +44,8 @@ fn takes_memory(word: &[u8]) -> bool {
     is_among(word, "mov|xchg|cmpxchg|xadd|lock")
 }
 
-fn is_mnemonic(word: &[u8]) -> bool {
+/// Whether instructions have this name.
+pub fn is_mnemonic(word: &[u8]) -> bool {
     is_jump(word)
         || takes_memory(word)
         || is_among(
@@ -96,6 +98,15 @@ fn misspelled(line: &[u8], tokens: &[Token]) -> Option<Token> {
     tokens.iter().copied().find(|token| {
         matches!(token.kind, TokenKind::Other)
             || is_number(*token) && !is_spelled(text(line, *token))
+    })
+}
+
+// The first word for memory that is not in small letters.
+fn capital(line: &[u8], tokens: &[Token]) -> Option<Token> {
+    tokens.iter().copied().find(|token| {
+        let word = text(line, *token);
+        (word.eq_ignore_ascii_case(b"ptr") || word.eq_ignore_ascii_case(b"qword"))
+            && !is_among(word, "ptr|qword")
     })
 }
 
@@ -224,12 +235,14 @@ fn too_long(tokens: &[Token]) -> Option<Token> {
 pub fn of_code(line: &[u8], tokens: &[Token], code: Code) -> Option<Token> {
     match code {
         Code::E01 | Code::E02 | Code::E08 => None,
-        Code::E03 => misspelled(line, tokens),
+        Code::E03 => misspelled(line, tokens)
+            .or(capital(line, tokens))
+            .or(first(tokens)),
         Code::E04 => unknown(line, tokens),
         Code::E05 => out_of_range(line, tokens),
         Code::E06 => name(line, tokens),
         Code::E07 => reference(tokens),
-        Code::E09 => too_long(tokens),
+        Code::E09 => too_long(tokens).or(first(tokens)),
         Code::E10 | Code::E11 | Code::E12 | Code::E14 => first(tokens),
         Code::E13 => named(line, tokens, b"bound"),
     }

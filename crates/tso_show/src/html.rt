@@ -1,6 +1,7 @@
 //! Memory, threads, labels, lines and calls of a page.
 
 use crate::escape::push_escaped;
+use crate::lanes::Lane;
 use std::alloc::{AllocError, Global};
 use tso_machine::{Label, thread_count};
 use tso_prog::{Array, Client};
@@ -67,9 +68,10 @@ pub fn put_memory(alloc: Global, page: &mut Vec<u8>, client: &Client) -> Result<
 pub fn put_threads(alloc: Global, page: &mut Vec<u8>, client: &Client) -> Result<(), AllocError> {
     put(page, "<div class=\"threads\">\n")?;
     for number in 0..thread_count(client) {
+        let lane = Lane::of(client, number);
         put_made(
             page,
-            format!(in alloc; "<div class=\"thread\"><h3>Thread {number}</h3>"),
+            format!(in alloc; "<div class=\"thread\"><h3>{lane}</h3>"),
         )?;
         put(
             page,

@@ -4,6 +4,7 @@ use crate::call::{TimedCall, calls_in};
 use crate::html::{put, put_made};
 use crate::print::{Answered, Asked};
 use std::alloc::{AllocError, Global};
+use std::fmt;
 use tso_machine::{Label, LabelKind, thread_count};
 use tso_prog::Client;
 
@@ -59,6 +60,34 @@ fn class_of(kind: LabelKind) -> &'static str {
     }
 }
 
+/// Whose lane it is.
+#[derive(Clone, Copy, Debug)]
+pub enum Lane {
+    Thread(usize),
+    /// The thread of the prologue.
+    Before,
+}
+
+impl Lane {
+    /// The lane of a thread of the client.
+    pub fn of(client: &Client, thread: usize) -> Lane {
+        if thread < client.threads.len() {
+            Lane::Thread(thread)
+        } else {
+            Lane::Before
+        }
+    }
+}
+
+impl fmt::Display for Lane {
+    fn fmt<W: fmt::Write>(&self, f: &mut fmt::Formatter<W>) -> fmt::Result {
+        match self {
+            Lane::Thread(thread) => write!(f, "thread {thread}"),
+            Lane::Before => f.write_str("before"),
+        }
+    }
+}
+
 // Adds the beginning of a call's bar.
 fn put_bar(
     alloc: Global,
@@ -74,7 +103,7 @@ fn put_bar(
     put_made(
         page,
         format!(in alloc;
-            "<div class=\"{class}\" style=\"--from:{from};--to:{to}\" title=\"{call}\">"
+            "<div class=\"{class}\" style=\"--from:{from};--to:{to}\" title=\"{call}\"><span>"
         ),
     )
 }
@@ -100,7 +129,7 @@ fn put_call(
 ) -> Result<(), AllocError> {
     put_bar(alloc, page, call, count)?;
     put_asked(alloc, page, call)?;
-    put(page, "</div>\n")
+    put(page, "</span></div>\n")
 }
 
 fn put_calls(
@@ -156,13 +185,15 @@ fn put_stores(alloc: Global, page: &mut Vec<u8>, stores: &[Store]) -> Result<(),
 fn put_lane(
     alloc: Global,
     page: &mut Vec<u8>,
+    client: &Client,
     labels: &[Label],
     thread: usize,
 ) -> Result<(), AllocError> {
+    let lane = Lane::of(client, thread);
     put_made(
         page,
         format!(in alloc;
-            "<div class=\"lane\"><div class=\"who\">thread {thread}</div><div class=\"track\">\n"
+            "<div class=\"lane\"><div class=\"who\">{lane}</div><div class=\"track\">\n"
         ),
     )?;
     put_calls(alloc, page, labels, thread)?;
@@ -186,7 +217,10 @@ pub fn put_lanes(
         ),
     )?;
     for thread in 0..thread_count(client) {
-        put_lane(alloc, page, labels, thread)?;
+        put_lane(alloc, page, client, labels, thread)?;
     }
-    put(page, "<div id=\"here\"></div>\n</div></div>\n")
+    put(
+        page,
+        "<div id=\"fails\"></div><div id=\"here\"></div>\n</div></div>\n",
+    )
 }

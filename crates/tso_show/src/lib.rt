@@ -3,6 +3,7 @@
 //! which loads nothing from elsewhere.
 #![tactic(auto)]
 
+mod brief;
 mod buffer;
 mod call;
 mod data;
@@ -23,6 +24,7 @@ mod unordered;
 mod walk;
 mod why;
 
+pub use brief::print_brief;
 pub use buffer::{push_buffer, push_memory, push_origin};
 pub use call::{Returned, TimedCall, calls_in};
 pub use data::push_state_data;

@@ -4,9 +4,12 @@ use crate::data::{push_state_data, site_line};
 use crate::escape::{push_data, push_escaped};
 use crate::html::{put, put_labels, put_made, put_memory, put_source, put_threads};
 use crate::lanes::put_lanes;
-use crate::parts::{CALLS, CONTROLS, DATA, HEAD, HISTORY, LABELS, LANES, SCRIPT, STATE, STYLE};
-use crate::print::{ShowError, print_calls, print_order};
+use crate::parts::{
+    CALLS, CONTROLS, DATA, FAILS, HEAD, HISTORY, LABELS, LANES, SCRIPT, STATE, STYLE, WHY,
+};
+use crate::print::{ShowError, print_calls, print_cause, print_order};
 use crate::site::taker;
+use crate::unordered::{Served, ordered_part};
 use crate::walk::Walk;
 use std::alloc::{AllocError, Global};
 use tso_flow::Checked;
@@ -80,13 +83,49 @@ fn put_wrong(page: &mut Vec<u8>, wrong: Option<&str>) -> Result<(), AllocError> 
     }
 }
 
+// The label with which something is wrong with the run that a walk has taken: with which its calls have no order, or its last one.
+fn failing(alloc: Global, run: &Run<'_>, walk: &Walk<'_>) -> Result<usize, AllocError> {
+    if run.wrong.is_none() {
+        return Ok(0);
+    }
+    let labels = walk.taken();
+    match ordered_part(alloc, &walk.checked().client, labels)? {
+        Served::Whole(_) => Ok(labels.len()),
+        Served::Until { label, .. } => Ok(label),
+    }
+}
+
+// Adds what is wrong with the run, why, and with which label.
+fn put_cause(
+    alloc: Global,
+    page: &mut Vec<u8>,
+    run: &Run<'_>,
+    walk: &Walk<'_>,
+) -> Result<(), ShowError> {
+    put_wrong(page, run.wrong)?;
+    put(page, WHY)?;
+    let mut text = Vec::new(alloc);
+    print_cause(alloc, &mut text, walk)?;
+    push_escaped(page, &text)?;
+    put(page, FAILS)?;
+    let label = failing(alloc, run, walk)?;
+    put_made(page, format!(in alloc; "{label}"))?;
+    Ok(())
+}
+
 // Adds all that stands before the lanes.
-fn put_heading(alloc: Global, page: &mut Vec<u8>, run: &Run<'_>) -> Result<(), AllocError> {
+fn put_heading(
+    alloc: Global,
+    page: &mut Vec<u8>,
+    run: &Run<'_>,
+    walk: &Walk<'_>,
+) -> Result<(), ShowError> {
     let count = run.labels.len();
     put_title(page, run.name)?;
-    put_wrong(page, run.wrong)?;
+    put_cause(alloc, page, run, walk)?;
     put(page, CONTROLS)?;
-    put_made(page, format!(in alloc; "{count}\" value=\"{count}"))
+    put_made(page, format!(in alloc; "{count}\" value=\"{count}"))?;
+    Ok(())
 }
 
 // Adds the program and the labels.
@@ -124,7 +163,7 @@ fn put_page(
     walk: &Walk<'_>,
     data: &str,
 ) -> Result<(), ShowError> {
-    put_heading(alloc, page, run)?;
+    put_heading(alloc, page, run, walk)?;
     put_body(alloc, page, run)?;
     put_history(alloc, page, walk)?;
     put_data(page, data)?;

@@ -32,14 +32,15 @@ h1 { font-size: 1.35rem; margin: 1rem 0 .25rem; overflow-wrap: anywhere; }
 h2 { font-size: 1rem; margin: 0 0 .5rem; }
 h3 { font-size: .9rem; margin: 0 0 .35rem; }
 .wrong, .good { margin: 0 0 .75rem; font-weight: 600; }
-.wrong { color: var(--wrong); }
+.wrong { color: var(--wrong); margin-bottom: .25rem; }
+.why { margin: 0 0 .75rem; }
 code, pre, ol, .cell, .buffer, .registers, #now { font-family: ui-monospace, SFMono-Regular, Menlo, Consolas, 'DejaVu Sans Mono', monospace; font-size: .82rem; }
 section { background: var(--card); border: 1px solid var(--rule); border-radius: .5rem; padding: .75rem; min-width: 0; }
 main { display: grid; gap: .75rem; grid-template-columns: minmax(0, 1fr) minmax(0, 1fr); padding-bottom: 2rem; }
 .wide { grid-column: 1 / -1; }
 #controls { position: sticky; top: 0; z-index: 3; display: grid; gap: .4rem; }
-#controls div { display: flex; gap: .5rem; align-items: center; }
-#at { flex: 1; min-width: 4rem; height: 2rem; accent-color: var(--here); }
+#controls div { display: flex; flex-wrap: wrap; gap: .5rem; align-items: center; }
+#at { flex: 1 1 6rem; min-width: 4rem; height: 2rem; accent-color: var(--here); }
 #now { display: block; min-height: 1.3em; overflow-wrap: anywhere; }
 button { font: inherit; color: inherit; background: var(--paper); border: 1px solid var(--rule); border-radius: .35rem; min-width: 2.4rem; min-height: 2.2rem; cursor: pointer; }
 button:focus-visible, input:focus-visible, .scroll:focus-visible { outline: 2px solid var(--here); outline-offset: 1px; }
@@ -49,15 +50,21 @@ button:focus-visible, input:focus-visible, .scroll:focus-visible { outline: 2px 
 .who { position: sticky; left: 0; z-index: 2; flex: none; width: 5.5rem; background: var(--card); font-weight: 600; font-size: .85rem; }
 .track { position: relative; flex: none; width: calc(var(--count) * var(--step)); height: calc(2.3rem + var(--rows) * .55rem); }
 .bar, .store, .tick { position: absolute; left: calc((var(--from) - 1) * var(--step)); }
-.bar { top: 0; height: 1.35rem; width: calc((var(--to) - var(--from) + 1) * var(--step)); padding: 0 .3rem; border-radius: .25rem; background: var(--call); color: var(--call-ink); font-size: .75rem; line-height: 1.35rem; white-space: nowrap; overflow: hidden; text-overflow: ellipsis; }
+.bar { top: 0; height: 1.35rem; width: calc((var(--to) - var(--from) + 1) * var(--step)); padding: 0 .3rem; border-radius: .25rem; background: var(--call); color: var(--call-ink); font-size: .75rem; line-height: 1.35rem; white-space: nowrap; overflow: clip; }
+.bar span { position: sticky; left: 5.8rem; }
+.bar.fails { background: var(--wrong); color: var(--card); }
 .open { border-top-right-radius: 0; border-bottom-right-radius: 0; opacity: .75; }
 .tick { top: 1.5rem; width: calc(var(--step) - 2px); height: .5rem; margin-left: 1px; background: var(--rule); border-radius: 1px; }
 .read { background: var(--soft); } .write, .drain { background: var(--store); } .fault { background: var(--wrong); }
 .fence, .lock, .unlock { background: var(--here); } .call, .return { background: var(--call); }
 .store { top: calc(2.15rem + var(--row) * .55rem); height: .4rem; width: calc((var(--to) - var(--from) + 1) * var(--step)); background: var(--store); border-radius: .2rem; }
+#fails { position: absolute; top: 0; bottom: 0; left: calc(5.5rem + var(--at) * var(--step)); border-left: 2px dashed var(--wrong); pointer-events: none; }
+.store.unseen { outline: 2px solid var(--here); outline-offset: 1px; }
+.buffer li.unseen { border-color: var(--here); border-width: 2px; }
 #here { position: absolute; top: 0; bottom: 0; left: calc(5.5rem + var(--at) * var(--step)); border-left: 2px solid var(--here); pointer-events: none; }
 .key { margin: .5rem 0 0; color: var(--soft); font-size: .8rem; }
 .key span { white-space: nowrap; }
+.key b.unseen { outline: 2px solid var(--here); outline-offset: 1px; }
 .key b { display: inline-block; width: .9rem; height: .5rem; border-radius: .15rem; margin: 0 .2rem 0 .6rem; }
 #memory p { margin: 0 0 .4rem; display: flex; gap: .6rem; align-items: center; flex-wrap: wrap; }
 #memory .name { min-width: 4rem; font-weight: 600; font-size: .85rem; }
@@ -75,10 +82,24 @@ button:focus-visible, input:focus-visible, .scroll:focus-visible { outline: 2px 
 .scroll li { display: flex; gap: .6rem; white-space: pre; padding: 0 .35rem; min-height: 1.35rem; border-left: 3px solid transparent; }
 .scroll li > span:first-child { flex: none; min-width: 2.2rem; text-align: right; color: var(--soft); }
 #labels li { cursor: pointer; }
+.brief .tick.reg, .brief #labels li.reg { display: none; }
+#labels li.fails { color: var(--wrong); font-weight: 600; }
+#controls label { display: flex; gap: .35rem; align-items: center; white-space: nowrap; }
+#marks { flex: none; }
 .scroll li.now { background: var(--mark); border-left-color: var(--here); }
 .scroll li[data-next]::after { content: attr(data-next); margin-left: auto; position: sticky; right: 0; padding: 0 .2rem 0 .8rem; background: var(--card); color: var(--here); font-weight: 600; }
 pre { margin: 0; white-space: pre-wrap; overflow-wrap: anywhere; }
-@media (max-width: 48rem) {
+@media print {
+  :root { --paper: #ffffff; --card: #ffffff; --ink: #000000; --soft: #333333; --rule: #999999; --mark: #eeeeee; }
+  * { print-color-adjust: exact; -webkit-print-color-adjust: exact; }
+  main { display: block; }
+  section { break-inside: avoid-page; margin-bottom: .5rem; }
+  section:has(.scroll) { break-inside: auto; }
+  #controls { position: static; } #controls div { display: none; }
+  .scroll { max-height: none; overflow: visible; }
+  #lanes { overflow: visible; --step: calc((100vw - 9rem) / var(--count)); }
+}
+@media screen and (max-width: 48rem) {
   main { grid-template-columns: minmax(0, 1fr); }
   header, main { padding-left: .5rem; padding-right: .5rem; }
   .scroll { max-height: 16rem; }
@@ -90,20 +111,29 @@ pre { margin: 0; white-space: pre-wrap; overflow-wrap: anywhere; }
 <header>
 <h1>Replay of <code>";
 
-/// Between what is wrong with the run and the slider's range.
-pub const CONTROLS: &str = "</p>
+/// Between what is wrong with the run and why it is.
+pub const WHY: &str = "</p>
+<pre class=\"why\">";
+
+/// Between why it is and the label with which it is.
+pub const FAILS: &str = "</pre>
 </header>
-<main>
+<main data-fails=\"";
+
+/// Between that label and the slider's range.
+pub const CONTROLS: &str = "\">
 <section id=\"controls\" class=\"wide\" aria-label=\"Place in the run\">
 <div>
 <button id=\"first\" aria-label=\"Before the first label\" title=\"Home\">&#124;&lt;</button>
 <button id=\"back\" aria-label=\"One label back\" title=\"Left arrow\">&lt;</button>
-<input id=\"at\" type=\"range\" min=\"0\" step=\"1\" aria-label=\"Labels taken\" max=\"";
+<input id=\"at\" type=\"range\" min=\"0\" step=\"1\" aria-label=\"Labels taken\" list=\"marks\" max=\"";
 
 /// Between the slider and the lanes.
 pub const LANES: &str = "\">
 <button id=\"next\" aria-label=\"One label forward\" title=\"Right arrow\">&gt;</button>
 <button id=\"last\" aria-label=\"After the last label\" title=\"End\">&gt;&#124;</button>
+<label><input id=\"brief\" type=\"checkbox\"> hide reg</label>
+<datalist id=\"marks\"></datalist>
 </div>
 <output id=\"now\" aria-live=\"polite\"></output>
 </section>
@@ -113,7 +143,7 @@ pub const LANES: &str = "\">
 
 /// Between the lanes and memory.
 pub const STATE: &str =
-    "<p class=\"key\"><span><b class=\"call\"></b>call</span> <span><b class=\"read\"></b>read</span> <span><b class=\"write\"></b>store, from its write to its drain</span> <span><b class=\"fence\"></b>fence or lock</span></p>
+    "<p class=\"key\"><span><b class=\"call\"></b>call</span> <span><b class=\"read\"></b>read</span> <span><b class=\"write\"></b>store, from its write to its drain</span> <span><b class=\"write unseen\"></b>one that this read passes by</span> <span><b class=\"fence\"></b>fence or lock</span></p>
 </section>
 <section aria-labelledby=\"h-state\">
 <h2 id=\"h-state\">Memory and store buffers, the oldest store first</h2>
@@ -162,7 +192,54 @@ pub const SCRIPT: &str = "]</script>
   const source = [...id('source').children];
   const slider = id('at');
   const lanes = id('lanes');
+  const tracks = [...document.querySelectorAll('.track')];
+  const brief = id('brief');
+  const fails = Number(document.querySelector('main').dataset.fails);
   let at = -1;
+
+  const textOf = (k) => labels[k - 1].lastElementChild.textContent;
+  const number = (item, name) => Number(item.style.getPropertyValue(name));
+  const isReg = (k) => k > 0 && k < last && / reg$/.test(textOf(k));
+  labels.forEach((item, k) => item.classList.toggle('reg', isReg(k + 1)));
+  if (fails > 0) {
+    labels[fails - 1].classList.add('fails');
+    for (const bar of document.querySelectorAll('.bar:not(.open)')) {
+      bar.classList.toggle('fails', number(bar, '--to') === fails);
+    }
+    id('fails').style.setProperty('--at', String(fails));
+    const option = document.createElement('option');
+    option.value = String(fails);
+    id('marks').append(option);
+  } else {
+    id('fails').remove();
+  }
+
+  // The next label in a direction, which is no step between registers where these are hidden.
+  const step = (by) => {
+    let k = at + by;
+    while (brief.checked && k > 0 && k < last && isReg(k)) { k += by; }
+    return k;
+  };
+
+  // The stores that a read of memory passes by, since other threads have them in their buffers.
+  const unseen = (k) => {
+    for (const item of document.querySelectorAll('.store.unseen, li.unseen')) { item.classList.remove('unseen'); }
+    const read = k > 0 ? /^\\d+ read (\\S+) = /.exec(textOf(k)) : null;
+    if (!read) { return; }
+    const [actor, , state] = steps[k];
+    const named = (entry) => cells[entry[0]].title === read[1];
+    const entries = (t) => state[t + 1][1].slice(1);
+    if (entries(actor).some(named)) { return; }
+    threads.forEach((box, t) => {
+      const bars = [...tracks[t].querySelectorAll('.store')].filter((bar) => number(bar, '--from') <= k && (number(bar, '--to') > k || k === last));
+      entries(t).forEach((entry, place) => {
+        if (!named(entry)) { return; }
+        box.querySelectorAll('.buffer li')[place].classList.add('unseen');
+        const bar = bars.slice(-entries(t).length)[place];
+        if (bar) { bar.classList.add('unseen'); }
+      });
+    });
+  };
 
   const within = (box, item) => {
     box.scrollTop = item.offsetTop - box.offsetTop - (box.clientHeight - item.offsetHeight) / 2;
@@ -227,6 +304,8 @@ pub const SCRIPT: &str = "]</script>
     id('now').textContent = k + ' of ' + last + ': ' + text;
     slider.value = String(k);
     slider.setAttribute('aria-valuetext', id('now').textContent);
+    unseen(k);
+    history.replaceState(null, '', '#' + k);
     const here = id('here');
     here.style.setProperty('--at', String(k));
     const left = here.offsetLeft - lanes.clientWidth / 2;
@@ -235,18 +314,20 @@ pub const SCRIPT: &str = "]</script>
 
   slider.addEventListener('input', () => show(Number(slider.value)));
   id('first').addEventListener('click', () => show(0));
-  id('back').addEventListener('click', () => show(at - 1));
-  id('next').addEventListener('click', () => show(at + 1));
+  id('back').addEventListener('click', () => show(step(-1)));
+  id('next').addEventListener('click', () => show(step(1)));
+  brief.addEventListener('change', () => document.body.classList.toggle('brief', brief.checked));
   id('last').addEventListener('click', () => show(last));
   labels.forEach((item, number) => item.addEventListener('click', () => show(number + 1)));
-  const keys = { ArrowLeft: () => at - 1, ArrowRight: () => at + 1, Home: () => 0, End: () => last };
+  const keys = { ArrowLeft: () => step(-1), ArrowRight: () => step(1), Home: () => 0, End: () => last };
   document.addEventListener('keydown', (event) => {
     if (event.target === slider || event.altKey || event.ctrlKey || event.metaKey || !keys[event.key]) { return; }
     event.preventDefault();
     show(keys[event.key]());
   });
   const asked = Number(location.hash.slice(1));
-  show(location.hash !== '' && Number.isInteger(asked) ? asked : last);
+  show(location.hash !== '' && Number.isInteger(asked) ? asked : fails > 0 ? fails : last);
+  addEventListener('hashchange', () => show(Number(location.hash.slice(1)) || 0));
 })();
 </script>
 </body>

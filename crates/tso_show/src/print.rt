@@ -143,8 +143,8 @@ fn put_site<W: Write>(
     }
 }
 
-// Prints a label behind its number, and the instruction that takes it where that is asked for.
-fn put_label<W: Write>(
+/// Prints a label behind its number, and the instruction that takes it where that is asked for.
+pub fn put_label<W: Write>(
     alloc: Global,
     out: &mut W,
     source: &[u8],
@@ -160,8 +160,8 @@ fn put_label<W: Write>(
     }
 }
 
-// Prints a label behind its number, and what is shown beside and after it.
-fn put_moment<W: Write>(
+/// Prints a label behind its number, and what is shown beside and after it.
+pub fn put_moment<W: Write>(
     alloc: Global,
     out: &mut W,
     client: &Client,

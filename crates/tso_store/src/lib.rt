@@ -10,7 +10,6 @@ mod lookup;
 mod moved;
 mod numbered;
 mod orders;
-mod packed;
 mod parts;
 mod rank_rows;
 mod ranking;

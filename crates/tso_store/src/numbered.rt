@@ -2,7 +2,6 @@
 ghost use Rattle.std.specs.Prelude.{◌≡◌, ◌↔◌, ◌+◌, ◌<◌, ◌≤◌, ◌^◌, List, [], length, Some, None, Err, IfOk, OnErr, OnOk, IfSome, MatchOption, slice_get};
 ghost use Rattle.tso_parts.specs.Numbers.{IsNumbered, IsNowhere};
 ghost use Rattle.tso_parts.specs.declared.refused.Refused.TheVariants as reasons;
-ghost use Rattle.tso_rec.specs.Keeping.{record_of};
 ghost use Rattle.tso_store.specs.Keys.{AreKept, FitsClient, states_at};
 ghost use Rattle.tso_store.specs.Orders.{IsCompared, IsRising};
 ghost use Rattle.tso_store.specs.Sheets.{CanStep, IsAdded, IsFound, IsSuccessorOrNone};
@@ -14,7 +13,6 @@ use crate::kept::{find_key, fits_client, key_of};
 use crate::key::{Key, NO_KEY};
 use crate::known::{Known, learn_runs};
 use crate::moved::{add_keys, add_parts};
-use crate::packed::{kept_fits_client, key_of_kept};
 use crate::parts::Parts;
 use crate::ranking::{compare_at, key_at, rising};
 use crate::ranks::{Ranks, ranks_of};
@@ -29,7 +27,6 @@ use std::marker::Model;
 use tso_flow::Checked;
 use tso_list::Seq;
 use tso_parts::{Catalog, Pool, Refused};
-use tso_rec::Kept;
 use tso_state::{Actor, State};
 
 /// A client and its states, numbered from 0 in the order in which they came. A state's number stays as more come.
@@ -51,18 +48,6 @@ impl<'a> Model for Store<'a> {
     ghost view = { λ s. record { client = s.checked.now.client; states = states_at s.parts s.keys; kept = part_count s.parts + length s.keys } };
 
     ghost invariant = { λ s. IsSheet s.checked.now.client s.parts s.keys s.known };
-}
-
-// The numbers of the last state's parts; those of nothing where there is no state.
-fn last_key(keys: &Pool<Key>) -> Key {
-    let count = keys.len();
-    if count == 0 {
-        return NO_KEY;
-    }
-    match keys.get((count - 1) as u32) {
-        Some(key) => *key,
-        None => NO_KEY,
-    }
 }
 
 impl<'a> Store<'a> {
@@ -149,31 +134,6 @@ impl<'a> Store<'a> {
             return Err(AddError::Misfit);
         }
         let key = key_of(&mut self.parts, state)?;
-        self.parts.threads.is_numbered();
-        self.parts.memories.is_numbered();
-        self.parts.histories.is_numbered();
-        let result = self.keys.add(key)?;
-        Ok(result)
-    }
-
-    /// The number of a record's state, and whether it is new; it is kept then. It is as `add` of that state, which is not made;
-    /// its parts are looked for first where the last state has its own, so that it is fast behind a state that shares them.
-    ///
-    /// Errors: as for `add`.
-    pub fn add_kept(&mut self, alloc: Global, kept: &Kept) -> Result<(u32, bool), AddError>
-        ensures added { IfOk result (IsAdded self.old.states self.new.states (record_of kept.now).state) }
-        ensures err { OnErr result (self.new.states ≡ self.old.states) }
-        ensures absent { OnErr result (IsNowhere self.old.states (record_of kept.now).state) }
-        ensures full { result ≡ Err errors.Full → 4294967295 ≤ self.new.kept }
-        ensures more { self.new.kept ≤ self.old.kept + 8 }
-        ensures misfit { (result ≡ Err errors.Misfit) ↔ (FitsClient self.old.client (record_of kept.now).state → ⊥) }
-        ensures client { self.new.client ≡ self.old.client }
-    {
-        if !kept_fits_client(&self.checked.client, kept) {
-            return Err(AddError::Misfit);
-        }
-        let near = last_key(&self.keys);
-        let key = key_of_kept(alloc, &mut self.parts, &near, kept)?;
         self.parts.threads.is_numbered();
         self.parts.memories.is_numbered();
         self.parts.histories.is_numbered();

@@ -124,13 +124,6 @@ impl<'a> Table<'a> {
         let _open = self.unfinished;
     }
 
-    /// The place of a state, if it has one. It takes no memory.
-    pub fn find(&self, state: &State) -> Option<u32>
-        ensures { MatchOption result (IsNowhere self.now.rows.states state.now) (λ n. slice_get self.now.rows.states n ≡ Some state.now) }
-    {
-        self.store.find(state)
-    }
-
     /// A copy of the state at a place, if there are so many, with the actors that lead to it.
     ///
     /// Errors: where a growth was refused.

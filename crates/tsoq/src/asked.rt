@@ -2,7 +2,7 @@
 
 use clap::{Arg, ArgAction, ArgMatches, Command};
 use std::alloc::{AllocError, Global};
-use tso_front::{Variant, variant_of};
+use tso_front::{Failure, Variant, read_apart, variant_of, written_apart};
 use tso_show::Show;
 
 /// Which trace is replayed, and what is shown of it.
@@ -15,6 +15,8 @@ pub struct Replay<'a> {
     pub to: Option<u64>,
     /// What is shown beside each label.
     pub show: Show,
+    /// Whether labels are printed in brief.
+    pub brief: bool,
     /// Whether the calls are shown with their answers, and how far they have an order.
     pub history: bool,
     /// Whether a run is also shown that is good.
@@ -33,7 +35,7 @@ impl Replay<'_> {
             registers,
             buffers,
         } = self.show;
-        !(source || registers || buffers || self.history)
+        !(source || registers || buffers || self.brief || self.history)
     }
 }
 
@@ -69,6 +71,11 @@ pub fn with_flags<'a>(alloc: Global, command: Command<'a>) -> Result<Command<'a>
         ))?
         .arg(flag(
             alloc,
+            "brief",
+            "prints no steps between registers, and a locked instruction as one line",
+        ))?
+        .arg(flag(
+            alloc,
             "history",
             "prints the calls with their answers, and how far they have an order",
         ))?
@@ -81,20 +88,29 @@ pub fn with_flags<'a>(alloc: Global, command: Command<'a>) -> Result<Command<'a>
 }
 
 /// What the words of the command ask for.
-pub fn replay_of<'a>(replay: &ArgMatches<'a>) -> Replay<'a> {
-    Replay {
-        program: replay.get_str("FILE").unwrap_or(""),
+///
+/// Errors: `Usage` where two of its files would be one; `Memory`.
+pub fn replay_of<'a>(alloc: Global, replay: &ArgMatches<'a>) -> Result<Replay<'a>, Failure> {
+    let program = replay.get_str("FILE").unwrap_or("");
+    let trace = replay.get_str("TRACE").unwrap_or("");
+    let html = replay.get_str("html");
+    read_apart(alloc, program, trace)?;
+    written_apart(alloc, html, program)?;
+    written_apart(alloc, html, trace)?;
+    Ok(Replay {
+        program,
         variant: variant_of(replay),
-        trace: replay.get_str("TRACE").unwrap_or(""),
+        trace,
         to: replay.get_one::<u64>("to"),
         show: Show {
             source: replay.get_flag("source"),
             registers: replay.get_flag("registers"),
             buffers: replay.get_flag("buffers"),
         },
+        brief: replay.get_flag("brief"),
         history: replay.get_flag("history"),
         partial: replay.get_flag("partial"),
-        html: replay.get_str("html"),
+        html,
         json: replay.get_flag("json"),
-    }
+    })
 }

@@ -1,6 +1,7 @@
 //! The words of the command line.
 
 use crate::asked::{Replay, replay_of, with_flags};
+use crate::fences::{FenceSearch, fence_search_of, fences_command};
 use crate::help;
 use crate::limit::StateLimit;
 use crate::parse::{Parsing, parse_command, parsing_of};
@@ -8,10 +9,11 @@ use crate::survey::{Survey, survey_command, survey_of};
 use clap::{Arg, ArgAction, ArgMatches, Command, value_parser};
 use std::alloc::{AllocError, Global};
 use tso_cert::Workers;
+use tso_coverage::{Covering, coverage_command, covering_of};
 use tso_front::{
-    Check, Ended, Failure, VERSION, Variant, cert_argument, check_arguments, check_of, ended_words,
-    json_argument, misused, program_argument, variant_arguments, variant_of, workers_argument,
-    workers_of,
+    Check, Ended, Failure, STREAM, VERSION, Variant, both_apart, cert_argument, check_arguments,
+    check_of, ended_words, json_argument, misused, program_argument, variant_arguments, variant_of,
+    workers_argument, workers_of, written_apart,
 };
 use tso_say::{Topic, find};
 
@@ -34,6 +36,13 @@ pub struct Search<'a> {
     pub json: bool,
 }
 
+impl Search<'_> {
+    /// Whether a file that it may write is standard output.
+    pub fn is_piped(&self) -> bool {
+        self.cert == Some(STREAM) || self.trace == Some(STREAM)
+    }
+}
+
 /// What the words ask for.
 #[derive(Debug, Drop)]
 pub enum Asked<'a> {
@@ -43,10 +52,14 @@ pub enum Asked<'a> {
     Verify(Search<'a>),
     /// The verdict on a certificate.
     Check(Check<'a>),
+    /// What the records of a certificate show.
+    Coverage(Covering<'a>),
     /// The replay of a trace.
     Replay(Replay<'a>),
     /// The search of all clients up to a size.
     Survey(Survey<'a>),
+    /// Which fences are needed, or would help.
+    Fences(FenceSearch<'a>),
     /// What is read of a program text.
     Parse(Parsing<'a>),
     /// What a code means.
@@ -170,8 +183,10 @@ fn command<'a>(alloc: Global) -> Result<Command<'a>, AllocError> {
         .subcommand_required(true)
         .subcommand(verify_command(alloc)?.arg(verbose(alloc))?)?
         .subcommand(check_command(alloc)?.arg(verbose(alloc))?)?
+        .subcommand(coverage_command(alloc)?.arg(verbose(alloc))?)?
         .subcommand(replay_command(alloc)?.arg(verbose(alloc))?)?
         .subcommand(survey_command(alloc, states(alloc))?.arg(verbose(alloc))?)?
+        .subcommand(fences_command(alloc, states(alloc))?.arg(verbose(alloc))?)?
         .subcommand(parse_command(alloc)?.arg(verbose(alloc))?)?
         .subcommand(explain_command(alloc)?)
 }
@@ -187,11 +202,16 @@ fn limit_of(alloc: Global, matches: &ArgMatches<'_>) -> Result<StateLimit, Failu
 fn search_of<'a>(alloc: Global, verify: &ArgMatches<'a>) -> Result<Search<'a>, Failure> {
     let workers = workers_of(alloc, verify)?;
     let limit = limit_of(alloc, verify)?;
+    let program = verify.get_str("FILE").unwrap_or("");
+    let (cert, trace) = (verify.get_str("out"), verify.get_str("trace"));
+    written_apart(alloc, cert, program)?;
+    written_apart(alloc, trace, program)?;
+    both_apart(alloc, cert, trace)?;
     Ok(Search {
-        program: verify.get_str("FILE").unwrap_or(""),
+        program,
         variant: variant_of(verify),
-        cert: verify.get_str("out"),
-        trace: verify.get_str("trace"),
+        cert,
+        trace,
         workers,
         limit,
         stats: verify.get_flag("stats"),
@@ -216,10 +236,15 @@ fn asked_of<'a>(alloc: Global, name: &str, found: &ArgMatches<'a>) -> Result<Ask
     match name {
         "verify" => Ok(Asked::Verify(search_of(alloc, found)?)),
         "check" => Ok(Asked::Check(check_of(alloc, found)?)),
-        "replay" => Ok(Asked::Replay(replay_of(found))),
+        "coverage" => Ok(Asked::Coverage(covering_of(alloc, found)?)),
+        "replay" => Ok(Asked::Replay(replay_of(alloc, found)?)),
         "survey" => {
             let limit = limit_of(alloc, found)?;
             Ok(Asked::Survey(survey_of(alloc, limit, found)?))
+        }
+        "fences" => {
+            let limit = limit_of(alloc, found)?;
+            Ok(Asked::Fences(fence_search_of(alloc, limit, found)?))
         }
         "parse" => Ok(Asked::Parse(parsing_of(found))),
         _ => {

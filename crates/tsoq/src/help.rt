@@ -8,6 +8,7 @@ pub const PROGRAM: &str = "A first verdict, from the top of the repository:
   tsoq check queues/lamport_fenced.tso fenced.cert
 
 `--verbose` says why, on standard error behind the promised lines: the source line with a mark, and the reason.
+`-` in place of a file is standard input, or standard output where a file is written.
 `tsoq COMMAND --help` says of each command what it reads and writes, and with which status it ends.
 docs/TUTORIAL.md leads from a queue of your own to its first verdict; docs/LANGUAGE.md has all that may stand in a text.";
 
@@ -51,7 +52,7 @@ Status:
 pub const REPLAY: &str =
     "Reads FILE, a program text, and TRACE, the trace of an error. It prints the labels, one a
 line, then each word of memory, each thread with what is in its store buffer, and what is wrong.
-With --html it writes OUT as well, one file that a browser shows without any other.
+With --html it writes OUT as well, one file that a browser shows without any other; with --html - the page alone.
 
 Example:
   tsoq replay queues/vyukov.tso vyukov.trace --to 40
@@ -84,6 +85,31 @@ Status:
   4   more states than --states          limit reached: 1 of 54 searched
   5   out of memory
   6   a file failed                      cannot read PATH, or cannot write PATH
+  64  the words are none of these";
+
+/// Help for `fences`.
+pub const FENCES: &str =
+    "Reads FILE, a program text, and searches its client, and then with one line changed again and again. Writes no file.
+
+Of a client that is accepted each `mfence` is taken back to `nop`, each `xchg` whose old value nothing reads to `mov`,
+and each `lock xadd` and `lock cmpxchg` of an array that no other thread writes to a load and a store: which of them the
+client needs. Of one that is not accepted a `mfence` is tried behind each store, then behind two, and so on up to N:
+which sets make it right. What is said holds of this client alone, and of one change at a time: of two that are not
+needed one may be needed without the other. With --survey it is asked of each client that a survey searches.
+
+Example:
+  tsoq fences queues/lamport_fenced.tso
+  tsoq fences queues/lamport.tso --add 3
+  tsoq fences queues/lamport_fenced.tso --survey --producers 1 --consumers 1
+
+Status:
+  0   it is said what is needed    line 19: mfence: needed: violation: no order, 23 labels
+      some set makes it right      line 18: mfence behind it: certificate: 118 records
+  1   no set makes it right        of this client alone: no set of at most 2 fences makes it right
+  2   FILE is refused              E04 line 7
+  4   more states than --states    line 19: mfence: undecided: limit reached
+  5   out of memory
+  6   a file failed                cannot read PATH
   64  the words are none of these";
 
 /// Help for `parse`.

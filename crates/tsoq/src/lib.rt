@@ -4,6 +4,7 @@
 mod asked;
 mod command;
 mod counted;
+mod fences;
 mod help;
 mod host;
 mod length;

@@ -14,7 +14,7 @@ use tso_show::{Replayed, ShowError, Walk};
 use tso_trace::{cell_name, line_of};
 
 const PLAIN: &str =
-    "--json says labels, the state and what is wrong, and goes without --source, --registers, --buffers and --history
+    "--json says labels, the state and what is wrong, and goes without --brief, --source, --registers, --buffers and --history
 ";
 
 // A label with its number, its thread, and what it does as a trace says it.

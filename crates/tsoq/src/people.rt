@@ -9,7 +9,7 @@ use std::io::{Read, Write};
 use tso_check::{Verdict, checked_of};
 use tso_front::{Failure, Files, Session};
 use tso_prog::Fault;
-use tso_say::{Page, put_meaning, put_program, put_trace};
+use tso_say::{Page, put_hidden, put_meaning, put_program, put_trace};
 use tso_show::{ShowError, Walk, print_cause};
 use tso_trace::{Trace, TraceFault};
 
@@ -27,12 +27,17 @@ fn paths_of<'a>(asked: &Asked<'a>) -> Option<Paths<'a>> {
             program: check.program,
             other: check.cert,
         }),
+        Asked::Coverage(covering) => Some(Paths {
+            program: covering.check.program,
+            other: covering.check.cert,
+        }),
         Asked::Replay(replay) => Some(Paths {
             program: replay.program,
             other: replay.trace,
         }),
         Asked::Verify(_)
         | Asked::Survey(_)
+        | Asked::Fences(_)
         | Asked::Parse(_)
         | Asked::Help(_)
         | Asked::Explain(_) => None,
@@ -203,6 +208,31 @@ pub fn tell_verdict<F: Files, O: Write, E: Write>(
 ) {
     let mut page = Page::new(session.alloc);
     if put_verdict(session.alloc, &mut page, verdict).is_ok() {
+        session.note(&page.bytes);
+    }
+}
+
+// Whether a command makes the calls that its program says.
+fn makes_calls(asked: &Asked<'_>) -> bool {
+    match asked {
+        Asked::Verify(_)
+        | Asked::Check(_)
+        | Asked::Coverage(_)
+        | Asked::Replay(_)
+        | Asked::Fences(_)
+        | Asked::Parse(_) => true,
+        Asked::Survey(_) | Asked::Help(_) | Asked::Explain(_) => false,
+    }
+}
+
+/// Says which lines of a program that is asked about have calls in a comment.
+pub fn tell_hidden<F: Files, O: Write, E: Write>(
+    session: &mut Session<'_, '_, '_, F, O, E>,
+    asked: &Asked<'_>,
+    program: &[u8],
+) {
+    let mut page = Page::new(session.alloc);
+    if makes_calls(asked) && put_hidden(session.alloc, &mut page, program).is_ok() {
         session.note(&page.bytes);
     }
 }

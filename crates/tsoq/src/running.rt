@@ -2,10 +2,11 @@
 
 use crate::asked::Replay;
 use crate::command::{Asked, Request, Search, request_of};
+use crate::fences::{FenceSearch, run_fences};
 use crate::objects::print_objects;
 use crate::page::write_page;
 use crate::parse::{Parsing, parse};
-use crate::people::{tell, tell_cause, tell_limit, tell_verdict};
+use crate::people::{tell, tell_cause, tell_hidden, tell_limit, tell_verdict};
 use crate::progress::{Listener, Progress};
 use crate::report::{Sizes, limit_object};
 use crate::show::{print_run, run_of};
@@ -18,7 +19,12 @@ use std::sync::Wait;
 use std::thread::Threads;
 use std::time::Duration;
 use tso_check::checked_of;
-use tso_front::{Check, Failure, Files, Session, check_bytes, reported, started, verdict_status};
+use tso_coverage::{Covering, check_told, cover};
+use tso_flow::Checked;
+use tso_front::{
+    Check, Failure, Files, STREAM, Session, check_bytes, json_line, reported, started,
+    verdict_status,
+};
 use tso_say::{Topic, explanation};
 use tso_show::Replayed;
 
@@ -31,6 +37,23 @@ pub struct Texts {
     pub program: Vec<u8>,
     /// The trace of a replay.
     pub trace: Vec<u8>,
+}
+
+// Prints a run, but where its page goes to standard output.
+fn put_run<F: Files, O: Write, E: Write>(
+    session: &mut Session<'_, '_, '_, F, O, E>,
+    checked: &Checked,
+    program: &[u8],
+    run: &Replayed,
+    asked: &Replay<'_>,
+) -> Result<(), Failure> {
+    if asked.html == Some(STREAM) {
+        return Ok(());
+    }
+    if asked.json {
+        return print_objects(session, checked, run, asked);
+    }
+    print_run(session, checked, program, run, asked)
 }
 
 // The page is written first: where a file fails, nothing was printed.
@@ -51,11 +74,7 @@ fn replay<F: Files, O: Write, E: Write>(
         asked.partial,
     )?;
     write_page(session, &checked, &texts.program, &run, asked)?;
-    if asked.json {
-        print_objects(session, &checked, &run, asked)?;
-    } else {
-        print_run(session, &checked, &texts.program, &run, asked)?;
-    }
+    put_run(session, &checked, &texts.program, &run, asked)?;
     if let (true, Replayed::Erring(trace)) = (verbose, &run) {
         session.flush()?;
         tell_cause(session, trace);
@@ -71,8 +90,26 @@ fn check<R: Threads + Wait + Sync, F: Files, O: Write, E: Write>(
     verbose: bool,
 ) -> Result<u8, Failure> {
     texts.program = session.read_variant(asked.program, &asked.variant)?;
-    let verdict = check_bytes(rt, session, &texts.program, asked)?;
+    if !verbose {
+        let verdict = check_bytes(rt, session, &texts.program, asked)?;
+        return Ok(verdict_status(verdict));
+    }
+    let verdict = check_told(rt, session, &texts.program, asked)?;
+    tell_verdict(session, verdict);
+    Ok(verdict_status(verdict))
+}
+
+fn cover_program<R: Threads + Wait + Sync, F: Files, O: Write, E: Write>(
+    rt: &R,
+    session: &mut Session<'_, '_, '_, F, O, E>,
+    texts: &mut Texts,
+    asked: &Covering<'_>,
+    verbose: bool,
+) -> Result<u8, Failure> {
+    texts.program = session.read_variant(asked.check.program, &asked.check.variant)?;
+    let verdict = cover(rt, session, &texts.program, asked)?;
     if verbose {
+        session.flush()?;
         tell_verdict(session, verdict);
     }
     Ok(verdict_status(verdict))
@@ -86,6 +123,16 @@ fn survey_queue<R: Threads + Wait + Sync, F: Files, O: Write, E: Write>(
 ) -> Result<u8, Failure> {
     texts.program = session.read_program(asked.asking.program)?;
     run_survey(rt, session, &texts.program, asked)
+}
+
+fn ask_fences<R: Threads + Wait + Sync, F: Files, O: Write, E: Write>(
+    rt: &R,
+    session: &mut Session<'_, '_, '_, F, O, E>,
+    texts: &mut Texts,
+    asked: &FenceSearch<'_>,
+) -> Result<u8, Failure> {
+    texts.program = session.read_variant(asked.fences.program, &asked.fences.variant)?;
+    run_fences(rt, session, &texts.program, asked)
 }
 
 fn parse_file<F: Files, O: Write, E: Write>(
@@ -126,7 +173,29 @@ fn put_stats<F: Files, L: Listener, O: Write, E: Write>(
     Ok(())
 }
 
-// Says what a search wrote, and gives the status.
+// Prints what a search found: to standard error where what it wrote is on standard output.
+fn put_found<F: Files, L: Listener, O: Write, E: Write>(
+    session: &mut Session<'_, '_, '_, F, O, E>,
+    watch: &Progress<'_, L>,
+    asked: &Search<'_>,
+    found: &Found,
+    begun: Option<Duration>,
+) -> Result<(), Failure> {
+    let text = if asked.json {
+        let times = watch.times(begun);
+        let object = found.report.object(session.alloc, watch.states(), times)?;
+        json_line(session.alloc, &object)?
+    } else {
+        found.report.to_string(session.alloc)?
+    };
+    if asked.is_piped() {
+        session.note(text.as_bytes());
+        return Ok(());
+    }
+    session.print(text.as_str())
+}
+
+// Says what a search found and wrote, and gives the status.
 fn end<F: Files, L: Listener, O: Write, E: Write>(
     session: &mut Session<'_, '_, '_, F, O, E>,
     watch: &Progress<'_, L>,
@@ -135,13 +204,10 @@ fn end<F: Files, L: Listener, O: Write, E: Write>(
     begun: Option<Duration>,
     verbose: bool,
 ) -> Result<u8, Failure> {
-    if asked.json {
-        let times = watch.times(begun);
-        let object = found.report.object(session.alloc, watch.states(), times)?;
-        session.print_object(&object)?;
-    } else {
-        session.print_shown(&found.report)?;
+    if let Some(failure) = &found.unwritten {
+        session.report(failure);
     }
+    put_found(session, watch, asked, found, begun)?;
     if asked.stats {
         let sizes = found.report.sizes(watch.states());
         put_stats(session, watch, sizes, begun)?;
@@ -150,7 +216,11 @@ fn end<F: Files, L: Listener, O: Write, E: Write>(
         session.flush()?;
         tell_cause(session, trace);
     }
-    Ok(found.report.status())
+    if let Some(said) = &found.said {
+        session.flush()?;
+        session.note(said.as_bytes());
+    }
+    Ok(found.status())
 }
 
 // Says that a search met as many states as it may, and gives the status.
@@ -195,6 +265,7 @@ fn search<R: Threads + Wait + Sync, F: Files, L: Listener + Sync, O: Write, E: W
         &texts.program,
         asked,
         &watch,
+        verbose,
     ) {
         Ok(found) => end(session, &watch, asked, &found, begun, verbose),
         Err(Failure::Limit) => end_at_limit(session, &watch, asked, begun, verbose),
@@ -217,8 +288,10 @@ fn perform<R: Threads + Wait + Sync, F: Files, L: Listener + Sync, O: Write, E: 
         }
         Asked::Verify(asked) => search(rt, session, texts, listener, asked, request.verbose),
         Asked::Check(asked) => check(rt, session, texts, asked, request.verbose),
+        Asked::Coverage(asked) => cover_program(rt, session, texts, asked, request.verbose),
         Asked::Replay(asked) => replay(session, texts, asked, request.verbose),
         Asked::Survey(asked) => survey_queue(rt, session, texts, asked),
+        Asked::Fences(asked) => ask_fences(rt, session, texts, asked),
         Asked::Parse(asked) => parse_file(session, texts, asked),
         Asked::Explain(topic) => explain(session, *topic),
     }
@@ -248,7 +321,7 @@ fn answer<R: Threads + Wait + Sync, F: Files, L: Listener + Sync, O: Write, E: W
         program: Vec::new(session.alloc),
         trace: Vec::new(session.alloc),
     };
-    match perform_all(rt, session, &mut texts, listener, request) {
+    let status = match perform_all(rt, session, &mut texts, listener, request) {
         Ok(status) => status,
         Err(failure) => {
             let status = session.report(&failure);
@@ -257,7 +330,11 @@ fn answer<R: Threads + Wait + Sync, F: Files, L: Listener + Sync, O: Write, E: W
             }
             status
         }
+    };
+    if request.verbose {
+        tell_hidden(session, &request.asked, &texts.program);
     }
+    status
 }
 
 /// Runs the program: its words, with its own name first; what opens its files; what hears of a search; its standard output and

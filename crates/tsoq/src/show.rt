@@ -8,7 +8,9 @@ use std::alloc::Global;
 use std::io::Write;
 use tso_flow::Checked;
 use tso_front::{Failure, Files, Session};
-use tso_show::{Replayed, Show, ShowError, Walk, print_calls, print_labels, print_order, read_run};
+use tso_show::{
+    Replayed, ShowError, Walk, print_brief, print_calls, print_labels, print_order, read_run,
+};
 use tso_trace::{TraceFault, Violation};
 
 /// Why a run is not shown to its end.
@@ -55,12 +57,16 @@ fn put_labels<F: Files, O: Write, E: Write>(
     session: &mut Session<'_, '_, '_, F, O, E>,
     walk: &mut Walk<'_>,
     source: &[u8],
-    show: Show,
+    asked: &Replay<'_>,
     to: usize,
 ) -> Result<(), Failure> {
-    print_labels(session.alloc, session.out, walk, source, show, to).map_err(|error| show_failure(
-        &error,
-    ))
+    let Replay { show, brief, .. } = *asked;
+    let printed = if brief {
+        print_brief(session.alloc, session.out, walk, source, show, to)
+    } else {
+        print_labels(session.alloc, session.out, walk, source, show, to)
+    };
+    printed.map_err(|error| show_failure(&error))
 }
 
 // Prints the calls of a run that was walked, and how far they have an order.
@@ -89,7 +95,7 @@ fn print_shown<F: Files, O: Write, E: Write>(
         None => labels.len(),
     };
     let mut walk = Walk::new(session.alloc, checked, labels)?;
-    put_labels(session, &mut walk, source, asked.show, to)?;
+    put_labels(session, &mut walk, source, asked, to)?;
     put_state_after(
         session,
         checked.client.arrays.as_slice(),

@@ -55,8 +55,8 @@ pub fn survey_of<'a>(
 
 /// Decides clients by searches, but those that the folder has whole.
 #[derive(Drop)]
-struct Searcher<'a> {
-    asked: &'a Survey<'a>,
+pub struct Searcher<'a> {
+    pub asked: &'a Survey<'a>,
 }
 
 // Puts what is found of the clients of these numbers, of which each that has nothing yet has one, where it belongs.

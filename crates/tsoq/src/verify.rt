@@ -16,50 +16,73 @@ use std::sync::Wait;
 use std::thread::Threads;
 use tso_cert::{Cert, WriteError};
 use tso_check::checked_of;
+use tso_coverage::{Facts, told};
 use tso_explore::{Outcome, explore};
+use tso_flow::Checked;
 use tso_foot::Table;
-use tso_front::{Failure, Files, cannot_write};
+use tso_front::{Draft, Failure, Files, cannot_write};
 use tso_trace::Trace;
 
-// A new file at this path, with a buffer before it.
+/// What a search found, and the trace of it, if it is one.
+#[derive(Debug, Drop)]
+pub struct Found {
+    pub report: Report,
+    pub trace: Option<Trace>,
+    /// Why the trace is not written, if it should be and is not.
+    pub unwritten: Option<Failure>,
+    /// What the records of a certificate show, in words, where they are asked for.
+    pub said: Option<String>,
+}
+
+impl Found {
+    /// The status with which the program ends.
+    pub fn status(&self) -> u8 {
+        match &self.unwritten {
+            Some(failure) => failure.status(),
+            None => self.report.status(),
+        }
+    }
+}
+
+// The draft of the file at this path, with a buffer before it.
 fn created<F: Files>(
     alloc: Global,
     files: &mut F,
-    path: &str,
+    draft: &Draft<'_>,
 ) -> Result<Counted<BufWriter<F::Writer>>, Failure> {
-    match files.create(path) {
+    match files.create(draft.path()) {
         Ok(file) => match BufWriter::new(alloc, file) {
             Ok(out) => Ok(Counted { out, bytes: 0 }),
             Err(_) => Err(Failure::Memory),
         },
-        Err(error) => Err(cannot_write(alloc, path, error.kind())),
+        Err(error) => Err(cannot_write(alloc, draft.name(), error.kind())),
     }
 }
 
 // Writes out what waits before a file, and says how many bytes the file has.
 fn finished<W: Write + Drop>(
     alloc: Global,
-    path: &str,
+    draft: &Draft<'_>,
     mut file: Counted<W>,
 ) -> Result<u64, Failure> {
     match file.flush() {
         Ok(()) => Ok(file.bytes),
-        Err(error) => Err(cannot_write(alloc, path, error.kind())),
+        Err(error) => Err(cannot_write(alloc, draft.name(), error.kind())),
     }
 }
 
-// Writes a certificate to this path, and says how many bytes it has.
-fn write_certificate<F: Files>(
+// Writes a certificate to the draft of the file at this path, and says how many bytes it has.
+fn put_certificate<F: Files>(
     alloc: Global,
     files: &mut F,
-    path: &str,
+    draft: &Draft<'_>,
     table: &Table,
     cert: &Cert,
 ) -> Result<u64, Failure> {
-    let mut file = created(alloc, files, path)?;
+    let mut file = created(alloc, files, draft)?;
     match tso_cert::write(alloc, table, cert, &mut file) {
-        Ok(()) => finished(alloc, path, file),
-        Err(WriteError::Io(error)) => Err(cannot_write(alloc, path, error.kind())),
+        Ok(()) => finished(alloc, draft, file),
+        Err(WriteError::Io(error)) => Err(cannot_write(alloc, draft.name(), error.kind())),
         Err(WriteError::Memory) => Err(Failure::Memory),
     }
 }
@@ -76,7 +99,11 @@ fn certified<F: Files>(
     ensures { IfOk result (IsOfRecords (record_count (tree_of cert.now))) }
 {
     let bytes = match path {
-        Some(path) => Some(write_certificate(alloc, files, path, table, cert)?),
+        Some(path) => {
+            let draft = Draft::of(alloc, files, path)?;
+            let written = put_certificate(alloc, files, &draft, table, cert);
+            Some(draft.settle(alloc, files, written)?)
+        }
         None => None,
     };
     Ok(Report::Certified {
@@ -85,37 +112,60 @@ fn certified<F: Files>(
     })
 }
 
-// Writes a trace to this path, and says how many bytes it has.
-fn write_trace<F: Files>(
+// Writes a trace to the draft of the file at this path, and says how many bytes it has.
+fn put_trace<F: Files>(
     alloc: Global,
     files: &mut F,
-    path: &str,
+    draft: &Draft<'_>,
     trace: &Trace,
 ) -> Result<u64, Failure> {
-    let mut file = created(alloc, files, path)?;
+    let mut file = created(alloc, files, draft)?;
     match trace.print(&mut file) {
-        Ok(()) => finished(alloc, path, file),
-        Err(error) => Err(cannot_write(alloc, path, error.kind())),
+        Ok(()) => finished(alloc, draft, file),
+        Err(error) => Err(cannot_write(alloc, draft.name(), error.kind())),
     }
 }
 
-// Writes a trace to this path, if there is one.
-fn violated<F: Files>(
+// Writes a trace to this path, if there is one: how many bytes it has. A file that failed is told beside that.
+fn write_trace<F: Files>(
     alloc: Global,
     files: &mut F,
     path: Option<&str>,
     trace: &Trace,
-) -> Result<Report, Failure>
-    ensures { IfOk result (IsOfLabels (violation_of (first_fault trace.now.labels)) (length trace.now.labels)) }
-{
-    let bytes = match path {
-        Some(path) => Some(write_trace(alloc, files, path, trace)?),
-        None => None,
+) -> Result<(Option<u64>, Option<Failure>), Failure> {
+    let Some(path) = path else {
+        return Ok((None, None));
     };
-    Ok(Report::Violated {
+    let draft = Draft::of(alloc, files, path)?;
+    let written = put_trace(alloc, files, &draft, trace);
+    match draft.settle(alloc, files, written) {
+        Ok(bytes) => Ok((Some(bytes), None)),
+        Err(Failure::CannotWrite(path)) => Ok((None, Some(Failure::CannotWrite(path)))),
+        Err(failure) => Err(failure),
+    }
+}
+
+// Writes a trace to this path, if there is one. A violation is told also where the file fails.
+fn violated<F: Files>(
+    alloc: Global,
+    files: &mut F,
+    path: Option<&str>,
+    trace: Trace,
+) -> Result<Found, Failure>
+    ensures labels { IfOk result (λ found. IsOfLabels (violation_of (first_fault trace.labels)) (length trace.labels) found.report) }
+    ensures trace { IfOk result (λ found. IsTold found.report found.trace) }
+{
+    let (bytes, unwritten) = write_trace(alloc, files, path, &trace)?;
+    let report = Report::Violated {
         violation: trace.violation(),
         labels: trace.labels.len(),
         bytes,
+    };
+    Ok(Found {
+        report,
+        trace: Some(trace),
+        unwritten,
+        said: None,
     })
 }
 
@@ -136,18 +186,20 @@ fn certified_last<F: Files>(
     report
 }
 
-/// What a search found, and the trace of it, if it is one.
-#[derive(Debug, Drop)]
-pub struct Found {
-    pub report: Report,
-    pub trace: Option<Trace>,
+// What the records of a certificate show, in words; none where they are not asked for, or memory is wanting.
+fn said_of(alloc: Global, checked: &Checked, cert: &Cert, asked: bool) -> Option<String> {
+    if !asked {
+        return None;
+    }
+    let facts = Facts::counted(alloc, &checked.client, cert).ok()?;
+    told(alloc, &facts).ok()
 }
 
 /// Searches the runs of the client of a program text, and writes the certificate that all are good, or the trace of one that
 /// is not, where there is a path for it.
 ///
 /// Errors: `Program` with the first fault of the text; `Limit` where more states can be reached than the search may meet;
-/// `CannotWrite` where the file failed; `Memory`.
+/// `CannotWrite` where the file of a certificate failed; `Memory`.
 pub fn verify<R: Threads + Wait + Sync, F: Files, L: Listener + Sync>(
     rt: &R,
     alloc: Global,
@@ -155,6 +207,7 @@ pub fn verify<R: Threads + Wait + Sync, F: Files, L: Listener + Sync>(
     program: &[u8],
     search: &Search<'_>,
     watch: &Progress<'_, L>,
+    verbose: bool,
 ) -> Result<Found, Failure>
     ensures report { IfOk result (λ found. IsReport program.now found.report) }
     ensures trace { IfOk result (λ found. IsTold found.report found.trace) }
@@ -171,18 +224,18 @@ pub fn verify<R: Threads + Wait + Sync, F: Files, L: Listener + Sync>(
     watch.answer();
     match outcome {
         Outcome::Certificate(table, cert) => {
+            let said = said_of(alloc, &checked, &cert, verbose);
             let report = certified_last(alloc, files, search.cert, &table, cert)?;
             Ok(Found {
                 report,
                 trace: None,
+                unwritten: None,
+                said,
             })
         }
         Outcome::Trace(trace) => {
-            let report = violated(alloc, files, search.trace, &trace)?;
-            Ok(Found {
-                report,
-                trace: Some(trace),
-            })
+            let found = violated(alloc, files, search.trace, trace)?;
+            Ok(found)
         }
         Outcome::LimitReached => Err(Failure::Limit),
         Outcome::NoMemory => Err(Failure::Memory),

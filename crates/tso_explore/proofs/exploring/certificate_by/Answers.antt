@@ -15,4 +15,4 @@ returns g c =
     let client = c.args.checked.now.client in
     let states = c.args.store.now.states in
     let cut = subst (λ ns. IsCut client c.args.table states ns (tree_of c.in_ok-cert.cert)) c.as_slice.ensures.value c.in_ok-cert.ensures in
-    certificate_is_valid client c.args.limit c.args.table states c.in_ok-rising.rising.items (tree_of c.in_ok-cert.cert) c.requires.searched c.requires.closed c.requires.least c.in_ok-rising.ensures c.states_differ.ensures cut c.requires.few c.requires.limit
+    certificate_is_valid client c.args.limit c.args.table states c.in_ok-rising.rising.items (tree_of c.in_ok-cert.cert) c.requires.searched c.requires.closed c.requires.least c.in_ok-rising.ensures c.states_differ.ensures cut c.requires.few c.requires.limit c.certificates_fit.ensures

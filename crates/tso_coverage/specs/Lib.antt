@@ -1,0 +1,4 @@
+pub mod Calls
+pub mod Counted
+pub mod Levels
+pub mod Marks

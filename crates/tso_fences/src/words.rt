@@ -1,0 +1,145 @@
+//! The words of the command.
+
+use clap::{Arg, ArgAction, ArgMatches, Command, value_parser};
+use std::alloc::{AllocError, Global};
+use tso_front::{
+    Failure, Variant, json_argument, misused, program_argument, variant_arguments, variant_of,
+};
+use tso_survey::{Asking, asking_of};
+
+const BEFORE: &str =
+    "--before is 0 to 4, how many pushes a prologue has at most, where --survey stands beside it\n";
+
+/// What is asked: of which text, of which clients, and how many fences may be added.
+#[derive(Clone, Copy, Debug)]
+pub struct Fences<'a> {
+    pub program: &'a str,
+    /// What stands in place of the text's calls, where its own client is asked about.
+    pub variant: Variant<'a>,
+    /// The survey whose clients are asked about in place of the text's own.
+    pub survey: Option<Asking<'a>>,
+    /// How many fences are added at most.
+    pub add: usize,
+    /// Whether objects of JSON are printed in place of the lines.
+    pub json: bool,
+}
+
+// A number that goes with a survey alone.
+fn bound<'a>(
+    alloc: Global,
+    name: &'a str,
+    least: i64,
+    most: i64,
+    help: &'a str,
+) -> Result<Arg<'a>, AllocError> {
+    Arg::new(alloc, name)
+        .long(name)
+        .value_name("N")
+        .action(ArgAction::Set)
+        .value_parser(value_parser!(u64).range(least..=most))
+        .help(help)
+        .requires_arg("survey")
+}
+
+// The words for the clients of a survey.
+fn survey_arguments<'a>(alloc: Global, command: Command<'a>) -> Result<Command<'a>, AllocError> {
+    let survey = Arg::new(alloc, "survey")
+        .long("survey")
+        .action(ArgAction::SetTrue)
+        .help(
+            "asks about the clients that a survey searches; --before is then how many pushes a prologue has at most",
+        )
+        .conflicts_with("client")?;
+    command
+        .arg(survey)?
+        .arg(bound(
+            alloc,
+            "threads",
+            1,
+            4,
+            "with --survey: how many threads a client has at most; 3 if not said",
+        )?)?
+        .arg(bound(
+            alloc,
+            "calls",
+            1,
+            12,
+            "with --survey: how many calls its threads have at most; 4 if not said",
+        )?)?
+        .arg(bound(
+            alloc,
+            "producers",
+            0,
+            4,
+            "with --survey: how many threads push at most; all if not said",
+        )?)?
+        .arg(bound(
+            alloc,
+            "consumers",
+            0,
+            4,
+            "with --survey: how many threads pop at most; all if not said",
+        )?)
+}
+
+/// The command with its words.
+///
+/// Errors: where a growth was refused.
+pub fn fences_arguments<'a>(
+    alloc: Global,
+    command: Command<'a>,
+) -> Result<Command<'a>, AllocError> {
+    let add = Arg::new(alloc, "add")
+        .long("add")
+        .value_name("N")
+        .action(ArgAction::Set)
+        .value_parser(value_parser!(u64).range(1..=8))
+        .default_value("2")
+        .help("how many fences are added at most to a client that is not accepted, 1 to 8");
+    let command = command
+        .arg(program_argument(alloc))?
+        .arg(add)?
+        .arg(json_argument(alloc))?;
+    survey_arguments(alloc, variant_arguments(alloc, command)?)
+}
+
+// How many pushes a prologue of a survey has at most.
+fn before_of(alloc: Global, matches: &ArgMatches<'_>) -> Result<usize, Failure> {
+    let Some(word) = matches.get_str("before") else {
+        return Ok(0);
+    };
+    match word.parse::<usize>() {
+        Ok(before) if before <= 4 => Ok(before),
+        _ => Err(misused(alloc, BEFORE)),
+    }
+}
+
+// The survey whose clients are asked about, if it is one.
+fn survey_of<'a>(alloc: Global, matches: &ArgMatches<'a>) -> Result<Option<Asking<'a>>, Failure> {
+    if !matches.get_flag("survey") {
+        return Ok(None);
+    }
+    let before = before_of(alloc, matches)?;
+    let mut asking = asking_of(alloc, matches)?;
+    asking.bounds.before = before;
+    Ok(Some(asking))
+}
+
+/// What the words ask for.
+///
+/// Errors: `Usage`; `Memory`.
+pub fn fences_of<'a>(alloc: Global, matches: &ArgMatches<'a>) -> Result<Fences<'a>, Failure> {
+    let survey = survey_of(alloc, matches)?;
+    let variant = match survey {
+        Some(_) => Variant::PLAIN,
+        None => variant_of(matches),
+    };
+    let add = matches.get_one::<u64>("add").unwrap_or(2);
+    Ok(Fences {
+        program: matches.get_str("FILE").unwrap_or(""),
+        variant,
+        survey,
+        add: usize::try_from(add).unwrap_or(2),
+        json: matches.get_flag("json"),
+    })
+}

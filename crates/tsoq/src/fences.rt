@@ -1,0 +1,66 @@
+//! Fences that are needed, or would help, by searches.
+
+use crate::help;
+use crate::limit::StateLimit;
+use crate::survey::{Searcher, Survey};
+use clap::{Arg, ArgMatches, Command};
+use std::alloc::{AllocError, Global};
+use std::io::Write;
+use std::sync::Wait;
+use std::thread::Threads;
+use tso_fences::{Fences, fences, fences_arguments, fences_of};
+use tso_front::{Failure, Files, Session, workers_argument, workers_of};
+use tso_survey::asking_of;
+
+/// What is asked about fences, by how many workers, and how many states a search may meet.
+#[derive(Clone, Copy, Debug)]
+pub struct FenceSearch<'a> {
+    pub fences: Fences<'a>,
+    /// The survey that a search of clients belongs to; it writes no files.
+    pub survey: Survey<'a>,
+}
+
+/// The words of `fences`, with the option for how many states a search may meet.
+///
+/// Errors: where a growth was refused.
+pub fn fences_command<'a>(alloc: Global, states: Arg<'a>) -> Result<Command<'a>, AllocError> {
+    let command = Command::new(alloc, "fences")
+        .about("says which fences a client needs, or which would make it right")
+        .after_help(help::FENCES);
+    fences_arguments(alloc, command)?
+        .arg(workers_argument(alloc, "how many workers search, a text each, 1 to 64"))?
+        .arg(states)
+}
+
+/// What the words of `fences` ask for.
+///
+/// Errors: `Usage`; `Memory`.
+pub fn fence_search_of<'a>(
+    alloc: Global,
+    limit: StateLimit,
+    matches: &ArgMatches<'a>,
+) -> Result<FenceSearch<'a>, Failure> {
+    Ok(FenceSearch {
+        fences: fences_of(alloc, matches)?,
+        survey: Survey {
+            asking: asking_of(alloc, matches)?,
+            workers: workers_of(alloc, matches)?,
+            limit,
+        },
+    })
+}
+
+/// Says which fences are needed, or would help, and gives the status.
+///
+/// Errors: those of `tso_fences::fences`.
+pub fn run_fences<R: Threads + Wait + Sync, F: Files, O: Write, E: Write>(
+    rt: &R,
+    session: &mut Session<'_, '_, '_, F, O, E>,
+    text: &[u8],
+    asked: &FenceSearch<'_>,
+) -> Result<u8, Failure> {
+    let searcher = Searcher {
+        asked: &asked.survey,
+    };
+    fences(rt, &searcher, session, text, &asked.fences)
+}

@@ -1,0 +1,82 @@
+# Completions of bash for tsoq and tsoq-check. Source this file, or copy it to /usr/share/bash-completion/completions/.
+
+_tsoq() {
+  local word=${COMP_WORDS[COMP_CWORD]} before=${COMP_WORDS[COMP_CWORD-1]} options= words=
+  if [ $COMP_CWORD = 1 ]; then
+    COMPREPLY=($(compgen -W 'verify check coverage replay survey fences parse explain help --help --version' -- "$word"))
+    return
+  fi
+  case $before in
+    --clients|--html|--out|--trace)
+      COMPREPLY=($(compgen -f -- "$word"))
+      return
+      ;;
+    --collect|--out)
+      COMPREPLY=($(compgen -d -- "$word"))
+      return
+      ;;
+    --add|--before|--calls|--client|--consumers|--part|--producers|--states|--threads|--to|--workers)
+      COMPREPLY=()
+      return
+      ;;
+    --mode)
+      COMPREPLY=($(compgen -W 'strict weak' -- "$word"))
+      return
+      ;;
+  esac
+  case ${COMP_WORDS[1]} in
+    verify) options='--out --trace --workers --states --stats --progress --json --client --before --mode --verbose --help' ;;
+    check) options='--workers --json --client --before --mode --verbose --help' ;;
+    coverage) options='--workers --json --client --before --mode --source --verbose --help' ;;
+    replay) options='--to --json --source --registers --buffers --brief --history --partial --html --client --before --mode --verbose --help' ;;
+    survey) options='--collect --clients --threads --calls --producers --consumers --before --mode --out --part --list --all --progress --json --workers --states --verbose --help' ;;
+    fences) options='--add --json --client --before --mode --survey --threads --calls --producers --consumers --workers --states --verbose --help' ;;
+    parse) options='--print --client --before --mode --verbose --help' ;;
+    explain) options='--help' words='E01 E02 E03 E04 E05 E06 E07 E08 E09 E10 E11 E12 E13 E14 K01 K02 K03 K04 K05 K06 K07 K08 K09 K10 K11 T01 T02 T03' ;;
+  esac
+  case $word in
+    -*) COMPREPLY=($(compgen -W "$options" -- "$word")) ;;
+    *)
+      if [ -n "$words" ]; then
+        COMPREPLY=($(compgen -W "$words" -- "$word"))
+      else
+        COMPREPLY=($(compgen -f -- "$word"))
+      fi
+      ;;
+  esac
+}
+complete -o filenames -F _tsoq tsoq
+
+_tsoq_check() {
+  local word=${COMP_WORDS[COMP_CWORD]} before=${COMP_WORDS[COMP_CWORD-1]} options= words=
+  case $before in
+    --clients)
+      COMPREPLY=($(compgen -f -- "$word"))
+      return
+      ;;
+    --collect)
+      COMPREPLY=($(compgen -d -- "$word"))
+      return
+      ;;
+    --before|--calls|--client|--consumers|--producers|--threads|--workers)
+      COMPREPLY=()
+      return
+      ;;
+    --mode)
+      COMPREPLY=($(compgen -W 'strict weak' -- "$word"))
+      return
+      ;;
+  esac
+  options='--workers --json --client --before --mode --collect --clients --threads --calls --producers --consumers --help --version'
+  case $word in
+    -*) COMPREPLY=($(compgen -W "$options" -- "$word")) ;;
+    *)
+      if [ -n "$words" ]; then
+        COMPREPLY=($(compgen -W "$words" -- "$word"))
+      else
+        COMPREPLY=($(compgen -f -- "$word"))
+      fi
+      ;;
+  esac
+}
+complete -o filenames -F _tsoq_check tsoq-check
