@@ -6,20 +6,20 @@ _tsoq() {
     COMPREPLY=($(compgen -W 'verify check coverage replay survey fences parse explain help --help --version' -- "$word"))
     return
   fi
-  case $before in
-    --clients|--html|--out|--trace)
+  case "${COMP_WORDS[1]} $before" in
+    *\ --clients|*\ --html|*\ --trace|verify\ --out)
       COMPREPLY=($(compgen -f -- "$word"))
       return
       ;;
-    --collect|--out)
+    *\ --collect|survey\ --out)
       COMPREPLY=($(compgen -d -- "$word"))
       return
       ;;
-    --add|--before|--calls|--client|--consumers|--part|--producers|--states|--threads|--to|--workers)
+    *\ --add|*\ --before|*\ --calls|*\ --client|*\ --consumers|*\ --part|*\ --producers|*\ --states|*\ --threads|*\ --to|*\ --workers)
       COMPREPLY=()
       return
       ;;
-    --mode)
+    *\ --mode)
       COMPREPLY=($(compgen -W 'strict weak' -- "$word"))
       return
       ;;
@@ -33,6 +33,7 @@ _tsoq() {
     fences) options='--add --json --client --before --mode --survey --threads --calls --producers --consumers --workers --states --verbose --help' ;;
     parse) options='--print --client --before --mode --verbose --help' ;;
     explain) options='--help' words='E01 E02 E03 E04 E05 E06 E07 E08 E09 E10 E11 E12 E13 E14 K01 K02 K03 K04 K05 K06 K07 K08 K09 K10 K11 T01 T02 T03' ;;
+    help) words='verify check coverage replay survey fences parse explain' ;;
   esac
   case $word in
     -*) COMPREPLY=($(compgen -W "$options" -- "$word")) ;;

@@ -10,7 +10,7 @@ use std::process::ExitCode;
 use std::rt::{Clock, Files};
 use std::{fs, io};
 use store::walk_store;
-use tso_check::checked_of;
+use tso_client::checked_of;
 use tso_flow::Checked;
 
 mod along;

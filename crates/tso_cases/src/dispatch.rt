@@ -4,7 +4,7 @@ use crate::failure::Failure;
 use crate::input::{client_of, file_at, number_at, word};
 use crate::{
     actors, arithmetic, choices, cursors, events, judged, leaf, machine, meetings, plain, runs,
-    states, stores, ticket, writing,
+    shard, states, stores, ticket, writing,
 };
 use std::alloc::Global;
 use std::rt::Files;
@@ -55,6 +55,9 @@ fn answer_of_client(
         return Ok(true);
     }
     if judged::answer(alloc, checked, call, out)? {
+        return Ok(true);
+    }
+    if shard::answer(alloc, checked, call, out)? {
         return Ok(true);
     }
     match word(call, 0) {

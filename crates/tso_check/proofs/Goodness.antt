@@ -7,7 +7,7 @@ use Rattle.std.proofs.lemmas.Bool.{cases_eq}
 use Rattle.std.proofs.lemmas.Option.{none-some, same_Some, slice_get_within, slice_get-get_or}
 use Rattle.tso_cert.specs.Lookup.{tree_states}
 use Rattle.tso_cert.specs.Trees.{Tree, records_of}
-use Rattle.tso_check.specs.Headline.{EachRunIsGood}
+use Rattle.tso_client.specs.Headline.{EachRunIsGood}
 use Rattle.tso_judge.specs.Valid.{IsValidRecord, IsValidTree}
 use Rattle.tso_choose.proofs.ChoiceLemmas.{valid_choices_are_persistent}
 use Rattle.tso_choose.specs.Choices.{AreReasons, AreValid, actors_of}

@@ -3,12 +3,12 @@ use Rattle.std.proofs.Common.{◌≡◌, ◌∙◌, ℕ, ◌⊎◌, inl, inr, Li
 use Rattle.tso_check.proofs.OneText.{one_first, same_client}
 use Rattle.tso_check.proofs.OneVerdict.{one_verdict}
 use Rattle.tso_check.proofs.VerdictLemmas.{accepted}
-use Rattle.tso_check.specs.Headline.{DenotesChecked, IsVerified}
+use Rattle.tso_client.specs.Headline.{DenotesChecked, IsVerified}
 use Rattle.tso_check.specs.Laws.{IsSameButMemory}
-use Rattle.tso_check.specs.Programs.{IsClientOf, IsRefused}
+use Rattle.tso_client.specs.Programs.{IsClientOf, IsRefused}
 use Rattle.tso_check.specs.Verdicts.{IsAnswer, IsVerdict}
-use Rattle.tso_check.specs.declared.verdict.CheckError.{CheckError}
-use Rattle.tso_check.specs.declared.verdict.CheckError.TheVariants.{Program, Memory}
+use Rattle.tso_client.specs.declared.error.CheckError.{CheckError}
+use Rattle.tso_client.specs.declared.error.CheckError.TheVariants.{Program, Memory}
 use Rattle.tso_check.specs.declared.verdict.Verdict.{Verdict}
 use Rattle.tso_check.specs.declared.verdict.Verdict.TheVariants.{Accepted}
 use Rattle.tso_flow.specs.Faults.{HasFault, IsFirst}

@@ -11,7 +11,7 @@ use Rattle.tso_cert.specs.declared.fault.DecodeError.TheVariants as errors
 use Rattle.tso_cert.specs.declared.fault.Fault.{Fault}
 use Rattle.tso_cert.specs.declared.fault.Fault.TheVariants as limits
 use Rattle.tso_check.proofs.Goodness.{each_run_is_good}
-use Rattle.tso_check.specs.Headline.{DenotesChecked, IsVerified}
+use Rattle.tso_client.specs.Headline.{DenotesChecked, IsVerified}
 use Rattle.tso_judge.specs.Valid.{HasInitial}
 use Rattle.tso_check.specs.Verdicts.{IsFault, IsOfFault, IsTreeVerdict, IsVerdict, code_of, no_certificate, of_tree, past_limit}
 use Rattle.tso_check.specs.declared.verdict.Verdict.{Verdict}

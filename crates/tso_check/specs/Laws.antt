@@ -1,10 +1,10 @@
 -- What verdicts are good for.
 use Rattle.std.specs.Prelude.{◌≡◌, ◌⊎◌, ℕ, Err, List, Result}
-use Rattle.tso_check.specs.Headline.{EachRunIsGood}
+use Rattle.tso_client.specs.Headline.{EachRunIsGood}
 use Rattle.tso_judge.specs.Valid.{IsValidCertificate}
 use Rattle.tso_check.specs.Verdicts.{IsAnswer, IsVerdict}
-use Rattle.tso_check.specs.declared.verdict.CheckError.{CheckError}
-use Rattle.tso_check.specs.declared.verdict.CheckError.TheVariants.{Memory}
+use Rattle.tso_client.specs.declared.error.CheckError.{CheckError}
+use Rattle.tso_client.specs.declared.error.CheckError.TheVariants.{Memory}
 use Rattle.tso_check.specs.declared.verdict.Verdict.{Verdict}
 use Rattle.tso_prog.specs.declared.client.Client.{Client}
 

@@ -1,8 +1,6 @@
 pub mod Halved
-pub mod Headline
 pub mod Laws
 pub mod Numbered
-pub mod Programs
 pub mod Risen
 pub mod Spans
 pub mod Verdicts

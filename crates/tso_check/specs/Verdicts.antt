@@ -8,10 +8,10 @@ use Rattle.tso_cert.specs.declared.fault.Fault.TheVariants as limits
 use Rattle.tso_cert.specs.Limits.{IsNoCertificate, PassesLimit}
 use Rattle.tso_cert.specs.Lookup.{IsOrdered, tree_states}
 use Rattle.tso_cert.specs.Trees.{IsWithinLimits, Tree, records_of}
-use Rattle.tso_check.specs.Headline.{DenotesChecked}
-use Rattle.tso_check.specs.Programs.{IsNoVerdict}
+use Rattle.tso_client.specs.Headline.{DenotesChecked}
+use Rattle.tso_client.specs.Programs.{IsNoVerdict}
 use Rattle.tso_judge.specs.Valid.{AreValidRecords, HasInitial, IsValidCertificate, IsValidRecord, IsValidTree}
-use Rattle.tso_check.specs.declared.verdict.CheckError.{CheckError}
+use Rattle.tso_client.specs.declared.error.CheckError.{CheckError}
 use Rattle.tso_check.specs.declared.verdict.Verdict.{Verdict}
 use Rattle.tso_check.specs.declared.verdict.Verdict.TheVariants.{Accepted, Rejected}
 use Rattle.tso_check.specs.declared.judging.Bad.{Bad}

@@ -2,13 +2,13 @@
 
 ghost use Rattle.std.specs.Prelude.{◌≡◌, ◌≤◌, ◌⊎◌, Err, IfOk, Ok, Result};
 ghost use Rattle.tso_cert.specs.Trees.{record_count, tree_of};
-ghost use Rattle.tso_check.specs.Headline.{DenotesChecked, IsVerified};
+ghost use Rattle.tso_client.specs.Headline.{DenotesChecked, IsVerified};
 ghost use Rattle.tso_check.specs.Laws.{IsSameButMemory};
-ghost use Rattle.tso_check.specs.Programs.{IsRefused};
+ghost use Rattle.tso_client.specs.Programs.{IsRefused};
 ghost use Rattle.tso_check.specs.Spans.{IsStored, IsVerdictOn};
 ghost use Rattle.tso_check.specs.Verdicts.{IsAnswer, IsOfFault, IsTreeVerdict, IsVerdict, code_of};
-ghost use Rattle.tso_check.specs.declared.verdict.CheckError.{CheckError as AnError};
-ghost use Rattle.tso_check.specs.declared.verdict.CheckError.TheVariants as errors;
+ghost use Rattle.tso_client.specs.declared.error.CheckError.{CheckError as AnError};
+ghost use Rattle.tso_client.specs.declared.error.CheckError.TheVariants as errors;
 ghost use Rattle.tso_check.specs.declared.verdict.Verdict.{Verdict as AVerdict};
 ghost use Rattle.tso_check.specs.declared.verdict.Verdict.TheVariants as verdicts;
 ghost use Rattle.tso_judge.specs.Valid.{IsValidCertificate};
@@ -17,14 +17,14 @@ ghost use Rattle.tso_prog.specs.declared.fault.Fault.{Fault as AFault};
 
 use crate::halved::{TreePart, Whole, decide_tree, tree_fault};
 use crate::judging::{Notice, verdict_of};
-use crate::program::checked_of;
 use crate::stored::{StoredPart, decide_stored, stored_fault};
 use crate::threads::{Told, judge_with};
-use crate::verdict::{CheckError, Verdict, rejected};
+use crate::verdict::{Verdict, rejected};
 use std::alloc::{AllocError, Global};
 use std::sync::Wait;
 use std::thread::Threads;
 use tso_cert::{DecodeError, Fault, Watch, Workers, decode};
+use tso_client::{CheckError, checked_of};
 use tso_flow::Checked;
 use tso_judge::Code;
 use tso_scan::{Scanned, scan};

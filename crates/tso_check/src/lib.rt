@@ -7,7 +7,6 @@ mod halves;
 mod judging;
 mod laws;
 mod numbered;
-mod program;
 mod rising;
 mod stored;
 mod threads;
@@ -15,5 +14,5 @@ mod verdict;
 
 pub use deciding::{check, check_client, check_with};
 pub use laws::{accepted_runs_are_good, answers_are_unique, verdicts_are_unique};
-pub use program::checked_of;
-pub use verdict::{CheckError, Verdict};
+pub use tso_client::CheckError;
+pub use verdict::Verdict;

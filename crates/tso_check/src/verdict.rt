@@ -2,13 +2,10 @@
 
 ghost use Rattle.std.specs.Prelude.{◌≡◌, None, Some};
 ghost use Rattle.tso_check.specs.Verdicts.{verdict_text};
-ghost use Rattle.tso_check.specs.declared.verdict.CheckError.TheVariants as errors;
 ghost use Rattle.tso_check.specs.declared.verdict.Verdict.TheVariants as verdicts;
 
-use std::alloc::AllocError;
 use std::fmt;
 use tso_judge::Code;
-use tso_prog::Fault;
 
 /// The verdict on bytes as a certificate for a client.
 #[derive(Clone, Copy, Debug, PartialEq, Eq)]
@@ -44,22 +41,5 @@ impl fmt::Display for Verdict {
                 place: Some(place),
             } => write!(f, "rejected {code} at record {place}"),
         }
-    }
-}
-
-/// Why there is no verdict.
-#[derive(Clone, Copy, Debug, PartialEq, Eq)]
-pub enum CheckError {
-    /// The program text is refused.
-    Program(Fault),
-    /// A growth was refused.
-    Memory,
-}
-
-impl From<AllocError> for CheckError {
-    ghost from_gives = { λ _ e. e ≡ errors.Memory };
-
-    fn from(_e: AllocError) -> CheckError {
-        CheckError::Memory
     }
 }

@@ -3,7 +3,6 @@
 #![tactic(auto)]
 
 mod call;
-mod command;
 mod coverage;
 mod fact;
 mod list;
@@ -11,14 +10,14 @@ mod mark;
 mod objects;
 mod order;
 mod round;
-mod running;
 mod source;
 mod talk;
 
 pub use call::Reach;
-pub use command::{Covering, coverage_command, covering_of};
 pub use coverage::{Coverage, counted};
 pub use fact::Facts;
+pub use list::listed;
 pub use mark::Mark;
-pub use running::{check_told, cover};
+pub use objects::facts_object;
+pub use source::marked;
 pub use talk::told;

@@ -1,6 +1,6 @@
 -- What the good runs of clients say of other clients, in the words of the check's promise.
 use Rattle.std.specs.Prelude.{ℕ, Any, List}
-use Rattle.tso_check.specs.Headline.{EachRunIsGood, IsVerified}
+use Rattle.tso_client.specs.Headline.{EachRunIsGood, IsVerified}
 use Rattle.tso_covers.specs.Clients.{ClientCovers}
 use Rattle.tso_prog.specs.declared.client.Client.{Client}
 

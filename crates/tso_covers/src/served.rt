@@ -1,7 +1,7 @@
 //! What clients that were accepted say of others, in the words of the check's promise.
 
 ghost use Rattle.std.specs.Prelude.{◌↔◌, All, IsTrue};
-ghost use Rattle.tso_check.specs.Headline.{EachRunIsGood};
+ghost use Rattle.tso_client.specs.Headline.{EachRunIsGood};
 ghost use Rattle.tso_covers.specs.Clients.{ClientCovers};
 ghost use Rattle.tso_covers.specs.Served.{IsServed, VerifiedServes};
 

@@ -24,7 +24,7 @@ use Rattle.tso_choose.specs.Needs.{is_enabled}
 use Rattle.tso_choose.specs.declared.choice.Choice.{Choice}
 use Rattle.tso_explore.specs.Cutting.{AreNumbers, AreRecordsOf, AreRising, IsCut, IsEndOf, IsFork, IsHalved, IsRecordOf}
 use Rattle.tso_explore.specs.Outcomes.{IsCertificate}
-use Rattle.tso_explore.specs.Searched.{AreSearched, IsWorked}
+use Rattle.tso_search.specs.Searched.{AreSearched, IsWorked}
 use Rattle.tso_foot.specs.Closed.{IsClosed, IsLeastClosed}
 use Rattle.tso_foot.specs.declared.table.Table.{Table}
 use Rattle.tso_judge.specs.Conditions.{IsOver, SuccessorsAreKept}

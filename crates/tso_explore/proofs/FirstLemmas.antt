@@ -2,15 +2,15 @@
 use Rattle.std.proofs.Common.{◌≡◌, ◌∙◌, ℕ, zero, suc, ◌<◌, ◌≤◌, ◌⊎◌, inl, inr, Bool, true, false, List, [], ◌∷◌, length, Some, slice_get, refl, sym, ap, subst, arith}
 use Rattle.std.specs.Prelude.{Err, IfOk, MatchBool, Ok, Result}
 use Rattle.std.proofs.lemmas.Option.{none-some, same_Some}
-use Rattle.tso_explore.proofs.SearchLemmas.{begun_first}
+use Rattle.tso_search.proofs.SearchLemmas.{begun_first}
 use Rattle.tso_explore.specs.Firsts.{IsFirst, IsFirstOf, IsPaused}
-use Rattle.tso_explore.specs.Goodness.{AllGood, IsGood}
-use Rattle.tso_explore.specs.Reached.{IsBad, IsBadAt}
-use Rattle.tso_explore.specs.Searched.{IsBegun, IsHunting, IsStarted}
-use Rattle.tso_explore.specs.Shortening.{IsShorter, IsTraceOf}
+use Rattle.tso_search.specs.Goodness.{AllGood, IsGood}
+use Rattle.tso_search.specs.Reached.{IsBad, IsBadAt}
+use Rattle.tso_search.specs.Searched.{IsBegun, IsHunting, IsStarted}
+use Rattle.tso_search.specs.Shortening.{IsShorter, IsTraceOf}
 use Rattle.tso_explore.specs.declared.first.First.{First}
 use Rattle.tso_explore.specs.declared.first.First.TheVariants as firsts
-use Rattle.tso_explore.specs.declared.origin.Origin.{Origin}
+use Rattle.tso_search.specs.declared.origin.Origin.{Origin}
 use Rattle.tso_explore.specs.declared.outcome.Outcome.TheVariants as found
 use Rattle.tso_foot.specs.declared.table.Table.{Table}
 use Rattle.tso_prog.specs.declared.client.Client.{Client}

@@ -1,7 +1,4 @@
 pub mod CuttingLemmas
 pub mod FirstLemmas
-pub mod GoodLemmas
-pub mod KeptOrders
-pub mod SearchLemmas
+pub mod MergingLemmas
 pub mod TaskLemmas
-pub mod WayLemmas

@@ -4,7 +4,7 @@ use Rattle.std.proofs.lemmas.Bool.{cases_lt}
 use Rattle.std.proofs.lemmas.Option.{slice_get_within}
 use Rattle.tso_cert.specs.Trees.{Tree, fork}
 use Rattle.tso_explore.proofs.CuttingLemmas.{first_high, forked, numbers_high, numbers_low, rising_high, rising_low}
-use Rattle.tso_explore.specs.Searched.{AreSearched, AreWorkedBetween, HasBegun, IsWorkedAt}
+use Rattle.tso_search.specs.Searched.{AreSearched, AreWorkedBetween, HasBegun, IsWorkedAt}
 use Rattle.tso_explore.specs.Tasks.{AreHalvesAsked, AreHalvesCut, AreWorkedIn, CanBeAsked, CanBeCut, IsCutOf, Numbered, Range, asked, uncut}
 use Rattle.tso_foot.specs.declared.table.Table.{Table}
 use Rattle.tso_prog.specs.declared.client.Client.{Client}

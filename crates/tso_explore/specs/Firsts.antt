@@ -1,12 +1,12 @@
 -- What the first states of a search tell.
 use Rattle.std.specs.Prelude.{◌≡◌, ◌+◌, ◌*◌, ◌≤◌, ℕ, List, length}
-use Rattle.tso_explore.specs.Goodness.{AllGood}
+use Rattle.tso_search.specs.Goodness.{AllGood}
 use Rattle.tso_explore.specs.Outcomes.{IsOutcome}
-use Rattle.tso_explore.specs.Searched.{IsSearched}
-use Rattle.tso_explore.specs.Shortening.{IsTraceOf}
+use Rattle.tso_search.specs.Searched.{IsSearched}
+use Rattle.tso_search.specs.Shortening.{IsTraceOf}
 use Rattle.tso_explore.specs.declared.first.First.{First}
 use Rattle.tso_explore.specs.declared.first.First.TheVariants as firsts
-use Rattle.tso_explore.specs.declared.origin.Origin.{Origin}
+use Rattle.tso_search.specs.declared.origin.Origin.{Origin}
 use Rattle.tso_explore.specs.declared.outcome.Outcome.{Outcome}
 use Rattle.tso_explore.specs.declared.outcome.Outcome.TheVariants as found
 use Rattle.tso_foot.specs.declared.table.Table.{Table}

@@ -1,9 +1,4 @@
-pub mod Reached
-pub mod Goodness
-pub mod Searched
-pub mod Shortening
 pub mod Cutting
 pub mod Outcomes
-pub mod Ways
 pub mod Tasks
 pub mod Firsts

@@ -3,7 +3,7 @@ use Rattle.std.specs.Prelude.{◌≡◌, ◌≤◌, ℕ}
 use Rattle.tso_cert.specs.Certificates.{certificate}
 use Rattle.tso_cert.specs.Trees.{IsWithinLimits, Tree, record_count, tree_of}
 use Rattle.tso_explore.specs.Cutting.{IsHalved}
-use Rattle.tso_explore.specs.Searched.{HasMore}
+use Rattle.tso_search.specs.Searched.{HasMore}
 use Rattle.tso_explore.specs.declared.outcome.Outcome.{Outcome}
 use Rattle.tso_explore.specs.declared.outcome.Outcome.TheVariants as found
 use Rattle.tso_foot.specs.Closed.{IsLeastClosed}

@@ -2,7 +2,7 @@
 use Rattle.std.specs.Prelude.{◌≡◌, ◌/◌, ◌<◌, ◌≤◌, ℕ, List, drop, length, take}
 use Rattle.tso_cert.specs.Trees.{Tree}
 use Rattle.tso_explore.specs.Cutting.{AreNumbers, AreRising, IsCut}
-use Rattle.tso_explore.specs.Searched.{AreSearched, AreWorkedBetween, HasBegun}
+use Rattle.tso_search.specs.Searched.{AreSearched, AreWorkedBetween, HasBegun}
 use Rattle.tso_foot.specs.declared.table.Table.{Table}
 use Rattle.tso_prog.specs.declared.client.Client.{Client}
 use Rattle.tso_state.specs.declared.state.State.{State}

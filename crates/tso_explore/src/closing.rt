@@ -1,15 +1,15 @@
 //! Whether states that several workers have met are all worked.
 
 ghost use Rattle.std.specs.Prelude.{◌≡◌, ◌<◌, ◌≤◌, IfOk, IsTrue, length, true};
-ghost use Rattle.tso_explore.specs.Searched.{AreFollowed, AreSearched, AreWorkedBetween, HasBegun, IsFollowed, IsGoodAt, IsWorkedAt};
+ghost use Rattle.tso_search.specs.Searched.{AreFollowed, AreSearched, AreWorkedBetween, HasBegun, IsFollowed, IsGoodAt, IsWorkedAt};
 
-use crate::ending::is_good;
 use crate::tasks::{ALONE, Task, run_by};
 use std::alloc::{AllocError, Global};
 use std::thread::Threads;
 use tso_choose::{actor_at, chosen, has_bit};
 use tso_flow::Checked;
 use tso_foot::Table;
+use tso_search::is_good;
 use tso_state::Actor;
 use tso_store::{Found, Store};
 

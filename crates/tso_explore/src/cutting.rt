@@ -3,7 +3,7 @@
 ghost use Rattle.std.specs.Prelude.{◌≡◌, ◌<◌, ◌≤◌, IfOk, Some, length, slice_get};
 ghost use Rattle.tso_cert.specs.Trees as trees;
 ghost use Rattle.tso_explore.specs.Cutting.{AreNumbers, AreRecordsOf, AreRising, IsCut, IsEndOf, IsExplainedAtEnd, IsRecordOf};
-ghost use Rattle.tso_explore.specs.Searched.{AreSearched};
+ghost use Rattle.tso_search.specs.Searched.{AreSearched};
 ghost use Rattle.tso_rec.specs.Keeping as keeping;
 ghost use Rattle.tso_state.specs.WellFormed.{IsWellFormed};
 

@@ -1,7 +1,7 @@
 //! The states of all shards in one store.
 
 ghost use Rattle.std.specs.Prelude.{◌≡◌, OnOk, IfOk};
-ghost use Rattle.tso_explore.specs.Searched.{HasBegun};
+ghost use Rattle.tso_search.specs.Searched.{HasBegun};
 ghost use Rattle.tso_table.specs.Leading.{IsKept};
 
 use crate::exploring::started;

@@ -7,7 +7,7 @@ use crate::sites::{Form, KINDS, Site, procedure_of};
 use crate::unread::{free_register, is_read_behind};
 use std::alloc::{AllocError, Global};
 use std::fmt;
-use tso_check::{CheckError, checked_of};
+use tso_client::{CheckError, checked_of};
 use tso_flow::{Location, ProcedureKind};
 use tso_front::Failure;
 use tso_list::Seq;

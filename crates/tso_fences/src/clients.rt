@@ -1,12 +1,11 @@
 //! The clients that are asked about.
 
 use std::alloc::{AllocError, Global};
-use std::io::Write;
 use tso_flow::ProcedureKind;
-use tso_front::{Failure, Files, Session};
+use tso_front::Failure;
 use tso_line::CallKind;
 use tso_prog::Client;
-use tso_survey::{Asking, Bounds, Calls, list};
+use tso_survey::{Asking, Bounds, Calls, listed};
 
 /// Which procedures can run beside which, in two threads.
 #[derive(Clone, Copy, Debug, PartialEq, Eq)]
@@ -111,42 +110,16 @@ fn calls_of(alloc: Global, lines: &str) -> Result<Vec<Calls>, AllocError> {
     Ok(calls)
 }
 
-// The lines of the clients that a survey would search.
-fn listed<F: Files, O: Write, E: Write>(
-    session: &mut Session<'_, '_, '_, F, O, E>,
-    asking: &Asking<'_>,
-) -> Result<Vec<u8>, Failure> {
-    let alloc = session.alloc;
-    let mut lines = Vec::new(alloc);
-    let mut listing = Session {
-        alloc,
-        files: &mut *session.files,
-        out: &mut lines,
-        err: &mut *session.err,
-    };
-    match list(&mut listing, asking) {
-        Ok(_) => Ok(lines),
-        // The lines go to memory.
-        Err(Failure::CannotPrint) => Err(Failure::Memory),
-        Err(failure) => Err(failure),
-    }
-}
-
 /// The clients of a survey, or that of the text.
 ///
 /// Errors: `Usage` where a survey has too many; `Memory`.
-pub fn clients_of<'a, F: Files, O: Write, E: Write>(
-    session: &mut Session<'_, '_, '_, F, O, E>,
-    survey: &Option<Asking<'a>>,
-) -> Result<Clients<'a>, Failure> {
-    let alloc = session.alloc;
+pub fn clients_of<'a>(alloc: Global, survey: &Option<Asking<'a>>) -> Result<Clients<'a>, Failure> {
     let Some(asking) = survey else {
         return Ok(Clients::Own);
     };
-    let lines = listed(session, asking)?;
-    let lines = std::str::from_utf8(&lines).unwrap_or("");
+    let lines = listed(alloc, asking)?;
     Ok(Clients::Surveyed(Surveyed {
-        calls: calls_of(alloc, lines)?,
+        calls: calls_of(alloc, lines.as_str())?,
         bounds: asking.bounds,
         mode: asking.mode,
     }))

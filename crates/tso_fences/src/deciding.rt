@@ -3,10 +3,9 @@
 use crate::clients::{Clients, Surveyed};
 use crate::ruling::{Ruling, Standing, standing_of};
 use std::alloc::{AllocError, Global};
-use std::io::Write;
 use std::sync::Wait;
 use std::thread::Threads;
-use tso_front::{Failure, Files, Session};
+use tso_front::{Failure, Session};
 use tso_survey::{Calls, Decided, Finder, Finding};
 
 // Calls that say nothing.
@@ -27,13 +26,13 @@ fn no_calls_of(alloc: Global, texts: &[Vec<u8>]) -> Result<Vec<Calls>, AllocErro
 }
 
 // What is found of the own client of each of these texts.
-fn rule_own<R: Threads + Wait + Sync, D: Finder, F: Files, O: Write, E: Write>(
+fn rule_own<R: Threads + Wait + Sync, D: Finder, S: Session>(
     rt: &R,
     finder: &D,
-    session: &mut Session<'_, '_, '_, F, O, E>,
+    session: &mut S,
     texts: &[Vec<u8>],
 ) -> Result<Vec<Ruling>, Failure> {
-    let alloc = session.alloc;
+    let alloc = session.alloc();
     let calls = no_calls_of(alloc, texts)?;
     let mut rulings = Vec::new(alloc);
     for finding in finder.find(rt, session, &calls, texts)? {
@@ -86,15 +85,15 @@ fn worst(
 }
 
 // What is found of these clients of a survey, if not each is accepted.
-fn rule_some<R: Threads + Wait + Sync, D: Finder, F: Files, O: Write, E: Write>(
+fn rule_some<R: Threads + Wait + Sync, D: Finder, S: Session>(
     rt: &R,
     finder: &D,
-    session: &mut Session<'_, '_, '_, F, O, E>,
+    session: &mut S,
     surveyed: &Surveyed<'_>,
     text: &[u8],
     calls: &[Calls],
 ) -> Result<Option<Ruling>, Failure> {
-    let alloc = session.alloc;
+    let alloc = session.alloc();
     let texts = surveyed.texts(alloc, text, calls)?;
     let findings = finder.find(rt, session, calls, &texts)?;
     Ok(worst(alloc, calls, findings)?)
@@ -110,10 +109,10 @@ fn worse(first: Ruling, second: Ruling) -> Ruling {
 }
 
 // What is found of the clients of a survey, up to one that has a run that is not good.
-fn rule_surveyed<R: Threads + Wait + Sync, D: Finder, F: Files, O: Write, E: Write>(
+fn rule_surveyed<R: Threads + Wait + Sync, D: Finder, S: Session>(
     rt: &R,
     finder: &D,
-    session: &mut Session<'_, '_, '_, F, O, E>,
+    session: &mut S,
     surveyed: &Surveyed<'_>,
     text: &[u8],
 ) -> Result<Ruling, Failure> {
@@ -130,14 +129,14 @@ fn rule_surveyed<R: Threads + Wait + Sync, D: Finder, F: Files, O: Write, E: Wri
 }
 
 // The same with each of these texts.
-fn rule_each<R: Threads + Wait + Sync, D: Finder, F: Files, O: Write, E: Write>(
+fn rule_each<R: Threads + Wait + Sync, D: Finder, S: Session>(
     rt: &R,
     finder: &D,
-    session: &mut Session<'_, '_, '_, F, O, E>,
+    session: &mut S,
     surveyed: &Surveyed<'_>,
     texts: &[Vec<u8>],
 ) -> Result<Vec<Ruling>, Failure> {
-    let mut rulings = Vec::new(session.alloc);
+    let mut rulings = Vec::new(session.alloc());
     for text in texts {
         rulings.push(rule_surveyed(rt, finder, session, surveyed, text)?)?;
     }
@@ -147,10 +146,10 @@ fn rule_each<R: Threads + Wait + Sync, D: Finder, F: Files, O: Write, E: Write>(
 /// What is found of the clients with each of these texts, in their order.
 ///
 /// Errors: those of the finder.
-pub fn rule<R: Threads + Wait + Sync, D: Finder, F: Files, O: Write, E: Write>(
+pub fn rule<R: Threads + Wait + Sync, D: Finder, S: Session>(
     rt: &R,
     finder: &D,
-    session: &mut Session<'_, '_, '_, F, O, E>,
+    session: &mut S,
     clients: &Clients<'_>,
     texts: &[Vec<u8>],
 ) -> Result<Vec<Ruling>, Failure> {
@@ -163,14 +162,14 @@ pub fn rule<R: Threads + Wait + Sync, D: Finder, F: Files, O: Write, E: Write>(
 /// What is found of them with one text.
 ///
 /// Errors: those of the finder.
-pub fn rule_one<R: Threads + Wait + Sync, D: Finder, F: Files, O: Write, E: Write>(
+pub fn rule_one<R: Threads + Wait + Sync, D: Finder, S: Session>(
     rt: &R,
     finder: &D,
-    session: &mut Session<'_, '_, '_, F, O, E>,
+    session: &mut S,
     clients: &Clients<'_>,
     text: &[u8],
 ) -> Result<Ruling, Failure> {
-    let alloc = session.alloc;
+    let alloc = session.alloc();
     let mut texts = Vec::new(alloc);
     texts.push(Vec::from_slice(alloc, text)?)?;
     let mut rulings = rule(rt, finder, session, clients, &texts)?;

@@ -11,16 +11,15 @@ use crate::tally::{Tally, end_fenced, end_open, end_taken_back};
 use crate::trials::Trials;
 use crate::words::Fences;
 use std::alloc::Global;
-use std::io::Write;
 use std::sync::Wait;
 use std::thread::Threads;
-use tso_check::checked_of;
-use tso_front::{Failure, Files, Session, misused};
+use tso_client::checked_of;
+use tso_front::{Failure, Session, misused};
 use tso_survey::Finder;
 
 // Says what a change comes to that was tried, and counts it.
-fn put_tried<F: Files, O: Write, E: Write>(
-    session: &mut Session<'_, '_, '_, F, O, E>,
+fn put_tried<S: Session>(
+    session: &mut S,
     json: bool,
     tally: &mut Tally,
     change: &Change,
@@ -32,8 +31,8 @@ fn put_tried<F: Files, O: Write, E: Write>(
 }
 
 // Says what each of these changes comes to, or why it is not tried, and counts them.
-fn put_all<F: Files, O: Write, E: Write>(
-    session: &mut Session<'_, '_, '_, F, O, E>,
+fn put_all<S: Session>(
+    session: &mut S,
     json: bool,
     tally: &mut Tally,
     changes: &[(Change, Option<Reason>)],
@@ -53,10 +52,10 @@ fn put_all<F: Files, O: Write, E: Write>(
 }
 
 // Decides changes, says what each comes to, and counts them.
-fn settle<R: Threads + Wait + Sync, D: Finder, F: Files, O: Write, E: Write>(
+fn settle<R: Threads + Wait + Sync, D: Finder, S: Session>(
     rt: &R,
     finder: &D,
-    session: &mut Session<'_, '_, '_, F, O, E>,
+    session: &mut S,
     clients: &Clients<'_>,
     asked: &Fences<'_>,
     tally: &mut Tally,
@@ -67,15 +66,15 @@ fn settle<R: Threads + Wait + Sync, D: Finder, F: Files, O: Write, E: Write>(
 }
 
 // Takes back one instruction after the other, and says which are needed.
-fn take_back<R: Threads + Wait + Sync, D: Finder, F: Files, O: Write, E: Write>(
+fn take_back<R: Threads + Wait + Sync, D: Finder, S: Session>(
     rt: &R,
     finder: &D,
-    session: &mut Session<'_, '_, '_, F, O, E>,
+    session: &mut S,
     clients: &Clients<'_>,
     asked: &Fences<'_>,
     author: &Author<'_>,
 ) -> Result<u8, Failure> {
-    let alloc = session.alloc;
+    let alloc = session.alloc();
     let mut tally = Tally::new(alloc);
     let sites = sites_of(alloc, author.client)?;
     for sites in sites.chunks(width_of(finder, clients).max(1)) {
@@ -86,10 +85,10 @@ fn take_back<R: Threads + Wait + Sync, D: Finder, F: Files, O: Write, E: Write>(
 }
 
 // Tries sets of one size, but for those in which one stands that is right.
-fn add_sets<R: Threads + Wait + Sync, D: Finder, F: Files, O: Write, E: Write>(
+fn add_sets<R: Threads + Wait + Sync, D: Finder, S: Session>(
     rt: &R,
     finder: &D,
-    session: &mut Session<'_, '_, '_, F, O, E>,
+    session: &mut S,
     clients: &Clients<'_>,
     asked: &Fences<'_>,
     tally: &mut Tally,
@@ -97,23 +96,23 @@ fn add_sets<R: Threads + Wait + Sync, D: Finder, F: Files, O: Write, E: Write>(
     sets: &[Vec<usize>],
 ) -> Result<(), Failure> {
     for sets in sets.chunks(width_of(finder, clients).max(1)) {
-        let trials = Trials::behind(session.alloc, text, sets, &tally.right)?;
+        let trials = Trials::behind(session.alloc(), text, sets, &tally.right)?;
         settle(rt, finder, session, clients, asked, tally, &trials)?;
     }
     Ok(())
 }
 
 // Tries sets of fences, the smallest first, and says which make the text right.
-fn add<R: Threads + Wait + Sync, D: Finder, F: Files, O: Write, E: Write>(
+fn add<R: Threads + Wait + Sync, D: Finder, S: Session>(
     rt: &R,
     finder: &D,
-    session: &mut Session<'_, '_, '_, F, O, E>,
+    session: &mut S,
     clients: &Clients<'_>,
     asked: &Fences<'_>,
     text: &[u8],
     lines: &[usize],
 ) -> Result<u8, Failure> {
-    let alloc = session.alloc;
+    let alloc = session.alloc();
     let mut tally = Tally::new(alloc);
     let mut sets = empty(alloc)?;
     for _ in 0..asked.add {
@@ -142,10 +141,10 @@ fn stores_within(
 }
 
 // Asks what the standing of the text as it stands leaves to ask.
-fn go_on<R: Threads + Wait + Sync, D: Finder, F: Files, O: Write, E: Write>(
+fn go_on<R: Threads + Wait + Sync, D: Finder, S: Session>(
     rt: &R,
     finder: &D,
-    session: &mut Session<'_, '_, '_, F, O, E>,
+    session: &mut S,
     clients: &Clients<'_>,
     asked: &Fences<'_>,
     author: &Author<'_>,
@@ -157,7 +156,7 @@ fn go_on<R: Threads + Wait + Sync, D: Finder, F: Files, O: Write, E: Write>(
             take_back(rt, finder, session, clients, asked, author)
         }
         Standing::Wrong => {
-            let lines = stores_within(session.alloc, author, asked)?;
+            let lines = stores_within(session.alloc(), author, asked)?;
             say_unchanged(session, asked.json, ruling)?;
             add(rt, finder, session, clients, asked, author.text, &lines)
         }
@@ -173,15 +172,15 @@ fn go_on<R: Threads + Wait + Sync, D: Finder, F: Files, O: Write, E: Write>(
 ///
 /// Errors: `Program` with the first fault of the text; `Usage` where there are too many sets of fences, or too many clients of a
 /// survey; `CannotPrint`; `Memory`.
-pub fn fences<R: Threads + Wait + Sync, D: Finder, F: Files, O: Write, E: Write>(
+pub fn fences<R: Threads + Wait + Sync, D: Finder, S: Session>(
     rt: &R,
     finder: &D,
-    session: &mut Session<'_, '_, '_, F, O, E>,
+    session: &mut S,
     text: &[u8],
     asked: &Fences<'_>,
 ) -> Result<u8, Failure> {
-    let checked = checked_of(session.alloc, text)?;
-    let clients = clients_of(session, &asked.survey)?;
+    let checked = checked_of(session.alloc(), text)?;
+    let clients = clients_of(session.alloc(), &asked.survey)?;
     let author = Author {
         text,
         client: &checked.client,

@@ -4,14 +4,13 @@ use crate::changes::{Change, Reason};
 use crate::ruling::{Ruling, Standing};
 use serde_json::{Value, json};
 use std::alloc::{AllocError, Global};
-use std::io::Write;
-use tso_front::{Failure, Files, Session};
+use tso_front::{Failure, Session};
 
 /// Prints a line, or the object that says the same.
 ///
 /// Errors: `CannotPrint`; `Memory`.
-pub fn say<F: Files, O: Write, E: Write>(
-    session: &mut Session<'_, '_, '_, F, O, E>,
+pub fn say<S: Session>(
+    session: &mut S,
     json: bool,
     line: &str,
     object: &Value,
@@ -95,12 +94,12 @@ fn answer(change: &Change, standing: Standing) -> &'static str {
 /// Says what is found of the text as it stands.
 ///
 /// Errors: `CannotPrint`; `Memory`.
-pub fn say_unchanged<F: Files, O: Write, E: Write>(
-    session: &mut Session<'_, '_, '_, F, O, E>,
+pub fn say_unchanged<S: Session>(
+    session: &mut S,
     json: bool,
     ruling: &Ruling,
 ) -> Result<(), Failure> {
-    let alloc = session.alloc;
+    let alloc = session.alloc();
     let line = format!(in alloc; "as it stands: {ruling}\n")?;
     let answer = match ruling.standing() {
         Standing::Right => "right",
@@ -115,13 +114,13 @@ pub fn say_unchanged<F: Files, O: Write, E: Write>(
 /// Says what a change comes to.
 ///
 /// Errors: `CannotPrint`; `Memory`.
-pub fn say_tried<F: Files, O: Write, E: Write>(
-    session: &mut Session<'_, '_, '_, F, O, E>,
+pub fn say_tried<S: Session>(
+    session: &mut S,
     json: bool,
     change: &Change,
     ruling: &Ruling,
 ) -> Result<(), Failure> {
-    let alloc = session.alloc;
+    let alloc = session.alloc();
     let answer = answer(change, ruling.standing());
     let line = match change {
         Change::Back { .. } => format!(in alloc; "{change}: {answer}: {ruling}\n")?,
@@ -135,13 +134,13 @@ pub fn say_tried<F: Files, O: Write, E: Write>(
 /// Says why a change is not tried.
 ///
 /// Errors: `CannotPrint`; `Memory`.
-pub fn say_untried<F: Files, O: Write, E: Write>(
-    session: &mut Session<'_, '_, '_, F, O, E>,
+pub fn say_untried<S: Session>(
+    session: &mut S,
     json: bool,
     change: &Change,
     reason: Reason,
 ) -> Result<(), Failure> {
-    let alloc = session.alloc;
+    let alloc = session.alloc();
     let why = reason.to_string(alloc)?;
     let line = format!(in alloc; "{change}: not tried: {why}\n")?;
     let (word, lines) = told(alloc, change)?;

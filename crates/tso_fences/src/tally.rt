@@ -6,8 +6,7 @@ use crate::ruling::Standing;
 use crate::saying::{numbers, say};
 use serde_json::{Value, json};
 use std::alloc::{AllocError, Global};
-use std::io::Write;
-use tso_front::{Failure, Files, Session};
+use tso_front::{Failure, Session};
 
 /// What the changes have come to.
 #[derive(Debug, Drop)]
@@ -83,13 +82,13 @@ fn scope(alloc: Global, clients: &Clients<'_>) -> Result<String, AllocError> {
 /// Says which instructions are needed, and gives the status.
 ///
 /// Errors: `CannotPrint`; `Memory`.
-pub fn end_taken_back<F: Files, O: Write, E: Write>(
-    session: &mut Session<'_, '_, '_, F, O, E>,
+pub fn end_taken_back<S: Session>(
+    session: &mut S,
     json: bool,
     clients: &Clients<'_>,
     tally: &Tally,
 ) -> Result<u8, Failure> {
-    let alloc = session.alloc;
+    let alloc = session.alloc();
     let scope = scope(alloc, clients)?;
     let (needed, not_needed) = (tally.needed, tally.not_needed);
     let (undecided, untried) = (tally.undecided, tally.untried);
@@ -126,14 +125,14 @@ fn right_text(alloc: Global, tally: &Tally, most: usize) -> Result<String, Alloc
 /// Says which sets of at most so many fences make the text right, and gives the status.
 ///
 /// Errors: `CannotPrint`; `Memory`.
-pub fn end_fenced<F: Files, O: Write, E: Write>(
-    session: &mut Session<'_, '_, '_, F, O, E>,
+pub fn end_fenced<S: Session>(
+    session: &mut S,
     json: bool,
     clients: &Clients<'_>,
     tally: &Tally,
     most: usize,
 ) -> Result<u8, Failure> {
-    let alloc = session.alloc;
+    let alloc = session.alloc();
     let scope = scope(alloc, clients)?;
     let right = right_text(alloc, tally, most)?;
     let (undecided, untried) = (tally.undecided, tally.untried);
@@ -155,12 +154,12 @@ pub fn end_fenced<F: Files, O: Write, E: Write>(
 /// Says that nothing follows, since nothing follows of the text as it stands, and gives the status.
 ///
 /// Errors: `CannotPrint`; `Memory`.
-pub fn end_open<F: Files, O: Write, E: Write>(
-    session: &mut Session<'_, '_, '_, F, O, E>,
+pub fn end_open<S: Session>(
+    session: &mut S,
     json: bool,
     clients: &Clients<'_>,
 ) -> Result<u8, Failure> {
-    let alloc = session.alloc;
+    let alloc = session.alloc();
     let scope = scope(alloc, clients)?;
     let line = format!(in alloc; "{scope}: undecided\n")?;
     let count = clients.count() as u64;

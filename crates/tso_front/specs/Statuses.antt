@@ -1,7 +1,5 @@
 -- The status with which a program ends.
 use Rattle.std.specs.Prelude.{ℕ}
-use Rattle.tso_check.specs.declared.verdict.Verdict.{Verdict}
-use Rattle.tso_check.specs.declared.verdict.Verdict.TheVariants.{Accepted, Rejected}
 use Rattle.tso_front.specs.declared.failure.Failure.{Failure}
 use Rattle.tso_front.specs.declared.failure.Failure.TheVariants.{Usage, NotText, Program, Trace, Limit, CannotRead, CannotWrite, CannotPrint, Memory}
 
@@ -16,8 +14,3 @@ status_of (CannotWrite path) = 6
 status_of CannotPrint = 6
 status_of (Usage text) = 64
 status_of NotText = 64
-
--- with which a verdict on a certificate ends
-abbrev pub status_of_verdict : Verdict → ℕ
-status_of_verdict Accepted = 0
-status_of_verdict (Rejected code place) = 3

@@ -6,7 +6,7 @@ ghost use Rattle.tso_front.specs.Statuses.{status_of};
 use std::alloc::{AllocError, AllocFailed, Global};
 use std::fmt;
 use std::io::ErrorKind;
-use tso_check::CheckError;
+use tso_client::CheckError;
 use tso_prog::Fault;
 use tso_trace::TraceFault;
 

@@ -1,9 +1,8 @@
 //! Answers as objects of JSON, one a line.
 
 use clap::{Arg, ArgAction};
-use serde_json::{Value, json};
+use serde_json::Value;
 use std::alloc::{AllocError, Global};
-use tso_check::Verdict;
 
 /// The option that asks for objects in place of lines.
 pub fn json_argument<'a>(alloc: Global) -> Arg<'a> {
@@ -27,19 +26,5 @@ pub fn number_or_null(number: Option<u64>) -> Value {
     match number {
         Some(number) => Value::from(number),
         None => Value::Null,
-    }
-}
-
-/// A verdict on a certificate.
-///
-/// Errors: where a growth was refused.
-pub fn verdict_object(alloc: Global, verdict: Verdict) -> Result<Value, AllocError> {
-    match verdict {
-        Verdict::Accepted => json!(in alloc; {"verdict": "accepted"}),
-        Verdict::Rejected { code, place } => {
-            let code = code.to_string(alloc)?;
-            let record = number_or_null(place);
-            json!(in alloc; {"verdict": "rejected", "code": code, "record": record})
-        }
     }
 }

@@ -1,8 +1,6 @@
-//! What both programs begin with: the words of the command line, files by their paths, failures with their statuses, and the
-//! verdict on a certificate, which one of them gives and does nothing else.
+//! What both programs begin with: the words of the command line, files by their paths, and failures with their statuses.
 #![tactic(auto)]
 
-mod checking;
 mod draft;
 mod failure;
 mod files;
@@ -13,16 +11,12 @@ mod session;
 mod variant;
 mod words;
 
-pub use checking::{
-    Check, cert_argument, check_arguments, check_bytes, check_of, verdict_status, workers_argument,
-    workers_of,
-};
 pub use draft::Draft;
 pub use failure::{Failure, cannot_read, cannot_write, misused};
 pub use files::{Files, STREAM, read_up_to};
 pub use host::HostFiles;
-pub use json::{json_argument, json_line, number_or_null, verdict_object};
+pub use json::{json_argument, json_line, number_or_null};
 pub use paths::{both_apart, read_apart, written_apart};
-pub use session::{Session, reported};
+pub use session::{Out, Session, Streams, reported};
 pub use variant::{Variant, variant_arguments, variant_of};
 pub use words::{Ended, VERSION, ended_words, program_argument, started};

@@ -10,121 +10,224 @@ use crate::json::json_line;
 use crate::variant::Variant;
 use serde_json::Value;
 use std::alloc::Global;
-use std::io::Write;
-use std::{fmt, io};
+use std::io;
+use std::io::{ErrorKind, Read, Write};
 
-/// A program text has at most 65,536 bytes, so one more shows that it is too long.
-pub const PROGRAM_BYTES: usize = 65_537;
+// A program text has at most 65,536 bytes, so one more shows that it is too long.
+const PROGRAM_BYTES: usize = 65_537;
 
-/// What a command runs with: where its memory comes from, what opens its files, standard output and standard error.
+/// What a command runs with: where its memory comes from, its files, standard output and standard error.
+pub trait Session {
+    /// Where memory comes from.
+    fn alloc(&self) -> Global;
+
+    /// The first `limit` bytes of a file, all of it where it has fewer.
+    ///
+    /// Errors: `CannotRead`; `Memory`.
+    fn read(&mut self, path: &str, limit: usize) -> Result<Vec<u8>, Failure>
+        ensures short { IfOk result (λ bytes. vec_len bytes ≤ limit) };
+
+    /// The bytes of a program text, and one more where it is too long.
+    ///
+    /// Errors: `CannotRead`; `Memory`.
+    fn read_program(&mut self, path: &str) -> Result<Vec<u8>, Failure>
+        ensures short { IfOk result (λ bytes. vec_len bytes ≤ 65537) };
+
+    /// The bytes of a program text, with other calls in place of its own.
+    ///
+    /// Errors: `CannotRead`; `Usage` where the words for the calls are none; `Memory`.
+    fn read_variant(&mut self, path: &str, variant: &Variant<'_>) -> Result<Vec<u8>, Failure>;
+
+    /// Why a file gives no byte, if it can't be opened or read.
+    fn unreadable(&mut self, path: &str) -> Option<io::Error>;
+
+    /// Writes a new file. It has its name when it is whole; where it fails, what had that name is as it was.
+    ///
+    /// Errors: `CannotWrite` where the file failed; `Memory`.
+    fn write(&mut self, path: &str, bytes: &[u8]) -> Result<(), Failure>;
+
+    /// Makes a folder. One that is there serves, and where there is none the first file in it says so.
+    fn make_folder(&mut self, path: &str);
+
+    /// Writes bytes to standard output.
+    ///
+    /// Errors: `CannotPrint`.
+    fn print_bytes(&mut self, bytes: &[u8]) -> Result<(), Failure>;
+
+    /// Writes a text to standard output.
+    ///
+    /// Errors: `CannotPrint`.
+    fn print(&mut self, text: &str) -> Result<(), Failure>;
+
+    /// Writes an object of JSON to standard output, as a line.
+    ///
+    /// Errors: `CannotPrint`; `Memory`.
+    fn print_object(&mut self, object: &Value) -> Result<(), Failure>;
+
+    /// Has all that was written to standard output written out.
+    ///
+    /// Errors: `CannotPrint`.
+    fn flush(&mut self) -> Result<(), Failure>;
+
+    /// Writes bytes to standard error. What fails there is not told.
+    fn note(&mut self, bytes: &[u8]);
+
+    /// Says on standard error what failed, and gives the status.
+    fn report(&mut self, failure: &Failure) -> u8
+        ensures { result ≡ status_of failure.now };
+}
+
+/// A session over what opens files, standard output and standard error.
 #[derive(Drop)]
-pub struct Session<'f, 'o, 'e, F: Files, O: Write, E: Write> {
+pub struct Streams<'f, 'o, 'e, F: Files, O: Write, E: Write> {
     pub alloc: Global,
     pub files: &'f mut F,
     pub out: &'o mut O,
     pub err: &'e mut E,
 }
 
-impl<F: Files, O: Write, E: Write> Session<'_, '_, '_, F, O, E> {
-    /// The first `limit` bytes of a file, all of it where it has fewer.
-    ///
-    /// Errors: `CannotRead`; `Memory`.
-    pub fn read(&mut self, path: &str, limit: usize) -> Result<Vec<u8>, Failure>
-        ensures short { IfOk result (λ bytes. vec_len bytes ≤ limit) }
-    {
+// Writes a file anew.
+fn write_anew<F: Files>(files: &mut F, path: &str, bytes: &[u8]) -> io::Result<()> {
+    let mut file = files.create(path)?;
+    file.write_all(bytes)?;
+    file.flush()
+}
+
+// Writes a new file, which has its name when it is whole.
+fn write_whole<F: Files>(
+    alloc: Global,
+    files: &mut F,
+    path: &str,
+    bytes: &[u8],
+) -> Result<(), Failure> {
+    let draft = Draft::of(alloc, files, path)?;
+    let written = match write_anew(files, draft.path(), bytes) {
+        Ok(()) => Ok(()),
+        Err(error) => Err(cannot_write(alloc, path, error.kind())),
+    };
+    draft.settle(alloc, files, written)
+}
+
+// Writes bytes to standard output.
+fn printed<O: Write>(out: &mut O, bytes: &[u8]) -> Result<(), Failure> {
+    match out.write_all(bytes) {
+        Ok(()) => Ok(()),
+        Err(_) => Err(Failure::CannotPrint),
+    }
+}
+
+impl<F: Files, O: Write, E: Write> Session for Streams<'_, '_, '_, F, O, E> {
+    fn alloc(&self) -> Global {
+        self.alloc
+    }
+
+    fn read(&mut self, path: &str, limit: usize) -> Result<Vec<u8>, Failure> {
         read_up_to(self.alloc, self.files, path, limit)
     }
 
-    /// The bytes of a program text, and one more where it is too long.
-    ///
-    /// Errors: `CannotRead`; `Memory`.
-    pub fn read_program(&mut self, path: &str) -> Result<Vec<u8>, Failure>
-        ensures short { IfOk result (λ bytes. vec_len bytes ≤ 65537) }
-    {
-        self.read(path, PROGRAM_BYTES)
+    fn read_program(&mut self, path: &str) -> Result<Vec<u8>, Failure> {
+        read_up_to(self.alloc, self.files, path, PROGRAM_BYTES)
     }
 
-    /// The bytes of a program text, with other calls in place of its own.
-    ///
-    /// Errors: `CannotRead`; `Usage` where the words for the calls are none; `Memory`.
-    pub fn read_variant(&mut self, path: &str, variant: &Variant<'_>) -> Result<Vec<u8>, Failure> {
-        let text = self.read_program(path)?;
+    fn read_variant(&mut self, path: &str, variant: &Variant<'_>) -> Result<Vec<u8>, Failure> {
+        let text = read_up_to(self.alloc, self.files, path, PROGRAM_BYTES)?;
         variant.applied(self.alloc, text)
     }
 
-    /// Writes bytes to standard output.
-    ///
-    /// Errors: `CannotPrint`.
-    pub fn print_bytes(&mut self, bytes: &[u8]) -> Result<(), Failure> {
-        match self.out.write_all(bytes) {
-            Ok(()) => Ok(()),
-            Err(_) => Err(Failure::CannotPrint),
+    fn unreadable(&mut self, path: &str) -> Option<io::Error> {
+        match self.files.open(path) {
+            Err(error) => Some(error),
+            Ok(mut reader) => reader.read(&mut [0u8; 1]).err(),
         }
     }
 
-    /// Writes a text to standard output.
-    ///
-    /// Errors: `CannotPrint`.
-    pub fn print(&mut self, text: &str) -> Result<(), Failure> {
-        self.print_bytes(text.as_bytes())
+    fn write(&mut self, path: &str, bytes: &[u8]) -> Result<(), Failure> {
+        write_whole(self.alloc, self.files, path, bytes)
     }
 
-    /// Writes a value to standard output, as it is shown.
-    ///
-    /// Errors: `CannotPrint`; `Memory`.
-    pub fn print_shown<T: fmt::Display>(&mut self, value: &T) -> Result<(), Failure> {
-        let text = value.to_string(self.alloc)?;
-        self.print(text.as_str())
+    fn make_folder(&mut self, path: &str) {
+        let _made = self.files.create_folder(path);
     }
 
-    /// Writes an object of JSON to standard output, as a line.
-    ///
-    /// Errors: `CannotPrint`; `Memory`.
-    pub fn print_object(&mut self, object: &Value) -> Result<(), Failure> {
+    fn print_bytes(&mut self, bytes: &[u8]) -> Result<(), Failure> {
+        printed(self.out, bytes)
+    }
+
+    fn print(&mut self, text: &str) -> Result<(), Failure> {
+        printed(self.out, text.as_bytes())
+    }
+
+    fn print_object(&mut self, object: &Value) -> Result<(), Failure> {
         let line = json_line(self.alloc, object)?;
-        self.print(line.as_str())
+        printed(self.out, line.as_bytes())
     }
 
-    // Writes a file anew.
-    fn write_anew(&mut self, path: &str, bytes: &[u8]) -> io::Result<()> {
-        let mut file = self.files.create(path)?;
-        file.write_all(bytes)?;
-        file.flush()
-    }
-
-    /// Writes a new file. It has its name when it is whole; where it fails, what had that name is as it was.
-    ///
-    /// Errors: `CannotWrite` where the file failed; `Memory`.
-    pub fn write(&mut self, path: &str, bytes: &[u8]) -> Result<(), Failure> {
-        let draft = Draft::of(self.alloc, self.files, path)?;
-        let written = match self.write_anew(draft.path(), bytes) {
-            Ok(()) => Ok(()),
-            Err(error) => Err(cannot_write(self.alloc, path, error.kind())),
-        };
-        draft.settle(self.alloc, self.files, written)
-    }
-
-    /// Has all that was written to standard output written out.
-    ///
-    /// Errors: `CannotPrint`.
-    pub fn flush(&mut self) -> Result<(), Failure> {
+    fn flush(&mut self) -> Result<(), Failure> {
         match self.out.flush() {
             Ok(()) => Ok(()),
             Err(_) => Err(Failure::CannotPrint),
         }
     }
 
-    /// Writes bytes to standard error. What fails there is not told.
-    pub fn note(&mut self, bytes: &[u8]) {
+    fn note(&mut self, bytes: &[u8]) {
         let _ = self.err.write_all(bytes);
         let _ = self.err.flush();
     }
 
-    /// Says on standard error what failed, and gives the status.
-    pub fn report(&mut self, failure: &Failure) -> u8
-        ensures { result ≡ status_of failure.now }
-    {
+    fn report(&mut self, failure: &Failure) -> u8 {
         reported(self.alloc, self.err, failure)
+    }
+}
+
+impl<F: Files, O: Write, E: Write> Files for Streams<'_, '_, '_, F, O, E> {
+    type Reader = F::Reader;
+
+    type Writer = F::Writer;
+
+    fn open(&mut self, path: &str) -> io::Result<F::Reader> {
+        self.files.open(path)
+    }
+
+    fn create(&mut self, path: &str) -> io::Result<F::Writer> {
+        self.files.create(path)
+    }
+
+    fn is_special(&mut self, path: &str) -> bool {
+        self.files.is_special(path)
+    }
+
+    fn rename(&mut self, from: &str, to: &str) -> io::Result<()> {
+        self.files.rename(from, to)
+    }
+
+    fn remove(&mut self, path: &str) -> io::Result<()> {
+        self.files.remove(path)
+    }
+
+    fn create_folder(&mut self, path: &str) -> io::Result<()> {
+        self.files.create_folder(path)
+    }
+}
+
+/// The standard output of a session, to be written to.
+#[derive(Drop)]
+pub struct Out<'s, S: Session> {
+    pub session: &'s mut S,
+}
+
+impl<S: Session> Write for Out<'_, S> {
+    fn write(&mut self, buf: &[u8]) -> io::Result<usize> {
+        match self.session.print_bytes(buf) {
+            Ok(()) => Ok(buf.len()),
+            Err(_) => Err(io::Error::from(ErrorKind::Other)),
+        }
+    }
+
+    fn flush(&mut self) -> io::Result<()> {
+        match self.session.flush() {
+            Ok(()) => Ok(()),
+            Err(_) => Err(io::Error::from(ErrorKind::Other)),
+        }
     }
 }
 

@@ -3,7 +3,7 @@
 use crate::failure::{Failure, misused};
 use clap::{Arg, ArgAction, ArgMatches, Command};
 use std::alloc::{AllocError, Global};
-use tso_check::{CheckError, checked_of};
+use tso_client::{CheckError, checked_of};
 
 const CALLS: &str =
     "--client has the calls of one to four threads, with | between two threads; --before has those of the prologue, or none.

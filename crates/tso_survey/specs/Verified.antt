@@ -1,6 +1,6 @@
 -- Texts whose clients' runs are all good.
 use Rattle.std.specs.Prelude.{ℕ, List}
-use Rattle.tso_check.specs.Headline.{DenotesChecked, EachRunIsGood}
+use Rattle.tso_client.specs.Headline.{DenotesChecked, EachRunIsGood}
 use Rattle.tso_prog.specs.declared.client.Client.{Client}
 
 -- the bytes denote this checked client, each of whose runs is good

@@ -1,7 +1,7 @@
 //! Texts whose clients' runs are all good.
 
 ghost use Rattle.std.specs.Prelude.{◌≡◌, ◌↔◌, All, IfNone, IfSome, IsTrue};
-ghost use Rattle.tso_check.specs.Headline.{DenotesChecked, EachRunIsGood, IsVerified};
+ghost use Rattle.tso_client.specs.Headline.{DenotesChecked, EachRunIsGood, IsVerified};
 ghost use Rattle.tso_covers.specs.Clients.{ClientCovers};
 ghost use Rattle.tso_survey.specs.Verified.{IsGoodText};
 

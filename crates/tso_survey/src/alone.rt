@@ -1,5 +1,8 @@
 //! The program that decides certificates and does nothing else.
 
+use crate::checking::{
+    Check, cert_argument, check_arguments, check_bytes, check_of, verdict_status,
+};
 use crate::collecting::Collector;
 use crate::surveying::survey;
 use crate::words::{asking_of, collect_arguments};
@@ -9,10 +12,7 @@ use std::env::Env;
 use std::io::Write;
 use std::sync::Wait;
 use std::thread::Threads;
-use tso_front::{
-    Check, Failure, Files, Session, VERSION, cert_argument, check_arguments, check_bytes, check_of,
-    ended_words, reported, started, verdict_status,
-};
+use tso_front::{Failure, Files, Session, Streams, VERSION, ended_words, reported, started};
 
 const HELP: &str =
     "Reads FILE, a program text, and CERT, a certificate, and trusts neither. Writes no file. Its lines and its status
@@ -40,9 +40,9 @@ fn command<'a>(alloc: Global) -> Result<Command<'a>, AllocError> {
 }
 
 // Decides the certificate that the words name, and gives the status.
-fn answer<R: Threads + Wait + Sync, F: Files, O: Write, E: Write>(
+fn answer<R: Threads + Wait + Sync, S: Session>(
     rt: &R,
-    session: &mut Session<'_, '_, '_, F, O, E>,
+    session: &mut S,
     asked: &Check<'_>,
 ) -> Result<u8, Failure> {
     let program = session.read_variant(asked.program, &asked.variant)?;
@@ -51,14 +51,14 @@ fn answer<R: Threads + Wait + Sync, F: Files, O: Write, E: Write>(
 }
 
 // Decides what a folder has of the clients that the words ask about, and gives the status.
-fn collect<R: Threads + Wait + Sync, F: Files, O: Write, E: Write>(
+fn collect<R: Threads + Wait + Sync, S: Session>(
     rt: &R,
-    session: &mut Session<'_, '_, '_, F, O, E>,
+    session: &mut S,
     matches: &ArgMatches<'_>,
     asked: &Check<'_>,
     folder: &str,
 ) -> Result<u8, Failure> {
-    let asking = asking_of(session.alloc, matches)?;
+    let asking = asking_of(session.alloc(), matches)?;
     let base = session.read_program(asked.program)?;
     let collector = Collector {
         folder,
@@ -68,12 +68,12 @@ fn collect<R: Threads + Wait + Sync, F: Files, O: Write, E: Write>(
 }
 
 // Does what the words ask for, and gives the status.
-fn perform<R: Threads + Wait + Sync, F: Files, O: Write, E: Write>(
+fn perform<R: Threads + Wait + Sync, S: Session>(
     rt: &R,
-    session: &mut Session<'_, '_, '_, F, O, E>,
+    session: &mut S,
     words: &[String],
 ) -> Result<u8, Failure> {
-    let alloc = session.alloc;
+    let alloc = session.alloc();
     match command(alloc)?.try_get_matches_from(words) {
         Ok(matches) => {
             let asked = check_of(alloc, &matches)?;
@@ -101,7 +101,7 @@ pub fn run_check<R: Threads + Wait + Sync, F: Files, O: Write, E: Write>(
     out: &mut O,
     err: &mut E,
 ) -> u8 {
-    let mut session = Session {
+    let mut session = Streams {
         alloc,
         files,
         out,

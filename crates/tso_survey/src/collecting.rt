@@ -5,12 +5,12 @@ use crate::calls::Calls;
 use crate::decided::Decided;
 use crate::finding::{Finder, Finding};
 use std::alloc::Global;
-use std::io::Write;
 use std::sync::Wait;
 use std::thread::Threads;
 use tso_cert::{NoWatch, Workers};
-use tso_check::{Verdict, check_with, checked_of};
-use tso_front::{Failure, Files, Session, read_up_to};
+use tso_check::{Verdict, check_with};
+use tso_client::checked_of;
+use tso_front::{Failure, Session};
 use tso_trace::{Trace, TraceFault};
 
 /// A trace text has at most 64 MiB.
@@ -25,17 +25,17 @@ pub struct Collector<'a> {
 }
 
 // The bytes of a file of a client, if the folder has it.
-fn file_of<F: Files, O: Write, E: Write>(
-    session: &mut Session<'_, '_, '_, F, O, E>,
+fn file_of<S: Session>(
+    session: &mut S,
     folder: &str,
     calls: &Calls,
     ending: &str,
     limit: usize,
 ) -> Result<Option<Vec<u8>>, Failure> {
-    let alloc = session.alloc;
+    let alloc = session.alloc();
     let name = calls.name(alloc)?;
     let path = format!(in alloc; "{folder}/{name}.{ending}")?;
-    match read_up_to(alloc, session.files, path.as_str(), limit) {
+    match session.read(path.as_str(), limit) {
         Ok(bytes) => Ok(Some(bytes)),
         Err(Failure::Memory) => Err(Failure::Memory),
         Err(_) => Ok(None),
@@ -78,14 +78,14 @@ impl<'a> Collector<'a> {
     /// What the folder says of a client.
     ///
     /// Errors: `Program` with the first fault of the text; `Memory`.
-    pub fn decided<R: Threads + Wait + Sync, F: Files, O: Write, E: Write>(
+    pub fn decided<R: Threads + Wait + Sync, S: Session>(
         &self,
         rt: &R,
-        session: &mut Session<'_, '_, '_, F, O, E>,
+        session: &mut S,
         calls: &Calls,
         text: &[u8],
     ) -> Result<Decided, Failure> {
-        let alloc = session.alloc;
+        let alloc = session.alloc();
         if let Some(cert) = file_of(session, self.folder, calls, "cert", usize::MAX)? {
             return by_certificate(rt, alloc, text, &cert, self.workers);
         }
@@ -98,10 +98,10 @@ impl<'a> Collector<'a> {
     /// The same, if a certificate or a trace of the client is there and is accepted.
     ///
     /// Errors: those of `decided`.
-    pub fn kept<R: Threads + Wait + Sync, F: Files, O: Write, E: Write>(
+    pub fn kept<R: Threads + Wait + Sync, S: Session>(
         &self,
         rt: &R,
-        session: &mut Session<'_, '_, '_, F, O, E>,
+        session: &mut S,
         calls: &Calls,
         text: &[u8],
     ) -> Result<Option<Finding>, Failure> {
@@ -121,14 +121,14 @@ impl<'a> Finder for Collector<'a> {
         1
     }
 
-    fn find<R: Threads + Wait + Sync, F: Files, O: Write, E: Write>(
+    fn find<R: Threads + Wait + Sync, S: Session>(
         &self,
         rt: &R,
-        session: &mut Session<'_, '_, '_, F, O, E>,
+        session: &mut S,
         calls: &[Calls],
         texts: &[Vec<u8>],
     ) -> Result<Vec<Finding>, Failure> {
-        let mut findings = Vec::new(session.alloc);
+        let mut findings = Vec::new(session.alloc());
         for (number, calls) in calls.iter().enumerate() {
             let Some(text) = texts.get(number) else {
                 break;

@@ -4,10 +4,9 @@ ghost use Rattle.std.specs.Thread.{IsSync};
 
 use crate::calls::Calls;
 use crate::decided::Decided;
-use std::io::Write;
 use std::sync::Wait;
 use std::thread::Threads;
-use tso_front::{Failure, Files, Session};
+use tso_front::{Failure, Session};
 
 /// What is found of a client, and the bytes of its certificate or trace, if they are to be written.
 #[derive(Debug, Drop)]
@@ -22,10 +21,10 @@ pub trait Finder {
     fn width(&self) -> usize;
 
     /// What is found of each of these clients, in their order.
-    fn find<R: Threads + Wait + Sync, F: Files, O: Write, E: Write>(
+    fn find<R: Threads + Wait + Sync, S: Session>(
         &self,
         rt: &R,
-        session: &mut Session<'_, '_, '_, F, O, E>,
+        session: &mut S,
         calls: &[Calls],
         texts: &[Vec<u8>],
     ) -> Result<Vec<Finding>, Failure>

@@ -1,4 +1,5 @@
-//! Surveys of a queue: which clients there are up to a size, which of them are searched, and what that says of the others.
+//! The verdict on a certificate, and surveys of a queue: which clients there are up to a size, which of them are searched, and
+//! what that says of the others.
 #![tactic(auto)]
 
 mod accepted;
@@ -7,6 +8,7 @@ mod beginning;
 mod bounds;
 mod calls;
 mod cases;
+mod checking;
 mod collecting;
 mod decided;
 mod finding;
@@ -21,8 +23,12 @@ pub use accepted::Accepted;
 pub use alone::{run_check, run_check_process};
 pub use bounds::Bounds;
 pub use calls::Calls;
+pub use checking::{
+    Check, cert_argument, check_arguments, check_bytes, check_of, put_verdict, verdict_on,
+    verdict_status, workers_argument, workers_of,
+};
 pub use collecting::Collector;
 pub use decided::Decided;
 pub use finding::{Finder, Finding};
-pub use surveying::{list, survey};
+pub use surveying::{listed, survey};
 pub use words::{Asking, Part, asking_arguments, asking_of};

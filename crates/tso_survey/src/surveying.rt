@@ -1,7 +1,7 @@
 //! The survey of a queue: all its clients up to a size.
 
 ghost use Rattle.std.specs.Prelude.{All, IfOk, IsTrue};
-ghost use Rattle.tso_check.specs.Headline.{IsVerified};
+ghost use Rattle.tso_client.specs.Headline.{IsVerified};
 
 use crate::accepted::{Accepted, are_all_accepted};
 use crate::calls::{Calls, Numbering};
@@ -13,11 +13,10 @@ use crate::tally::{Tally, Violated};
 use crate::words::Asking;
 use serde_json::json;
 use std::alloc::{AllocError, Global};
-use std::io::Write;
 use std::sync::Wait;
 use std::thread::Threads;
-use tso_check::checked_of;
-use tso_front::{Failure, Files, Session, misused};
+use tso_client::checked_of;
+use tso_front::{Failure, Session, misused};
 
 /// How many clients a survey asks about at the most.
 const MOST_CLIENTS: usize = 100_000;
@@ -28,8 +27,8 @@ fn is_over(tally: &Tally, asking: &Asking<'_>) -> bool {
 }
 
 // Prints the lines of these clients, one after the other, until the survey is over.
-fn put_all<F: Files, O: Write, E: Write>(
-    session: &mut Session<'_, '_, '_, F, O, E>,
+fn put_all<S: Session>(
+    session: &mut S,
     tally: &mut Tally,
     asking: &Asking<'_>,
     calls: &[Calls],
@@ -48,25 +47,25 @@ fn put_all<F: Files, O: Write, E: Write>(
 }
 
 // Says how far the survey has come, if that is asked for.
-fn note_progress<F: Files, O: Write, E: Write>(
-    session: &mut Session<'_, '_, '_, F, O, E>,
+fn note_progress<S: Session>(
+    session: &mut S,
     tally: &Tally,
     asking: &Asking<'_>,
     cases: &Cases,
 ) -> Result<(), Failure> {
     if asking.progress {
         let (count, all) = (tally.count, cases.calls.len());
-        let line = format!(in session.alloc; "{count} of {all} clients\n")?;
+        let line = format!(in session.alloc(); "{count} of {all} clients\n")?;
         session.note(line.as_bytes());
     }
     Ok(())
 }
 
 // Decides the clients, some at a time, until the survey is over.
-fn decide_all<R: Threads + Wait + Sync, D: Finder, F: Files, O: Write, E: Write>(
+fn decide_all<R: Threads + Wait + Sync, D: Finder, S: Session>(
     rt: &R,
     finder: &D,
-    session: &mut Session<'_, '_, '_, F, O, E>,
+    session: &mut S,
     tally: &mut Tally,
     asking: &Asking<'_>,
     cases: &Cases,
@@ -84,17 +83,17 @@ fn decide_all<R: Threads + Wait + Sync, D: Finder, F: Files, O: Write, E: Write>
 }
 
 // Decides one client.
-fn decide_one<R: Threads + Wait + Sync, D: Finder, F: Files, O: Write, E: Write>(
+fn decide_one<R: Threads + Wait + Sync, D: Finder, S: Session>(
     rt: &R,
     finder: &D,
-    session: &mut Session<'_, '_, '_, F, O, E>,
+    session: &mut S,
     tally: &mut Tally,
     base: &[u8],
     asking: &Asking<'_>,
     calls: Calls,
 ) -> Result<(), Failure> {
-    let mut cases = Cases::new(session.alloc);
-    cases.put(session.alloc, base, asking, calls)?;
+    let mut cases = Cases::new(session.alloc());
+    cases.put(session.alloc(), base, asking, calls)?;
     decide_all(rt, finder, session, tally, asking, &cases)
 }
 
@@ -116,10 +115,10 @@ fn smaller_than(
 }
 
 // Decides these clients up to one that has a run that is not good.
-fn decide_smaller<R: Threads + Wait + Sync, D: Finder, F: Files, O: Write, E: Write>(
+fn decide_smaller<R: Threads + Wait + Sync, D: Finder, S: Session>(
     rt: &R,
     finder: &D,
-    session: &mut Session<'_, '_, '_, F, O, E>,
+    session: &mut S,
     tally: &mut Tally,
     base: &[u8],
     asking: &Asking<'_>,
@@ -127,7 +126,7 @@ fn decide_smaller<R: Threads + Wait + Sync, D: Finder, F: Files, O: Write, E: Wr
     smaller: &[&Asked],
 ) -> Result<(), Failure> {
     for asked in smaller {
-        let calls = asked.calls(session.alloc, words, Numbering::Taken)?;
+        let calls = asked.calls(session.alloc(), words, Numbering::Taken)?;
         decide_one(rt, finder, session, tally, base, asking, calls)?;
         if tally.violated.is_some() {
             break;
@@ -186,11 +185,8 @@ fn answers_for_all(
 }
 
 // Says of how many clients nothing follows, and gives the status.
-fn put_undecided<F: Files, O: Write, E: Write>(
-    session: &mut Session<'_, '_, '_, F, O, E>,
-    tally: &mut Tally,
-) -> Result<u8, Failure> {
-    let alloc = session.alloc;
+fn put_undecided<S: Session>(session: &mut S, tally: &mut Tally) -> Result<u8, Failure> {
+    let alloc = session.alloc();
     let count = tally.count;
     let (limits, missing, refused) = (tally.limits, tally.missing, tally.refused);
     let line = format!(in alloc;
@@ -205,40 +201,36 @@ fn put_undecided<F: Files, O: Write, E: Write>(
 }
 
 // Says which client has a run that is not good, and gives the status.
-fn put_violated<F: Files, O: Write, E: Write>(
-    session: &mut Session<'_, '_, '_, F, O, E>,
+fn put_violated<S: Session>(
+    session: &mut S,
     tally: &mut Tally,
     violated: &Violated,
 ) -> Result<u8, Failure> {
     let calls = violated.calls.as_str();
-    let line = format!(in session.alloc; "violation: {calls}\n")?;
-    let object = json!(in session.alloc; {"verdict": "violation", "smallest": calls})?;
+    let line = format!(in session.alloc(); "violation: {calls}\n")?;
+    let object = json!(in session.alloc(); {"verdict": "violation", "smallest": calls})?;
     tally.say(session, line.as_str(), &object)?;
     Ok(1)
 }
 
 // Says that each client of a list or of a part was accepted, and gives the status.
-fn put_accepted<F: Files, O: Write, E: Write>(
-    session: &mut Session<'_, '_, '_, F, O, E>,
-    tally: &mut Tally,
-    of: usize,
-) -> Result<u8, Failure> {
+fn put_accepted<S: Session>(session: &mut S, tally: &mut Tally, of: usize) -> Result<u8, Failure> {
     let count = tally.count;
     let s = if count == 1 { "" } else { "s" };
     let line = if count == of {
-        format!(in session.alloc; "accepted: {count} client{s}\n")?
+        format!(in session.alloc(); "accepted: {count} client{s}\n")?
     } else {
-        format!(in session.alloc; "accepted: {count} of the {of} clients that are searched\n")?
+        format!(in session.alloc(); "accepted: {count} of the {of} clients that are searched\n")?
     };
     let (count, of) = (count as u64, of as u64);
-    let object = json!(in session.alloc; {"verdict": "accepted", "searched": count, "of": of})?;
+    let object = json!(in session.alloc(); {"verdict": "accepted", "searched": count, "of": of})?;
     tally.say(session, line.as_str(), &object)?;
     Ok(0)
 }
 
 // Ends a survey of some clients: those of a list, or a part of those that are searched, of which there are so many.
-fn end_some<F: Files, O: Write, E: Write>(
-    session: &mut Session<'_, '_, '_, F, O, E>,
+fn end_some<S: Session>(
+    session: &mut S,
     tally: &mut Tally,
     texts: &[Vec<u8>],
     of: usize,
@@ -254,17 +246,17 @@ fn end_some<F: Files, O: Write, E: Write>(
 }
 
 // Ends a survey of all clients within the bounds in which one has a run that is not good: the smaller clients are decided too.
-fn end_violated<R: Threads + Wait + Sync, D: Finder, F: Files, O: Write, E: Write>(
+fn end_violated<R: Threads + Wait + Sync, D: Finder, S: Session>(
     rt: &R,
     finder: &D,
-    session: &mut Session<'_, '_, '_, F, O, E>,
+    session: &mut S,
     tally: &mut Tally,
     base: &[u8],
     asking: &Asking<'_>,
     plan: &Plan,
     violated: Violated,
 ) -> Result<u8, Failure> {
-    let smaller = smaller_than(session.alloc, plan, tally.count, violated.size)?;
+    let smaller = smaller_than(session.alloc(), plan, tally.count, violated.size)?;
     decide_smaller(
         rt,
         finder,
@@ -283,17 +275,17 @@ fn end_violated<R: Threads + Wait + Sync, D: Finder, F: Files, O: Write, E: Writ
 }
 
 // Ends a survey of all clients within the bounds.
-fn end_whole<R: Threads + Wait + Sync, D: Finder, F: Files, O: Write, E: Write>(
+fn end_whole<R: Threads + Wait + Sync, D: Finder, S: Session>(
     rt: &R,
     finder: &D,
-    session: &mut Session<'_, '_, '_, F, O, E>,
+    session: &mut S,
     tally: &mut Tally,
     base: &[u8],
     asking: &Asking<'_>,
     plan: &Plan,
     cases: Cases,
 ) -> Result<u8, Failure> {
-    let alloc = session.alloc;
+    let alloc = session.alloc();
     if let Some(violated) = tally.violated.take() {
         return end_violated(rt, finder, session, tally, base, asking, plan, violated);
     }
@@ -311,12 +303,12 @@ fn end_whole<R: Threads + Wait + Sync, D: Finder, F: Files, O: Write, E: Write>(
 }
 
 // Writes the lines of a survey into its folder, if it has one.
-fn write_index<F: Files, O: Write, E: Write>(
-    session: &mut Session<'_, '_, '_, F, O, E>,
+fn write_index<S: Session>(
+    session: &mut S,
     tally: &Tally,
     asking: &Asking<'_>,
 ) -> Result<(), Failure> {
-    let alloc = session.alloc;
+    let alloc = session.alloc();
     let Some(folder) = asking.out else {
         return Ok(());
     };
@@ -328,16 +320,16 @@ fn write_index<F: Files, O: Write, E: Write>(
 }
 
 // The clients of a list.
-fn survey_list<R: Threads + Wait + Sync, D: Finder, F: Files, O: Write, E: Write>(
+fn survey_list<R: Threads + Wait + Sync, D: Finder, S: Session>(
     rt: &R,
     finder: &D,
-    session: &mut Session<'_, '_, '_, F, O, E>,
+    session: &mut S,
     tally: &mut Tally,
     base: &[u8],
     asking: &Asking<'_>,
     list: &str,
 ) -> Result<u8, Failure> {
-    let alloc = session.alloc;
+    let alloc = session.alloc();
     let bytes = session.read(list, usize::MAX)?;
     let Ok(list) = std::str::from_utf8(&bytes) else {
         return Err(misused(alloc, "the list of clients is not UTF-8\n"));
@@ -349,15 +341,15 @@ fn survey_list<R: Threads + Wait + Sync, D: Finder, F: Files, O: Write, E: Write
 }
 
 // The clients within the bounds.
-fn survey_bounds<R: Threads + Wait + Sync, D: Finder, F: Files, O: Write, E: Write>(
+fn survey_bounds<R: Threads + Wait + Sync, D: Finder, S: Session>(
     rt: &R,
     finder: &D,
-    session: &mut Session<'_, '_, '_, F, O, E>,
+    session: &mut S,
     tally: &mut Tally,
     base: &[u8],
     asking: &Asking<'_>,
 ) -> Result<u8, Failure> {
-    let alloc = session.alloc;
+    let alloc = session.alloc();
     let plan = plan_of(alloc, asking)?;
     let cases = Cases::planned(alloc, base, asking, &plan)?;
     decide_all(rt, finder, session, tally, asking, &cases)?;
@@ -381,20 +373,17 @@ fn plan_of(alloc: Global, asking: &Asking<'_>) -> Result<Plan, Failure> {
     Ok(Plan::new(alloc, &bounds)?)
 }
 
-/// Prints the clients that a survey would search, a line each.
+/// The clients that a survey would search, a line each.
 ///
-/// Errors: `Usage` where there are too many; `CannotPrint`; `Memory`.
-pub fn list<F: Files, O: Write, E: Write>(
-    session: &mut Session<'_, '_, '_, F, O, E>,
-    asking: &Asking<'_>,
-) -> Result<u8, Failure> {
-    let alloc = session.alloc;
+/// Errors: `Usage` where there are too many; `Memory`.
+pub fn listed(alloc: Global, asking: &Asking<'_>) -> Result<String, Failure> {
     let plan = plan_of(alloc, asking)?;
+    let mut lines = String::new(alloc);
     for asked in plan.largest.iter() {
         let calls = asked.calls(alloc, &plan.words, Numbering::Larger)?;
-        session.print(format!(in alloc; "{calls}\n")?.as_str())?;
+        lines.push_str(format!(in alloc; "{calls}\n")?.as_str())?;
     }
-    Ok(0)
+    Ok(lines)
 }
 
 /// Surveys the clients of a program text, prints a line for each that is decided and a last one that says what follows, writes what
@@ -402,19 +391,18 @@ pub fn list<F: Files, O: Write, E: Write>(
 ///
 /// Errors: `Program` with the first fault of the text; `Usage` where there are too many clients, or a line of a list is none;
 /// `CannotRead`; `CannotWrite`; `CannotPrint`; `Memory`.
-pub fn survey<R: Threads + Wait + Sync, D: Finder, F: Files, O: Write, E: Write>(
+pub fn survey<R: Threads + Wait + Sync, D: Finder, S: Session>(
     rt: &R,
     finder: &D,
-    session: &mut Session<'_, '_, '_, F, O, E>,
+    session: &mut S,
     base: &[u8],
     asking: &Asking<'_>,
 ) -> Result<u8, Failure> {
-    let _checked = checked_of(session.alloc, base)?;
+    let _checked = checked_of(session.alloc(), base)?;
     if let Some(folder) = asking.out {
-        // One that is there serves, and where there is none the first file says so.
-        let _made = session.files.create_folder(folder);
+        session.make_folder(folder);
     }
-    let mut tally = Tally::new(session.alloc, asking.json);
+    let mut tally = Tally::new(session.alloc(), asking.json);
     let status = match asking.clients {
         Some(list) => survey_list(rt, finder, session, &mut tally, base, asking, list)?,
         None => survey_bounds(rt, finder, session, &mut tally, base, asking)?,

@@ -6,8 +6,7 @@ use crate::decided::Decided;
 use crate::finding::Finding;
 use serde_json::Value;
 use std::alloc::{AllocError, Global};
-use std::io::Write;
-use tso_front::{Failure, Files, Session};
+use tso_front::{Failure, Session};
 
 /// A client that has a run that is not good.
 #[derive(Debug, Drop)]
@@ -89,9 +88,9 @@ impl Tally {
     /// Keeps a line, and prints it, or the object that says the same.
     ///
     /// Errors: `CannotPrint`; `Memory`.
-    pub fn say<F: Files, O: Write, E: Write>(
+    pub fn say<S: Session>(
         &mut self,
-        session: &mut Session<'_, '_, '_, F, O, E>,
+        session: &mut S,
         line: &str,
         object: &Value,
     ) -> Result<(), Failure> {
@@ -106,15 +105,15 @@ impl Tally {
     /// Prints the line of a client, writes its files, if there is a folder for them, and counts it.
     ///
     /// Errors: `CannotPrint`; `CannotWrite`; `Memory`.
-    pub fn put<F: Files, O: Write, E: Write>(
+    pub fn put<S: Session>(
         &mut self,
-        session: &mut Session<'_, '_, '_, F, O, E>,
+        session: &mut S,
         folder: Option<&str>,
         calls: &Calls,
         text: &[u8],
         finding: Finding,
     ) -> Result<(), Failure> {
-        let alloc = session.alloc;
+        let alloc = session.alloc();
         if let Some(folder) = folder {
             write_files(session, folder, calls, text, &finding)?;
         }
@@ -129,8 +128,8 @@ impl Tally {
 }
 
 // Writes the text of a client and what was found into a folder, if it is to be written.
-fn write_files<F: Files, O: Write, E: Write>(
-    session: &mut Session<'_, '_, '_, F, O, E>,
+fn write_files<S: Session>(
+    session: &mut S,
     folder: &str,
     calls: &Calls,
     text: &[u8],
@@ -139,7 +138,7 @@ fn write_files<F: Files, O: Write, E: Write>(
     let Some(bytes) = &finding.bytes else {
         return Ok(());
     };
-    let alloc = session.alloc;
+    let alloc = session.alloc();
     let name = calls.name(alloc)?;
     let path = format!(in alloc; "{folder}/{name}.tso")?;
     session.write(path.as_str(), text)?;

@@ -3,7 +3,7 @@ use Rattle.std.proofs.Common.{ℕ, List, Some, None, refl}
 use Rattle.std.specs.Prelude.{length}
 use Rattle.tso_cert.specs.Trees.{Tree, record_count}
 use Rattle.tso_check.proofs.Goodness.{each_run_is_good}
-use Rattle.tso_check.specs.Headline.{DenotesChecked}
+use Rattle.tso_client.specs.Headline.{DenotesChecked}
 use Rattle.tso_explore.specs.Outcomes.{IsCertificate}
 use Rattle.tso_foot.specs.declared.table.Table.{Table}
 use Rattle.tso_machine.specs.declared.label.Label.{Label}

@@ -1,6 +1,6 @@
 -- What `parse` prints.
 use Rattle.std.specs.Prelude.{◌≡◌, ℕ, Bool, List, ◌++◌}
-use Rattle.tso_check.specs.Headline.{DenotesChecked}
+use Rattle.tso_client.specs.Headline.{DenotesChecked}
 use Rattle.tso_prog.specs.declared.client.Client.{Client}
 use Rattle.tso_say.specs.Pages.{limit_text, printed_if}
 

@@ -1,6 +1,6 @@
 -- What a report of a search says of the program text.
 use Rattle.std.specs.Prelude.{◌≡◌, ℕ, List, Option, Some, None, length}
-use Rattle.tso_check.specs.Headline.{DenotesChecked, IsVerified}
+use Rattle.tso_client.specs.Headline.{DenotesChecked, IsVerified}
 use Rattle.tso_machine.specs.declared.label.Label.{Label}
 use Rattle.tso_prog.specs.declared.client.Client.{Client}
 use Rattle.tso_trace.specs.Runs.{IsErrorTrace, first_fault, violation_of}

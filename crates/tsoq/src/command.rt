@@ -1,6 +1,7 @@
 //! The words of the command line.
 
 use crate::asked::{Replay, replay_of, with_flags};
+use crate::coverage::{Covering, coverage_command, covering_of};
 use crate::fences::{FenceSearch, fence_search_of, fences_command};
 use crate::help;
 use crate::limit::StateLimit;
@@ -9,13 +10,12 @@ use crate::survey::{Survey, survey_command, survey_of};
 use clap::{Arg, ArgAction, ArgMatches, Command, value_parser};
 use std::alloc::{AllocError, Global};
 use tso_cert::Workers;
-use tso_coverage::{Covering, coverage_command, covering_of};
 use tso_front::{
-    Check, Ended, Failure, STREAM, VERSION, Variant, both_apart, cert_argument, check_arguments,
-    check_of, ended_words, json_argument, misused, program_argument, variant_arguments, variant_of,
-    workers_argument, workers_of, written_apart,
+    Ended, Failure, STREAM, VERSION, Variant, both_apart, ended_words, json_argument, misused,
+    program_argument, variant_arguments, variant_of, written_apart,
 };
 use tso_say::{Topic, find};
+use tso_survey::{Check, cert_argument, check_arguments, check_of, workers_argument, workers_of};
 
 /// What is searched, how far, and where what is found is written.
 #[derive(Clone, Copy, Debug)]

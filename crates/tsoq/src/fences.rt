@@ -5,12 +5,11 @@ use crate::limit::StateLimit;
 use crate::survey::{Searcher, Survey};
 use clap::{Arg, ArgMatches, Command};
 use std::alloc::{AllocError, Global};
-use std::io::Write;
 use std::sync::Wait;
 use std::thread::Threads;
 use tso_fences::{Fences, fences, fences_arguments, fences_of};
-use tso_front::{Failure, Files, Session, workers_argument, workers_of};
-use tso_survey::asking_of;
+use tso_front::{Failure, Session};
+use tso_survey::{asking_of, workers_argument, workers_of};
 
 /// What is asked about fences, by how many workers, and how many states a search may meet.
 #[derive(Clone, Copy, Debug)]
@@ -53,9 +52,9 @@ pub fn fence_search_of<'a>(
 /// Says which fences are needed, or would help, and gives the status.
 ///
 /// Errors: those of `tso_fences::fences`.
-pub fn run_fences<R: Threads + Wait + Sync, F: Files, O: Write, E: Write>(
+pub fn run_fences<R: Threads + Wait + Sync, S: Session>(
     rt: &R,
-    session: &mut Session<'_, '_, '_, F, O, E>,
+    session: &mut S,
     text: &[u8],
     asked: &FenceSearch<'_>,
 ) -> Result<u8, Failure> {

@@ -4,6 +4,8 @@
 mod asked;
 mod command;
 mod counted;
+mod coverage;
+mod covering;
 mod fences;
 mod help;
 mod host;

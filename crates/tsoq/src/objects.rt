@@ -5,9 +5,8 @@ use crate::report::violation_words;
 use crate::show::show_failure;
 use serde_json::{Map, Value, json};
 use std::alloc::{AllocError, Global};
-use std::io::Write;
 use tso_flow::{Checked, ProcedureKind};
-use tso_front::{Failure, Files, Session, misused};
+use tso_front::{Failure, Session, misused};
 use tso_machine::{Core, Entry, Machine, Stage, Thread};
 use tso_prog::Array;
 use tso_show::{Replayed, ShowError, Walk};
@@ -88,17 +87,17 @@ fn state_object(
 }
 
 // Prints the labels up to this number.
-fn print_labels<F: Files, O: Write, E: Write>(
-    session: &mut Session<'_, '_, '_, F, O, E>,
+fn print_labels<S: Session>(
+    session: &mut S,
     checked: &Checked,
     run: &Replayed,
     to: usize,
 ) -> Result<(), Failure> {
     let arrays = checked.client.arrays.as_slice();
     for (at, label) in run.labels().iter().take(to).enumerate() {
-        let line = line_of(session.alloc, arrays, *label)?;
+        let line = line_of(session.alloc(), arrays, *label)?;
         let number = at.saturating_add(1);
-        let object = label_object(session.alloc, number, label.thread, line.as_str())?;
+        let object = label_object(session.alloc(), number, label.thread, line.as_str())?;
         session.print_object(&object)?;
     }
     Ok(())
@@ -107,13 +106,13 @@ fn print_labels<F: Files, O: Write, E: Write>(
 /// Prints the labels of a run up to label `to`, or all, the state after them, and at the end what is wrong, if something is.
 ///
 /// Errors: `Usage` where more is asked for; `CannotPrint`; `Memory`; `Trace`.
-pub fn print_objects<F: Files, O: Write, E: Write>(
-    session: &mut Session<'_, '_, '_, F, O, E>,
+pub fn print_objects<S: Session>(
+    session: &mut S,
     checked: &Checked,
     run: &Replayed,
     asked: &Replay<'_>,
 ) -> Result<(), Failure> {
-    let alloc = session.alloc;
+    let alloc = session.alloc();
     if !asked.is_plain() {
         return Err(misused(alloc, PLAIN));
     }

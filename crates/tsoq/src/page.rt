@@ -4,9 +4,8 @@ use crate::asked::Replay;
 use crate::report::Wrong;
 use crate::show::show_failure;
 use std::alloc::Global;
-use std::io::Write;
 use tso_flow::Checked;
-use tso_front::{Failure, Files, Session};
+use tso_front::{Failure, Session};
 use tso_show::{Replayed, Run, ShowError, page_of};
 
 // What is wrong with a run, in words, if something is.
@@ -46,24 +45,31 @@ fn shown_bytes<'x>(
 }
 
 // Writes a run as a page to a new file.
-fn write_run<F: Files, O: Write, E: Write>(
-    session: &mut Session<'_, '_, '_, F, O, E>,
+fn write_run<S: Session>(
+    session: &mut S,
     checked: &Checked,
     program: &[u8],
     run: &Replayed,
     name: &str,
     path: &str,
 ) -> Result<(), Failure> {
-    let words = wrong_words(session.alloc, run)?;
-    let bytes = shown_bytes(session.alloc, checked, program, run, name, words.as_deref())?;
+    let words = wrong_words(session.alloc(), run)?;
+    let bytes = shown_bytes(
+        session.alloc(),
+        checked,
+        program,
+        run,
+        name,
+        words.as_deref(),
+    )?;
     session.write(path, &bytes)
 }
 
 /// Writes a run as a page to a new file, where that is asked for.
 ///
 /// Errors: `CannotWrite` where the file failed; `Memory`.
-pub fn write_page<F: Files, O: Write, E: Write>(
-    session: &mut Session<'_, '_, '_, F, O, E>,
+pub fn write_page<S: Session>(
+    session: &mut S,
     checked: &Checked,
     program: &[u8],
     run: &Replayed,

@@ -7,7 +7,7 @@ ghost use Rattle.tsoq.specs.Parsed.{IsParsed};
 use crate::help;
 use clap::{Arg, ArgAction, ArgMatches, Command};
 use std::alloc::{AllocError, Global};
-use tso_check::checked_of;
+use tso_client::checked_of;
 use tso_front::{Failure, Variant, program_argument, variant_arguments, variant_of};
 use tso_say::parsed;
 

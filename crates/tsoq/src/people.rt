@@ -5,9 +5,9 @@ use crate::command::Asked;
 use crate::limit::{MOST_STATES, StateLimit};
 use crate::running::Texts;
 use std::alloc::{AllocError, Global};
-use std::io::{Read, Write};
-use tso_check::{Verdict, checked_of};
-use tso_front::{Failure, Files, Session};
+use tso_check::Verdict;
+use tso_client::checked_of;
+use tso_front::{Failure, Session};
 use tso_prog::Fault;
 use tso_say::{Page, put_hidden, put_meaning, put_program, put_trace};
 use tso_show::{ShowError, Walk, print_cause};
@@ -45,32 +45,32 @@ fn paths_of<'a>(asked: &Asked<'a>) -> Option<Paths<'a>> {
 }
 
 // That the program stands in the place of the other file, where that is so.
-fn put_swapped<F: Files, O: Write, E: Write>(
-    session: &mut Session<'_, '_, '_, F, O, E>,
+fn put_swapped<S: Session>(
+    session: &mut S,
     page: &mut Page,
     paths: Paths<'_>,
 ) -> Result<(), AllocError> {
     let Ok(text) = session.read_program(paths.other) else {
         return Ok(());
     };
-    if checked_of(session.alloc, &text).is_err() {
+    if checked_of(session.alloc(), &text).is_err() {
         return Ok(());
     }
     let (program, other) = (paths.program, paths.other);
-    page.say(format!(in session.alloc;
+    page.say(format!(in session.alloc();
         "{other} is a program text, and {program} is none: are the two words swapped?\n"
     )?.as_str())
 }
 
 // Why the program of a command is refused.
-fn put_refused<F: Files, O: Write, E: Write>(
-    session: &mut Session<'_, '_, '_, F, O, E>,
+fn put_refused<S: Session>(
+    session: &mut S,
     page: &mut Page,
     asked: &Asked<'_>,
     texts: &Texts,
     fault: Fault,
 ) -> Result<(), AllocError> {
-    put_program(session.alloc, page, &texts.program, fault)?;
+    put_program(session.alloc(), page, &texts.program, fault)?;
     match paths_of(asked) {
         Some(paths) => put_swapped(session, page, paths),
         None => Ok(()),
@@ -91,24 +91,21 @@ fn put_replayed(
 }
 
 // Why a file gives no bytes.
-fn put_unreadable<F: Files>(
-    alloc: Global,
+fn put_unreadable<S: Session>(
+    session: &mut S,
     page: &mut Page,
-    files: &mut F,
     path: &str,
 ) -> Result<(), AllocError> {
-    match files.open(path) {
-        Err(error) => page.say(format!(in alloc; "{error}\n")?.as_str()),
-        Ok(mut reader) => match reader.read(&mut [0u8; 1]) {
-            Err(error) => page.say(format!(in alloc; "{error}\n")?.as_str()),
-            Ok(_) => Ok(()),
-        },
+    let alloc = session.alloc();
+    match session.unreadable(path) {
+        Some(error) => page.say(format!(in alloc; "{error}\n")?.as_str()),
+        None => Ok(()),
     }
 }
 
 // Why a command does not succeed.
-fn put_reason<F: Files, O: Write, E: Write>(
-    session: &mut Session<'_, '_, '_, F, O, E>,
+fn put_reason<S: Session>(
+    session: &mut S,
     page: &mut Page,
     asked: &Asked<'_>,
     texts: &Texts,
@@ -116,10 +113,8 @@ fn put_reason<F: Files, O: Write, E: Write>(
 ) -> Result<(), AllocError> {
     match failure {
         Failure::Program(fault) => put_refused(session, page, asked, texts, *fault),
-        Failure::Trace(fault) => put_replayed(session.alloc, page, texts, fault),
-        Failure::CannotRead(path) => {
-            put_unreadable(session.alloc, page, session.files, path.as_str())
-        }
+        Failure::Trace(fault) => put_replayed(session.alloc(), page, texts, fault),
+        Failure::CannotRead(path) => put_unreadable(session, page, path.as_str()),
         Failure::CannotWrite(_) => {
             page.say("Is its folder there, may it be written to, and is there room?\n")
         }
@@ -132,13 +127,8 @@ fn put_reason<F: Files, O: Write, E: Write>(
 }
 
 /// Says in words why a command does not succeed.
-pub fn tell<F: Files, O: Write, E: Write>(
-    session: &mut Session<'_, '_, '_, F, O, E>,
-    asked: &Asked<'_>,
-    texts: &Texts,
-    failure: &Failure,
-) {
-    let mut page = Page::new(session.alloc);
+pub fn tell<S: Session>(session: &mut S, asked: &Asked<'_>, texts: &Texts, failure: &Failure) {
+    let mut page = Page::new(session.alloc());
     if put_reason(session, &mut page, asked, texts, failure).is_ok() {
         session.note(&page.bytes);
     }
@@ -162,12 +152,9 @@ fn put_limit(alloc: Global, page: &mut Page, limit: StateLimit) -> Result<(), Al
 }
 
 /// Says in words that a search met as many states as it may, and what may help.
-pub fn tell_limit<F: Files, O: Write, E: Write>(
-    session: &mut Session<'_, '_, '_, F, O, E>,
-    limit: StateLimit,
-) {
-    let mut page = Page::new(session.alloc);
-    if put_limit(session.alloc, &mut page, limit).is_ok() {
+pub fn tell_limit<S: Session>(session: &mut S, limit: StateLimit) {
+    let mut page = Page::new(session.alloc());
+    if put_limit(session.alloc(), &mut page, limit).is_ok() {
         session.note(&page.bytes);
     }
 }
@@ -180,12 +167,9 @@ fn put_cause(alloc: Global, page: &mut Page, trace: &Trace) -> Result<(), ShowEr
 }
 
 /// Says in words why the calls of a run have no order, if they have none.
-pub fn tell_cause<F: Files, O: Write, E: Write>(
-    session: &mut Session<'_, '_, '_, F, O, E>,
-    trace: &Trace,
-) {
-    let mut page = Page::new(session.alloc);
-    if put_cause(session.alloc, &mut page, trace).is_ok() {
+pub fn tell_cause<S: Session>(session: &mut S, trace: &Trace) {
+    let mut page = Page::new(session.alloc());
+    if put_cause(session.alloc(), &mut page, trace).is_ok() {
         session.note(&page.bytes);
     }
 }
@@ -202,12 +186,9 @@ fn put_verdict(alloc: Global, page: &mut Page, verdict: Verdict) -> Result<(), A
 }
 
 /// Says in words why a certificate is refused.
-pub fn tell_verdict<F: Files, O: Write, E: Write>(
-    session: &mut Session<'_, '_, '_, F, O, E>,
-    verdict: Verdict,
-) {
-    let mut page = Page::new(session.alloc);
-    if put_verdict(session.alloc, &mut page, verdict).is_ok() {
+pub fn tell_verdict<S: Session>(session: &mut S, verdict: Verdict) {
+    let mut page = Page::new(session.alloc());
+    if put_verdict(session.alloc(), &mut page, verdict).is_ok() {
         session.note(&page.bytes);
     }
 }
@@ -226,13 +207,9 @@ fn makes_calls(asked: &Asked<'_>) -> bool {
 }
 
 /// Says which lines of a program that is asked about have calls in a comment.
-pub fn tell_hidden<F: Files, O: Write, E: Write>(
-    session: &mut Session<'_, '_, '_, F, O, E>,
-    asked: &Asked<'_>,
-    program: &[u8],
-) {
-    let mut page = Page::new(session.alloc);
-    if makes_calls(asked) && put_hidden(session.alloc, &mut page, program).is_ok() {
+pub fn tell_hidden<S: Session>(session: &mut S, asked: &Asked<'_>, program: &[u8]) {
+    let mut page = Page::new(session.alloc());
+    if makes_calls(asked) && put_hidden(session.alloc(), &mut page, program).is_ok() {
         session.note(&page.bytes);
     }
 }

@@ -4,53 +4,45 @@ ghost use Rattle.std.specs.Prelude.{◌≡◌, ◌+◌, ◌≤◌, length, IfOk,
 
 use crate::report::Wrong;
 use std::alloc::{AllocError, Global};
-use std::io::Write;
 use tso_flow::ProcedureKind;
-use tso_front::{Failure, Files, Session};
+use tso_front::{Failure, Session};
 use tso_list::Seq;
 use tso_machine::{Core, Machine, Running, Stage, Thread};
 use tso_prog::Array;
 use tso_trace::{Cursor, Trace, cell_name};
 
 // Prints a text and a newline.
-fn put_line<F: Files, O: Write, E: Write>(
-    session: &mut Session<'_, '_, '_, F, O, E>,
-    text: &str,
-) -> Result<(), Failure> {
+fn put_line<S: Session>(session: &mut S, text: &str) -> Result<(), Failure> {
     session.print(text)?;
     session.print("\n")
 }
 
 // The labels up to this number, one a line behind its number.
-fn put_labels<F: Files, O: Write, E: Write>(
-    session: &mut Session<'_, '_, '_, F, O, E>,
-    trace: &Trace,
-    to: usize,
-) -> Result<(), Failure> {
+fn put_labels<S: Session>(session: &mut S, trace: &Trace, to: usize) -> Result<(), Failure> {
     for number in 1..=to.min(trace.labels.len()) {
         let line = trace.line(number)?;
-        let text = format!(in session.alloc; "{number:>6} {line}")?;
+        let text = format!(in session.alloc(); "{number:>6} {line}")?;
         put_line(session, text.as_str())?;
     }
     Ok(())
 }
 
 // A cell and its word.
-fn put_cell<F: Files, O: Write, E: Write>(
-    session: &mut Session<'_, '_, '_, F, O, E>,
+fn put_cell<S: Session>(
+    session: &mut S,
     arrays: &[Array],
     before: &str,
     place: usize,
     word: u64,
 ) -> Result<(), Failure> {
-    let cell = cell_name(session.alloc, arrays, place)?;
-    let text = format!(in session.alloc; "{before}{cell} = {word}")?;
+    let cell = cell_name(session.alloc(), arrays, place)?;
+    let text = format!(in session.alloc(); "{before}{cell} = {word}")?;
     put_line(session, text.as_str())
 }
 
 // Each word of memory.
-fn put_memory<F: Files, O: Write, E: Write>(
-    session: &mut Session<'_, '_, '_, F, O, E>,
+fn put_memory<S: Session>(
+    session: &mut S,
     arrays: &[Array],
     memory: &Seq<u64>,
 ) -> Result<(), Failure> {
@@ -85,13 +77,13 @@ fn core_text(alloc: Global, number: usize, core: &Core) -> Result<String, AllocE
 }
 
 // A thread's line, and a line for each entry of its buffer.
-fn put_thread<F: Files, O: Write, E: Write>(
-    session: &mut Session<'_, '_, '_, F, O, E>,
+fn put_thread<S: Session>(
+    session: &mut S,
     arrays: &[Array],
     number: usize,
     thread: &Thread,
 ) -> Result<(), Failure> {
-    let text = core_text(session.alloc, number, &thread.core)?;
+    let text = core_text(session.alloc(), number, &thread.core)?;
     put_line(session, text.as_str())?;
     for entry in thread.buffer.live() {
         put_cell(session, arrays, "  buffer ", entry.place, entry.word)?;
@@ -100,13 +92,13 @@ fn put_thread<F: Files, O: Write, E: Write>(
 }
 
 /// Prints after which label the state is, each word of memory, and each thread with its store buffer.
-pub fn put_state_after<F: Files, O: Write, E: Write>(
-    session: &mut Session<'_, '_, '_, F, O, E>,
+pub fn put_state_after<S: Session>(
+    session: &mut S,
     arrays: &[Array],
     machine: &Machine,
     to: usize,
 ) -> Result<(), Failure> {
-    let text = format!(in session.alloc; "state after {to}")?;
+    let text = format!(in session.alloc(); "state after {to}")?;
     put_line(session, text.as_str())?;
     put_memory(session, arrays, &machine.memory)?;
     for (number, thread) in machine.threads.as_slice().iter().enumerate() {
@@ -152,8 +144,8 @@ fn walked<'a>(alloc: Global, trace: &'a Trace, to: usize) -> Result<Cursor<'a>, 
 }
 
 /// Prints the labels of a trace up to label `to`, or all, the state after them, and at the end what is wrong with the run.
-pub fn print_replay<F: Files, O: Write, E: Write>(
-    session: &mut Session<'_, '_, '_, F, O, E>,
+pub fn print_replay<S: Session>(
+    session: &mut S,
     trace: &Trace,
     to: Option<u64>,
 ) -> Result<(), Failure> {
@@ -162,7 +154,7 @@ pub fn print_replay<F: Files, O: Write, E: Write>(
         Some(to) => (to as usize).min(len),
         None => len,
     };
-    let cursor = walked(session.alloc, trace, to)?;
+    let cursor = walked(session.alloc(), trace, to)?;
     put_labels(session, trace, to)?;
     put_state_after(
         session,
@@ -171,7 +163,8 @@ pub fn print_replay<F: Files, O: Write, E: Write>(
         to,
     )?;
     if to == len {
-        session.print_shown(&Wrong(trace.violation()))?;
+        let wrong = Wrong(trace.violation()).to_string(session.alloc())?;
+        session.print(wrong.as_str())?;
         session.print("\n")?;
     }
     Ok(())

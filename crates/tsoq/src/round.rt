@@ -3,7 +3,7 @@
 ghost use Rattle.std.specs.Prelude.{◌≤◌};
 ghost use Rattle.std.specs.Thread.{IsSync};
 ghost use Rattle.tso_cert.specs.Trees.{record_count, tree_of};
-ghost use Rattle.tso_check.specs.Headline.{DenotesChecked, EachRunIsGood};
+ghost use Rattle.tso_client.specs.Headline.{DenotesChecked, EachRunIsGood};
 
 use crate::limit::StateLimit;
 use std::alloc::Global;
@@ -12,7 +12,7 @@ use std::sync::atomic::{AtomicUsize, Ordering};
 use std::thread;
 use std::thread::Threads;
 use tso_cert::{Cert, NoWatch, Workers, encode};
-use tso_check::checked_of;
+use tso_client::checked_of;
 use tso_explore::{Outcome, explore};
 use tso_flow::Checked;
 use tso_foot::Table;

@@ -2,6 +2,8 @@
 
 use crate::asked::Replay;
 use crate::command::{Asked, Request, Search, request_of};
+use crate::coverage::Covering;
+use crate::covering::{check_told, cover};
 use crate::fences::{FenceSearch, run_fences};
 use crate::objects::print_objects;
 use crate::page::write_page;
@@ -18,15 +20,12 @@ use std::io::Write;
 use std::sync::Wait;
 use std::thread::Threads;
 use std::time::Duration;
-use tso_check::checked_of;
-use tso_coverage::{Covering, check_told, cover};
+use tso_client::checked_of;
 use tso_flow::Checked;
-use tso_front::{
-    Check, Failure, Files, STREAM, Session, check_bytes, json_line, reported, started,
-    verdict_status,
-};
+use tso_front::{Failure, Files, STREAM, Session, Streams, json_line, reported, started};
 use tso_say::{Topic, explanation};
 use tso_show::Replayed;
+use tso_survey::{Check, check_bytes, verdict_status};
 
 /// A trace text has at most 64 MiB, so one byte more shows that it is too long.
 pub const TRACE_BYTES: usize = 64 * 1024 * 1024;
@@ -40,8 +39,8 @@ pub struct Texts {
 }
 
 // Prints a run, but where its page goes to standard output.
-fn put_run<F: Files, O: Write, E: Write>(
-    session: &mut Session<'_, '_, '_, F, O, E>,
+fn put_run<S: Session>(
+    session: &mut S,
     checked: &Checked,
     program: &[u8],
     run: &Replayed,
@@ -57,17 +56,17 @@ fn put_run<F: Files, O: Write, E: Write>(
 }
 
 // The page is written first: where a file fails, nothing was printed.
-fn replay<F: Files, O: Write, E: Write>(
-    session: &mut Session<'_, '_, '_, F, O, E>,
+fn replay<S: Session>(
+    session: &mut S,
     texts: &mut Texts,
     asked: &Replay<'_>,
     verbose: bool,
 ) -> Result<u8, Failure> {
     texts.program = session.read_variant(asked.program, &asked.variant)?;
     texts.trace = session.read(asked.trace, TRACE_BYTES + 1)?;
-    let checked = checked_of(session.alloc, &texts.program)?;
+    let checked = checked_of(session.alloc(), &texts.program)?;
     let run = run_of(
-        session.alloc,
+        session.alloc(),
         &checked,
         &texts.trace,
         TRACE_BYTES,
@@ -82,9 +81,9 @@ fn replay<F: Files, O: Write, E: Write>(
     Ok(0)
 }
 
-fn check<R: Threads + Wait + Sync, F: Files, O: Write, E: Write>(
+fn check<R: Threads + Wait + Sync, S: Session>(
     rt: &R,
-    session: &mut Session<'_, '_, '_, F, O, E>,
+    session: &mut S,
     texts: &mut Texts,
     asked: &Check<'_>,
     verbose: bool,
@@ -99,9 +98,9 @@ fn check<R: Threads + Wait + Sync, F: Files, O: Write, E: Write>(
     Ok(verdict_status(verdict))
 }
 
-fn cover_program<R: Threads + Wait + Sync, F: Files, O: Write, E: Write>(
+fn cover_program<R: Threads + Wait + Sync, S: Session>(
     rt: &R,
-    session: &mut Session<'_, '_, '_, F, O, E>,
+    session: &mut S,
     texts: &mut Texts,
     asked: &Covering<'_>,
     verbose: bool,
@@ -115,9 +114,9 @@ fn cover_program<R: Threads + Wait + Sync, F: Files, O: Write, E: Write>(
     Ok(verdict_status(verdict))
 }
 
-fn survey_queue<R: Threads + Wait + Sync, F: Files, O: Write, E: Write>(
+fn survey_queue<R: Threads + Wait + Sync, S: Session>(
     rt: &R,
-    session: &mut Session<'_, '_, '_, F, O, E>,
+    session: &mut S,
     texts: &mut Texts,
     asked: &Survey<'_>,
 ) -> Result<u8, Failure> {
@@ -125,9 +124,9 @@ fn survey_queue<R: Threads + Wait + Sync, F: Files, O: Write, E: Write>(
     run_survey(rt, session, &texts.program, asked)
 }
 
-fn ask_fences<R: Threads + Wait + Sync, F: Files, O: Write, E: Write>(
+fn ask_fences<R: Threads + Wait + Sync, S: Session>(
     rt: &R,
-    session: &mut Session<'_, '_, '_, F, O, E>,
+    session: &mut S,
     texts: &mut Texts,
     asked: &FenceSearch<'_>,
 ) -> Result<u8, Failure> {
@@ -135,47 +134,44 @@ fn ask_fences<R: Threads + Wait + Sync, F: Files, O: Write, E: Write>(
     run_fences(rt, session, &texts.program, asked)
 }
 
-fn parse_file<F: Files, O: Write, E: Write>(
-    session: &mut Session<'_, '_, '_, F, O, E>,
+fn parse_file<S: Session>(
+    session: &mut S,
     texts: &mut Texts,
     asked: &Parsing<'_>,
 ) -> Result<u8, Failure> {
     texts.program = session.read_variant(asked.program, &asked.variant)?;
-    let text = parse(session.alloc, &texts.program, asked.print)?;
+    let text = parse(session.alloc(), &texts.program, asked.print)?;
     session.print(text.as_str())?;
     Ok(0)
 }
 
-fn explain<F: Files, O: Write, E: Write>(
-    session: &mut Session<'_, '_, '_, F, O, E>,
-    topic: Topic,
-) -> Result<u8, Failure> {
-    let page = explanation(session.alloc, topic)?;
+fn explain<S: Session>(session: &mut S, topic: Topic) -> Result<u8, Failure> {
+    let page = explanation(session.alloc(), topic)?;
     session.print_bytes(&page.bytes)?;
     Ok(0)
 }
 
 // Says how much was met and written, and in what time.
-fn put_stats<F: Files, L: Listener, O: Write, E: Write>(
-    session: &mut Session<'_, '_, '_, F, O, E>,
+fn put_stats<S: Session, L: Listener>(
+    session: &mut S,
     watch: &Progress<'_, L>,
     sizes: Sizes,
     begun: Option<Duration>,
 ) -> Result<(), Failure> {
     let times = watch.times(begun);
     session.flush()?;
-    let text = sizes.to_string(session.alloc)?;
+    let text = sizes.to_string(session.alloc())?;
     session.note(text.as_bytes());
     if let Some(times) = times {
-        let text = times.to_string(session.alloc)?;
+        let text = times.to_string(session.alloc())?;
         session.note(text.as_bytes());
     }
     Ok(())
 }
 
 // Prints what a search found: to standard error where what it wrote is on standard output.
-fn put_found<F: Files, L: Listener, O: Write, E: Write>(
-    session: &mut Session<'_, '_, '_, F, O, E>,
+fn put_found<S: Session, L: Listener>(
+    session: &mut S,
     watch: &Progress<'_, L>,
     asked: &Search<'_>,
     found: &Found,
@@ -183,10 +179,10 @@ fn put_found<F: Files, L: Listener, O: Write, E: Write>(
 ) -> Result<(), Failure> {
     let text = if asked.json {
         let times = watch.times(begun);
-        let object = found.report.object(session.alloc, watch.states(), times)?;
-        json_line(session.alloc, &object)?
+        let object = found.report.object(session.alloc(), watch.states(), times)?;
+        json_line(session.alloc(), &object)?
     } else {
-        found.report.to_string(session.alloc)?
+        found.report.to_string(session.alloc())?
     };
     if asked.is_piped() {
         session.note(text.as_bytes());
@@ -196,8 +192,8 @@ fn put_found<F: Files, L: Listener, O: Write, E: Write>(
 }
 
 // Says what a search found and wrote, and gives the status.
-fn end<F: Files, L: Listener, O: Write, E: Write>(
-    session: &mut Session<'_, '_, '_, F, O, E>,
+fn end<S: Session, L: Listener>(
+    session: &mut S,
     watch: &Progress<'_, L>,
     asked: &Search<'_>,
     found: &Found,
@@ -224,8 +220,8 @@ fn end<F: Files, L: Listener, O: Write, E: Write>(
 }
 
 // Says that a search met as many states as it may, and gives the status.
-fn end_at_limit<F: Files, L: Listener, O: Write, E: Write>(
-    session: &mut Session<'_, '_, '_, F, O, E>,
+fn end_at_limit<S: Session, L: Listener>(
+    session: &mut S,
     watch: &Progress<'_, L>,
     asked: &Search<'_>,
     begun: Option<Duration>,
@@ -233,7 +229,7 @@ fn end_at_limit<F: Files, L: Listener, O: Write, E: Write>(
 ) -> Result<u8, Failure> {
     let states = u64::from(asked.limit.count());
     let status = if asked.json {
-        session.print_object(&limit_object(session.alloc, states)?)?;
+        session.print_object(&limit_object(session.alloc(), states)?)?;
         Failure::Limit.status()
     } else {
         session.report(&Failure::Limit)
@@ -247,9 +243,9 @@ fn end_at_limit<F: Files, L: Listener, O: Write, E: Write>(
     Ok(status)
 }
 
-fn search<R: Threads + Wait + Sync, F: Files, L: Listener + Sync, O: Write, E: Write>(
+fn search<R: Threads + Wait + Sync, S: Session + Files, L: Listener + Sync>(
     rt: &R,
-    session: &mut Session<'_, '_, '_, F, O, E>,
+    session: &mut S,
     texts: &mut Texts,
     listener: &L,
     asked: &Search<'_>,
@@ -260,8 +256,8 @@ fn search<R: Threads + Wait + Sync, F: Files, L: Listener + Sync, O: Write, E: W
     let watch = Progress::new(listener, asked.progress);
     match verify(
         rt,
-        session.alloc,
-        session.files,
+        session.alloc(),
+        session,
         &texts.program,
         asked,
         &watch,
@@ -274,9 +270,9 @@ fn search<R: Threads + Wait + Sync, F: Files, L: Listener + Sync, O: Write, E: W
 }
 
 // Does what the words ask for, and gives the status.
-fn perform<R: Threads + Wait + Sync, F: Files, L: Listener + Sync, O: Write, E: Write>(
+fn perform<R: Threads + Wait + Sync, S: Session + Files, L: Listener + Sync>(
     rt: &R,
-    session: &mut Session<'_, '_, '_, F, O, E>,
+    session: &mut S,
     texts: &mut Texts,
     listener: &L,
     request: &Request<'_>,
@@ -298,9 +294,9 @@ fn perform<R: Threads + Wait + Sync, F: Files, L: Listener + Sync, O: Write, E: 
 }
 
 // The same, with all that was printed written out.
-fn perform_all<R: Threads + Wait + Sync, F: Files, L: Listener + Sync, O: Write, E: Write>(
+fn perform_all<R: Threads + Wait + Sync, S: Session + Files, L: Listener + Sync>(
     rt: &R,
-    session: &mut Session<'_, '_, '_, F, O, E>,
+    session: &mut S,
     texts: &mut Texts,
     listener: &L,
     request: &Request<'_>,
@@ -311,15 +307,15 @@ fn perform_all<R: Threads + Wait + Sync, F: Files, L: Listener + Sync, O: Write,
 }
 
 // Does what the words ask for, and where it does not succeed says why.
-fn answer<R: Threads + Wait + Sync, F: Files, L: Listener + Sync, O: Write, E: Write>(
+fn answer<R: Threads + Wait + Sync, S: Session + Files, L: Listener + Sync>(
     rt: &R,
-    session: &mut Session<'_, '_, '_, F, O, E>,
+    session: &mut S,
     listener: &L,
     request: &Request<'_>,
 ) -> u8 {
     let mut texts = Texts {
-        program: Vec::new(session.alloc),
-        trace: Vec::new(session.alloc),
+        program: Vec::new(session.alloc()),
+        trace: Vec::new(session.alloc()),
     };
     let status = match perform_all(rt, session, &mut texts, listener, request) {
         Ok(status) => status,
@@ -348,7 +344,7 @@ pub fn run<R: Threads + Wait + Sync, F: Files, L: Listener + Sync, O: Write, E: 
     out: &mut O,
     err: &mut E,
 ) -> u8 {
-    let mut session = Session {
+    let mut session = Streams {
         alloc,
         files,
         out,

@@ -5,9 +5,8 @@ use crate::length::trace_within;
 use crate::replay::{print_replay, put_state_after};
 use crate::report::Wrong;
 use std::alloc::Global;
-use std::io::Write;
 use tso_flow::Checked;
-use tso_front::{Failure, Files, Session};
+use tso_front::{Failure, Out, Session};
 use tso_show::{
     Replayed, ShowError, Walk, print_brief, print_calls, print_labels, print_order, read_run,
 };
@@ -41,49 +40,50 @@ pub fn run_of(
 }
 
 // Prints what is wrong, or that nothing is.
-fn put_wrong<F: Files, O: Write, E: Write>(
-    session: &mut Session<'_, '_, '_, F, O, E>,
-    violation: Option<Violation>,
-) -> Result<(), Failure> {
+fn put_wrong<S: Session>(session: &mut S, violation: Option<Violation>) -> Result<(), Failure> {
     match violation {
-        Some(violation) => session.print_shown(&Wrong(violation))?,
+        Some(violation) => {
+            let wrong = Wrong(violation).to_string(session.alloc())?;
+            session.print(wrong.as_str())?;
+        }
         None => session.print("no violation")?,
     }
     session.print("\n")
 }
 
 // Prints the labels of a run up to a label, with what is shown of each.
-fn put_labels<F: Files, O: Write, E: Write>(
-    session: &mut Session<'_, '_, '_, F, O, E>,
+fn put_labels<S: Session>(
+    session: &mut S,
     walk: &mut Walk<'_>,
     source: &[u8],
     asked: &Replay<'_>,
     to: usize,
 ) -> Result<(), Failure> {
     let Replay { show, brief, .. } = *asked;
+    let alloc = session.alloc();
+    let mut out = Out { session };
     let printed = if brief {
-        print_brief(session.alloc, session.out, walk, source, show, to)
+        print_brief(alloc, &mut out, walk, source, show, to)
     } else {
-        print_labels(session.alloc, session.out, walk, source, show, to)
+        print_labels(alloc, &mut out, walk, source, show, to)
     };
     printed.map_err(|error| show_failure(&error))
 }
 
 // Prints the calls of a run that was walked, and how far they have an order.
-fn put_calls<F: Files, O: Write, E: Write>(
-    session: &mut Session<'_, '_, '_, F, O, E>,
-    walk: &Walk<'_>,
-) -> Result<(), Failure> {
-    if let Err(error) = print_calls(session.alloc, session.out, walk.taken()) {
+fn put_calls<S: Session>(session: &mut S, walk: &Walk<'_>) -> Result<(), Failure> {
+    let alloc = session.alloc();
+    let mut out = Out { session };
+    if let Err(error) = print_calls(alloc, &mut out, walk.taken()) {
         return Err(show_failure(&error));
     }
-    print_order(session.alloc, session.out, walk).map_err(|error| show_failure(&error))
+    print_order(alloc, &mut out, walk).map_err(|error| show_failure(&error))
 }
 
 // Prints the labels of a run up to label `to`, or all, with what is shown of each, and the state after them; at the end what
 // is wrong; and its calls, where they are asked for.
-fn print_shown<F: Files, O: Write, E: Write>(
-    session: &mut Session<'_, '_, '_, F, O, E>,
+fn print_shown<S: Session>(
+    session: &mut S,
     checked: &Checked,
     source: &[u8],
     run: &Replayed,
@@ -94,7 +94,7 @@ fn print_shown<F: Files, O: Write, E: Write>(
         Some(to) => (to as usize).min(labels.len()),
         None => labels.len(),
     };
-    let mut walk = Walk::new(session.alloc, checked, labels)?;
+    let mut walk = Walk::new(session.alloc(), checked, labels)?;
     put_labels(session, &mut walk, source, asked, to)?;
     put_state_after(
         session,
@@ -112,8 +112,8 @@ fn print_shown<F: Files, O: Write, E: Write>(
 }
 
 /// Prints a run with all that is asked for. Where nothing is asked for, and something is wrong, it is `print_replay`.
-pub fn print_run<F: Files, O: Write, E: Write>(
-    session: &mut Session<'_, '_, '_, F, O, E>,
+pub fn print_run<S: Session>(
+    session: &mut S,
     checked: &Checked,
     source: &[u8],
     run: &Replayed,

@@ -5,14 +5,14 @@ use crate::limit::StateLimit;
 use crate::round::{Done, Round, work_by};
 use clap::{Arg, ArgMatches, Command};
 use std::alloc::{AllocError, Global};
-use std::io::Write;
 use std::sync::Wait;
 use std::sync::atomic::AtomicUsize;
 use std::thread::Threads;
 use tso_cert::Workers;
-use tso_front::{Failure, Files, Session, workers_argument, workers_of};
+use tso_front::{Failure, Session};
 use tso_survey::{
-    Asking, Calls, Collector, Finder, Finding, asking_arguments, asking_of, list, survey,
+    Asking, Calls, Collector, Finder, Finding, asking_arguments, asking_of, listed, survey,
+    workers_argument, workers_of,
 };
 
 /// How many clients are searched for each of several workers before their lines are printed.
@@ -92,14 +92,14 @@ fn open(alloc: Global, findings: &[Option<Finding>]) -> Result<Vec<usize>, Failu
 
 impl<'a> Searcher<'a> {
     // What the folder has whole of the clients.
-    fn kept<R: Threads + Wait + Sync, F: Files, O: Write, E: Write>(
+    fn kept<R: Threads + Wait + Sync, S: Session>(
         &self,
         rt: &R,
-        session: &mut Session<'_, '_, '_, F, O, E>,
+        session: &mut S,
         calls: &[Calls],
         texts: &[Vec<u8>],
     ) -> Result<Vec<Option<Finding>>, Failure> {
-        let mut kept = Vec::new(session.alloc);
+        let mut kept = Vec::new(session.alloc());
         for (number, calls) in calls.iter().enumerate() {
             let Some(text) = texts.get(number) else {
                 break;
@@ -145,14 +145,14 @@ impl<'a> Finder for Searcher<'a> {
         }
     }
 
-    fn find<R: Threads + Wait + Sync, F: Files, O: Write, E: Write>(
+    fn find<R: Threads + Wait + Sync, S: Session>(
         &self,
         rt: &R,
-        session: &mut Session<'_, '_, '_, F, O, E>,
+        session: &mut S,
         calls: &[Calls],
         texts: &[Vec<u8>],
     ) -> Result<Vec<Finding>, Failure> {
-        let alloc = session.alloc;
+        let alloc = session.alloc();
         let mut findings = self.kept(rt, session, calls, texts)?;
         let numbers = open(alloc, &findings)?;
         fill(&mut findings, self.searched(rt, alloc, texts, &numbers)?);
@@ -164,14 +164,16 @@ impl<'a> Finder for Searcher<'a> {
 /// status.
 ///
 /// Errors: those of `tso_survey::survey`.
-pub fn run_survey<R: Threads + Wait + Sync, F: Files, O: Write, E: Write>(
+pub fn run_survey<R: Threads + Wait + Sync, S: Session>(
     rt: &R,
-    session: &mut Session<'_, '_, '_, F, O, E>,
+    session: &mut S,
     base: &[u8],
     asked: &Survey<'_>,
 ) -> Result<u8, Failure> {
     if asked.asking.lists {
-        return list(session, &asked.asking);
+        let lines = listed(session.alloc(), &asked.asking)?;
+        session.print(lines.as_str())?;
+        return Ok(0);
     }
     match asked.asking.collect {
         Some(folder) => {

@@ -15,7 +15,7 @@ use std::mem;
 use std::sync::Wait;
 use std::thread::Threads;
 use tso_cert::{Cert, WriteError};
-use tso_check::checked_of;
+use tso_client::checked_of;
 use tso_coverage::{Facts, told};
 use tso_explore::{Outcome, explore};
 use tso_flow::Checked;

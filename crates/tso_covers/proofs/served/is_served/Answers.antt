@@ -1,5 +1,5 @@
 use Rattle.std.proofs.Common.{refl, sym, subst}
-use Rattle.tso_check.specs.Headline.{EachRunIsGood}
+use Rattle.tso_client.specs.Headline.{EachRunIsGood}
 use Rattle.tso_covers.proofs.Serving.{goodness_goes_down}
 use Rattle.tso_covers.proofs.served.is_served.Goals as goal
 

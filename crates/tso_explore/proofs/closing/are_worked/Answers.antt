@@ -1,5 +1,5 @@
 use Rattle.std.proofs.Common.{arith}
-use Rattle.tso_explore.proofs.SearchLemmas.{ok_as}
+use Rattle.tso_search.proofs.SearchLemmas.{ok_as}
 use Rattle.tso_explore.proofs.TaskLemmas.{all_worked}
 use Rattle.tso_explore.proofs.closing.are_worked.Goals as goal
 

@@ -1,7 +1,7 @@
 use Rattle.std.proofs.Common.{subst, sym}
 use Rattle.tso_choose.specs.Choosing.{IsChoice}
-use Rattle.tso_explore.proofs.SearchLemmas.{closed_end, closed_moves, ok_as}
-use Rattle.tso_explore.specs.Searched.{AreFollowed}
+use Rattle.tso_search.proofs.SearchLemmas.{closed_end, closed_moves, ok_as}
+use Rattle.tso_search.specs.Searched.{AreFollowed}
 use Rattle.tso_explore.proofs.closing.is_worked.Goals as goal
 
 pub chosen-set-requires : goal.chosen-set-requires

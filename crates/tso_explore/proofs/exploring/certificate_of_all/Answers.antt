@@ -1,5 +1,5 @@
 use Rattle.std.proofs.Common.{arith}
-use Rattle.tso_explore.proofs.SearchLemmas.{more_met}
+use Rattle.tso_search.proofs.SearchLemmas.{more_met}
 use Rattle.tso_explore.proofs.exploring.certificate_of_all.Goals as goal
 
 pub returns-then-len-limit : goal.returns-then-len-limit

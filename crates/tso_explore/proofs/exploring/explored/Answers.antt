@@ -1,5 +1,5 @@
 use Rattle.std.proofs.Common.{[], arith}
-use Rattle.tso_explore.proofs.SearchLemmas.{begun_first, more_than}
+use Rattle.tso_search.proofs.SearchLemmas.{begun_first, more_than}
 use Rattle.tso_explore.proofs.exploring.explored.Goals as goal
 
 pub returns-then-len-limit : goal.returns-then-len-limit

@@ -1,8 +1,8 @@
 use Rattle.std.proofs.Common.{sym, subst, List}
 use Rattle.tso_explore.proofs.FirstLemmas.{begun_none}
-use Rattle.tso_explore.proofs.SearchLemmas.{searched_first}
-use Rattle.tso_explore.specs.Searched.{IsBegun}
-use Rattle.tso_explore.specs.declared.origin.Origin.{Origin}
+use Rattle.tso_search.proofs.SearchLemmas.{searched_first}
+use Rattle.tso_search.specs.Searched.{IsBegun}
+use Rattle.tso_search.specs.declared.origin.Origin.{Origin}
 use Rattle.tso_explore.proofs.exploring.first_found.Goals as goal
 
 pub short_trace-requires-clause-begun : goal.short_trace-requires-clause-begun

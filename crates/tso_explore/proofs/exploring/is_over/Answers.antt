@@ -1,6 +1,6 @@
 use Rattle.std.proofs.Common.{◌<◌, arith}
 use Rattle.std.proofs.lemmas.Bool.Decides.{nat_tests}
-use Rattle.tso_explore.proofs.SearchLemmas.{more_met}
+use Rattle.tso_search.proofs.SearchLemmas.{more_met}
 use Rattle.tso_explore.proofs.exploring.is_over.Goals as goal
 
 pub returns : goal.returns

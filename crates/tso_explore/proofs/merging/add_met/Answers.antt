@@ -1,4 +1,5 @@
-use Rattle.tso_explore.proofs.SearchLemmas.{begun_with, kept_is_met}
+use Rattle.tso_explore.proofs.MergingLemmas.{kept_is_met}
+use Rattle.tso_search.proofs.SearchLemmas.{begun_with}
 use Rattle.tso_explore.proofs.merging.add_met.Goals as goal
 
 pub returns-in-Ok-clause-begun : goal.returns-in-Ok-clause-begun

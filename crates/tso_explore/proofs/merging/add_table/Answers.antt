@@ -1,6 +1,7 @@
 use Rattle.std.proofs.Common.{◌≡◌, ℕ, List, Some, slice_get, subst}
-use Rattle.tso_explore.proofs.SearchLemmas.{begun_union, sound_met}
-use Rattle.tso_explore.specs.Reached.{IsMet}
+use Rattle.tso_explore.proofs.MergingLemmas.{sound_met}
+use Rattle.tso_search.proofs.SearchLemmas.{begun_union}
+use Rattle.tso_search.specs.Reached.{IsMet}
 use Rattle.tso_prog.specs.declared.client.Client.{Client}
 use Rattle.tso_state.specs.declared.state.State.{State}
 use Rattle.tso_explore.proofs.merging.add_table.Goals as goal

@@ -1,4 +1,4 @@
-use Rattle.tso_explore.proofs.SearchLemmas.{started_begun}
+use Rattle.tso_search.proofs.SearchLemmas.{started_begun}
 use Rattle.tso_explore.proofs.merging.merged.Goals as goal
 
 pub add_tables-requires-clause-begun : goal.add_tables-requires-clause-begun

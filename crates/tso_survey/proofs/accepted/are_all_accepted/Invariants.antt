@@ -1,6 +1,6 @@
 use Rattle.std.proofs.Common.{ℕ, ◌<◌, Global, Vec}
 use Rattle.std.specs.List.{slice_index_or}
-use Rattle.tso_check.specs.Headline.{IsVerified}
+use Rattle.tso_client.specs.Headline.{IsVerified}
 use Rattle.tso_survey.proofs.accepted.are_all_accepted.Given as goal
 
 abbrev pub invariant-loop-number : goal.invariant-loop-number

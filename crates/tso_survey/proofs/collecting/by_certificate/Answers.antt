@@ -1,5 +1,5 @@
 use Rattle.std.proofs.Common.{Ok, ap, subst, sym}
-use Rattle.tso_check.specs.Headline.{IsVerified}
+use Rattle.tso_client.specs.Headline.{IsVerified}
 use Rattle.tso_survey.proofs.collecting.by_certificate.Goals as goal
 
 pub verified-requires-clause-verified : goal.verified-requires-clause-verified

@@ -1,9 +1,0 @@
-use Rattle.tso_explore.proofs.SearchLemmas.{IsFollowing}
-use Rattle.tso_explore.specs.Goodness.{AllGood}
-use Rattle.tso_explore.proofs.following.follow_all.Given as goal
-
-abbrev pub invariant-loop-k : goal.invariant-loop-k
-invariant-loop-k l = record {
-  following : IsFollowing l.checked.client l.limit l.initial.store l.store l.origins.items l.number l.set l.k;
-  good : AllGood l.checked.client l.store.states;
-}

@@ -1,5 +1,0 @@
-use Rattle.tso_explore.specs.Shortening.{IsShorter}
-use Rattle.tso_explore.proofs.shortening.cut_thread.Given as goal
-
-abbrev pub invariant-loop-from : goal.invariant-loop-from
-invariant-loop-from l = IsShorter l.checked.client l.initial.shortest.trace l.shortest.trace

@@ -1,5 +1,0 @@
-use Rattle.tso_explore.specs.Shortening.{IsShorter}
-use Rattle.tso_explore.proofs.shortening.cut_threads.Given as goal
-
-abbrev pub invariant-loop-thread : goal.invariant-loop-thread
-invariant-loop-thread l = IsShorter l.checked.client l.initial.shortest.trace l.shortest.trace

@@ -1,5 +1,0 @@
-use Rattle.tso_explore.specs.Shortening.{IsShorter}
-use Rattle.tso_explore.proofs.shortening.shortened.Given as goal
-
-abbrev pub invariant-loop : goal.invariant-loop
-invariant-loop l = IsShorter l.checked.client l.initial.shortest.trace l.shortest.trace

@@ -1,0 +1,3 @@
+pub mod Intervals
+pub mod Moved
+pub mod Laws

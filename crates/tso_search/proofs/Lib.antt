@@ -1,0 +1,4 @@
+pub mod GoodLemmas
+pub mod KeptOrders
+pub mod SearchLemmas
+pub mod WayLemmas

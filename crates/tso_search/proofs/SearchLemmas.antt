@@ -1,0 +1,570 @@
+-- States that are met, and those that are worked, as more of them are kept.
+use Rattle.std.proofs.Common.{◌≡◌, ◌∙◌, ℕ, zero, suc, ◌+◌, ◌*◌, ◌<◌, ◌≤◌, ◌++◌, ◌==◌, ◌⊎◌, inl, inr, Bool, true, false, not, List, [], ◌∷◌, length, length-append, map, get_or, Option, None, Some, slice_get, refl, sym, ap, subst, arith, if◌then◌else◌}
+use Rattle.std.specs.Result.{IsErrAnd}
+use Rattle.std.specs.Prelude.{All, Err, IfErr, IfOk, IfSome, IsTrue, is_some, Ok, OnOk, Result}
+use Rattle.std.specs.Option.{option_map}
+use Rattle.std.proofs.lemmas.Option.{none-some, same_Some, slice_get_within, slice_get-get_or, slice_get-map}
+use Rattle.std.proofs.lemmas.Bool.{cases_lt}
+use Rattle.std.proofs.lemmas.Nat.Bits.{bit_at-zero}
+use Rattle.tso_cert.proofs.LookupLemmas.{is_there}
+use Rattle.tso_choose.proofs.ChoiceLemmas.{choices_are_determined, chosen_are_valid}
+use Rattle.tso_choose.specs.Choices.{AreChosen, actors_below, choice_of, choices_of}
+use Rattle.tso_choose.specs.Choosing.{Alone, IsChoice, Nobody, Together}
+use Rattle.tso_choose.specs.Choosing.{is_lone_if}
+use Rattle.tso_choose.specs.Closures.{has_bit}
+use Rattle.tso_choose.specs.Needs.{is_enabled}
+use Rattle.tso_choose.specs.Sets.{actor_at}
+use Rattle.tso_choose.specs.declared.choice.Choice.{Choice}
+use Rattle.tso_compact.proofs.PathLemmas.{initial_is_plausible, steps_stay_plausible}
+use Rattle.tso_compact.specs.Laws.{initial_of}
+use Rattle.tso_compact.specs.declared.sort.StepKind.{StepKind}
+use Rattle.tso_compact.specs.Plans.{HasStep, IsStep, kind_of_move}
+use Rattle.tso_search.specs.Goodness.{AllGood, AllGoodBelow, IsGood}
+use Rattle.tso_search.specs.Reached.{IsBadAt, IsMet, IsOrigin}
+use Rattle.tso_search.specs.Searched.{AreFollowed, AreSearched, GoesOn, HasBegun, HasMore, IsBegun, IsFollowed, IsSearched, IsGoodAt, IsHunting, IsStarted, IsStop, IsStopAt, IsWorked, IsWorkedAt}
+use Rattle.tso_search.specs.declared.stop.Stop.{Stop}
+use Rattle.tso_search.specs.declared.stop.Stop.TheVariants as stops
+use Rattle.tso_search.specs.declared.origin.Origin.{Origin}
+use Rattle.tso_fifo.specs.Orders.{HasOrder}
+use Rattle.tso_flow.specs.Calls.{as_thread}
+use Rattle.tso_flow.specs.Faults.{HasNoFault}
+use Rattle.tso_foot.specs.declared.table.Table.{Table}
+use Rattle.tso_judge.specs.Conditions.{HasNoStopped, IsKeptAfter, IsOver}
+use Rattle.tso_machine.specs.Programs.{program_of}
+use Rattle.tso_model.proofs.Reduce.{steps_append}
+use Rattle.tso_model.specs.Steps as model
+use Rattle.tso_parts.proofs.Distinct.{grown_extends}
+use Rattle.tso_parts.proofs.Marked.{new_item, of_longer, old_item}
+use Rattle.tso_parts.specs.Numbers.{Extends, IsNumbered, grown}
+use Rattle.tso_prog.specs.declared.client.Client.{Client}
+use Rattle.tso_state.specs.Actors.{actor_of}
+use Rattle.tso_state.specs.Views.{state_of}
+use Rattle.tso_state.specs.WellFormed.{IsWellFormed, thread_total}
+use Rattle.tso_state.specs.declared.actor.Actor.{Actor}
+use Rattle.tso_state.specs.declared.state.State.{State}
+use Rattle.tso_store.specs.Sheets.{CanStep, IsKeptSuccessor, IsSuccessor, IsSuccessorOrNone, Sheet}
+use Rattle.tso_store.specs.Unions.{IsWithinUnion}
+
+-- ---- results
+
+pub on_ok : {X E A B : Type 0} (r : Result X E) → OnOk r A → (A → B) → OnOk r B
+on_ok (Ok x) a f = f a
+on_ok (Err e) a f = tt
+
+pub ok_as : {X E : Type 0} {P Q : X → Type 0} (r : Result X E) → IfOk r P → ((x : X) → P x → Q x) → IfOk r Q
+ok_as (Ok x) p f = f x p
+ok_as (Err e) p f = tt
+
+pub on_both : {X E A B C : Type 0} (r : Result X E) → OnOk r A → OnOk r B → (A → B → C) → OnOk r C
+on_both (Ok x) a b f = f a b
+on_both (Err e) a b f = tt
+
+pub some_where : {X : Type 0} {P : X → Type 0} (o : Option X) (r : Bool) → IfSome o P → r ≡ is_some o → r ≡ true → (x : X) × P x
+some_where None r p e is = absurd (let clash : false ≡ true = sym e ∙ is in cc)
+some_where (Some x) r p e is = (x, p)
+
+pub err_as : {X E : Type 0} {P Q : E → Type 0} (r : Result X E) → IfErr r P → ((e : E) → P e → Q e) → IfErr r Q
+err_as (Ok x) p f = tt
+err_as (Err e) p f = f e p
+
+pub err_only : {X E : Type 0} {P Q : E → Type 0} (r : Result X E) → IsErrAnd r P → ((e : E) → P e → Q e) → IfErr r Q
+err_only (Ok x) p f = tt
+err_only (Err e) p f = f e p
+
+-- ---- met
+
+-- a step from a state that is met leads to one that is
+pub met_on : (c : Client) → HasNoFault c → (s t : State) (a : Actor) → IsMet c s → IsStep c s a t → IsMet c t
+met_on c sound s t a m e =
+    let (actors, path) = m.reached in
+    let on = steps_append (model.step (program_of c)) actors (actor_of a ∷ []) (initial_of c) (state_of s) (state_of t) path (state_of t, e, refl) in
+    record { reached = (actors ++ actor_of a ∷ [], on); plausible = steps_stay_plausible c sound s t a m.plausible e }
+
+pub met_first : (c : Client) (s : State) → state_of s ≡ initial_of c → IsMet c s
+met_first c s e = record { reached = ([], sym e); plausible = initial_is_plausible c s e }
+
+origin_stays : (c : Client) (old new : List State) (n : ℕ) (o : Origin) → Extends old new → IsOrigin c old n o → IsOrigin c new n o
+origin_stays c old new n o stays is = record {
+  earlier = is.earlier;
+  before = is.before;
+  after = is.after;
+  before_at = stays o.from is.before is.before_at;
+  after_at = stays n is.after is.after_at;
+  step = is.step;
+}
+
+-- with a new state behind the others
+pub begun_on : (c : Client) → HasNoFault c → (states : List State) (origins : List Origin) (from to : State) (o : Origin) → IsBegun c states origins
+    → slice_get states o.from ≡ Some from → IsStep c from o.actor to → IsBegun c (states ++ to ∷ []) (origins ++ o ∷ [])
+begun_on c sound states origins from to o begun at step = record {
+  initial = begun.initial;
+  initial_at = old_item states to begun.initial 0 begun.initial_at;
+  initial_is = begun.initial_is;
+  met = λ n s here. of_longer states to s n here (λ old. begun.met n s old) (λ last same. subst (IsMet c) same (met_on c sound from to o.actor (begun.met o.from from at) step));
+  count = (let a = length-append origins (o ∷ []) in let b = length-append states (to ∷ []) in let n = begun.count in omega (arith, a, b, n));
+  origins = λ k p here. of_longer origins o p k here
+      (λ old. origin_stays c states (states ++ to ∷ []) (k + 1) p (λ i x e. old_item states to x i e) (begun.origins k p old))
+      (λ last same. subst (IsOrigin c (states ++ to ∷ []) (k + 1)) same (record {
+        earlier = (let lt = slice_get_within states o.from from at in let n = begun.count in omega (arith, lt, n, last));
+        before = from;
+        after = to;
+        before_at = old_item states to from o.from at;
+        after_at = (let n = begun.count in let here : k + 1 ≡ length states = omega (arith, n, last) in subst (λ i. slice_get (states ++ to ∷ []) i ≡ Some to) (sym here) (new_item states to));
+        step = step;
+      }));
+}
+
+-- ---- worked
+
+pub kept_at : (c : Client) (states : List State) (s t : State) (a : Actor) (n : ℕ) → IsStep c s a t → slice_get states n ≡ Some t → IsKeptAfter c states s a
+kept_at c states s t a n step at = record { after = t; step = step; kept = is_there states t n at }
+
+pub kept_stays : (c : Client) (old new : List State) (s : State) (a : Actor) → Extends old new → IsKeptAfter c old s a → IsKeptAfter c new s a
+kept_stays c old new s a stays k =
+    let (i, lt, e) = k.kept in
+    kept_at c new s k.after a i k.step (stays i k.after (slice_get-get_or old i k.after lt ∙ ap Some e))
+
+pub worked_stays : (c : Client) (t : Table) (old new : List State) (s : State) → Extends old new → IsWorked c t old s → IsWorked c t new s
+worked_stays c t old new s stays w = record {
+  moves = λ choices chosen k d lt. kept_stays c old new s _ stays (w.moves choices chosen k d lt);
+  unstopped = w.unstopped;
+  explained = w.explained;
+}
+
+-- ---- chosen
+
+drawn_by : (xs : List Actor) (x : Actor) (b : Bool) (i : ℕ) (a : Actor) {C : Type 0} → slice_get (if b then xs ++ x ∷ [] else xs) i ≡ Some a
+    → (slice_get xs i ≡ Some a → C) → (IsTrue b → x ≡ a → C) → C
+drawn_by xs x true i a e old new = of_longer xs x a i e old (λ last same. new refl same)
+drawn_by xs x false i a e old new = old e
+
+-- the actors of a set are those of its numbers
+drawn : (set n i : ℕ) (a : Actor) → slice_get (actors_below set n) i ≡ Some a → (k : ℕ) × (k < n) × IsTrue (has_bit set k) × (actor_at k ≡ a)
+drawn set zero i a e = absurd (none-some a e)
+drawn set (suc n) i a e = drawn_by (actors_below set n) (actor_at n) (has_bit set n) i a e
+    (λ old. let (k, lt, bit, same) = drawn set n i a old in (k, omega (arith, lt), bit, same))
+    (λ bit same. (n, omega arith, bit, same))
+
+enabled_by : {X Y Z : Type 0} (f : X → Y) (k : X → Z) (o : Option X) → is_some (option_map k o) ≡ true → is_some (option_map f o) ≡ true
+enabled_by f k None e = e
+enabled_by f k (Some m) e = refl
+
+true-false : (x : Bool) → x ≡ true → x ≡ false → ⊥
+true-false true e f = let clash : true ≡ false = f in cc
+true-false false e f = let clash : false ≡ true = e in cc
+
+-- a client has at most five threads
+pub few_threads : (c : Client) → thread_total c ≤ 5
+few_threads c = by c.prologue (length-append c.threads (as_thread c.prologue)) c.few_threads
+  where
+    by : (calls : List _) → length (c.threads ++ as_thread calls) ≡ length c.threads + length (as_thread calls) → length c.threads ≤ 4 → length (c.threads ++ as_thread calls) ≤ 5
+    by [] e few = omega (arith, e, few)
+    by (call ∷ calls) e few = omega (arith, e, few)
+
+enabled_has : (c : Client) (s : State) (a : Actor) → IsTrue (is_enabled c s a) → HasStep c s a
+enabled_has c s a e = enabled_by (model.perform (state_of s) (model.thread_of (actor_of a))) kind_of_move (model.move (program_of c) (state_of s) (actor_of a)) e
+
+choice_by : (c : Client) (t : Table) (s : State) (chosen : List Actor) (o : Option Actor) (x : Choice) → option_map (choice_of c t s chosen) o ≡ Some x → o ≡ Some x.actor
+choice_by c t s chosen None x e = absurd (none-some x e)
+choice_by c t s chosen (Some a) x e = ap Some (ap (λ (y : Choice). y.actor) (same_Some (choice_of c t s chosen a) x e))
+
+-- where the steps of all actors of the chosen set are followed, those of all chosen actors are
+pub chosen_followed : (c : Client) (t : Table) (s : State) (set : ℕ) (old new : List State) (n : ℕ) → IsWellFormed c s → IsChoice c t s set → slice_get old n ≡ Some s
+    → AreFollowed c old new n set 10 → (choices : List Choice) → AreChosen c t s choices → All (λ (x : Choice). IsKeptAfter c new s x.actor) choices
+chosen_followed c t s set old new n well is here followed choices chosen i d lt =
+    let x : Choice = get_or choices i d in
+    let actors = actors_below set (2 * length s.threads) in
+    let valid = chosen_are_valid c t s choices well chosen in
+    let same : choices ≡ choices_of c t s set = choices_are_determined c t s choices (choices_of c t s set) chosen (record { set = set; is = is; all = refl }) in
+    let at : slice_get choices i ≡ Some x = slice_get-get_or choices i d lt in
+    let mapped : option_map (choice_of c t s actors) (slice_get actors i) ≡ Some x = sym (slice_get-map (choice_of c t s actors) actors i) ∙ sym (ap (λ (xs : List Choice). slice_get xs i) same) ∙ at in
+    let (k, small, bit, a) = drawn set (2 * length s.threads) i x.actor (choice_by c t s actors (slice_get actors i) x mapped) in
+    let has : HasStep c s x.actor = enabled_has c s x.actor (valid.enabled i x at) in
+    let few : k < 10 = (let f = few_threads c in let m = well.sizes.threads in omega (arith, small, f, m)) in
+    subst (IsKeptAfter c new s) a (followed k few bit s here (subst (HasStep c s) (sym a) has))
+
+nobody_by : (o : Option StepKind) → IsTrue (is_lone_if o) → is_some o ≡ true
+nobody_by None e = e
+nobody_by (Some kind) e = refl
+
+-- where no actor has a step, the chosen set is empty
+pub over_chooses_none : (c : Client) (t : Table) (s : State) (set : ℕ) → IsChoice c t s set → IsOver c s → set ≡ 0
+over_chooses_none c t s set (Alone a lone only) over = absurd (true-false (is_enabled c s a) (nobody_by _ lone.lone) (over a))
+over_chooses_none c t s set (Together a none smallest) over = absurd (true-false (is_enabled c s a) smallest.enabled (over a))
+over_chooses_none c t s set (Nobody none is) over = is
+
+-- of an empty set no actor is chosen
+none_chosen : (n i : ℕ) (a : Actor) → slice_get (actors_below 0 n) i ≡ Some a → ⊥
+none_chosen n i a e =
+    let (k, lt, bit, same) = drawn 0 n i a e in
+    true-false (has_bit 0 k) bit (ap (λ n. n == 1) (bit_at-zero k))
+
+pub nobody_followed : (c : Client) (t : Table) (s : State) (states : List State) → IsChoice c t s 0 → (choices : List Choice) → AreChosen c t s choices
+    → All (λ (x : Choice). IsKeptAfter c states s x.actor) choices
+nobody_followed c t s states is choices chosen i d lt =
+    let x : Choice = get_or choices i d in
+    let actors = actors_below 0 (2 * length s.threads) in
+    let same : choices ≡ choices_of c t s 0 = choices_are_determined c t s choices (choices_of c t s 0) chosen (record { set = 0; is = is; all = refl }) in
+    let at : slice_get choices i ≡ Some x = slice_get-get_or choices i d lt in
+    let mapped : option_map (choice_of c t s actors) (slice_get actors i) ≡ Some x = sym (slice_get-map (choice_of c t s actors) actors i) ∙ sym (ap (λ (xs : List Choice). slice_get xs i) same) ∙ at in
+    absurd (none_chosen (2 * length s.threads) i x.actor (choice_by c t s actors (slice_get actors i) x mapped))
+
+-- ---- a search
+
+-- a state whose chosen steps are followed is worked, and so are those before it
+pub searched_moves : (c : Client) (t : Table) (limit : ℕ) (old new : List State) (origins origins' : List Origin) (number set : ℕ) (s : State)
+    → IsSearched c t old origins number → AllGood c old → GoesOn c limit old new origins' → slice_get old number ≡ Some s → IsChoice c t s set → AreFollowed c old new number set 10
+    → IsSearched c t new origins' (number + 1)
+searched_moves c t limit old new origins origins' number set s searched good on here is followed = record {
+  begun = on.begun;
+  worked = λ n x lt at. by n x at (cases_lt n number) lt;
+}
+  where
+    well : IsWellFormed c s
+    well = (searched.begun.met number s here).plausible.well_formed
+
+    this : IsWorked c t new s
+    this = record {
+      moves = chosen_followed c t s set old new number well is here followed;
+      unstopped = λ over. (good number s here).unstopped;
+      explained = λ over. (good number s here).explained;
+    }
+
+    by : (n : ℕ) (x : State) → slice_get new n ≡ Some x → (n < number) ⊎ (number ≤ n) → n < number + 1 → IsWorked c t new x
+    by n x at (inl lt) small =
+        let less = slice_get_within old number s here in
+        let there = slice_get-get_or old n x (omega (arith, lt, less)) in
+        let same : get_or old n x ≡ x = same_Some (get_or old n x) x (sym (on.stays n (get_or old n x) there) ∙ at) in
+        subst (IsWorked c t new) same (worked_stays c t old new (get_or old n x) on.stays (searched.worked n (get_or old n x) lt there))
+    by n x at (inr ge) small =
+        let last : number ≡ n = omega (arith, ge, small) in
+        let same : s ≡ x = same_Some s x (sym (on.stays number s here) ∙ ap (λ i. slice_get new i) last ∙ at) in
+        subst (IsWorked c t new) same this
+
+-- the initial state alone
+pub begun_first : (c : Client) (states : List State) → IsStarted c states → IsBegun c states []
+begun_first c states started = subst (λ (xs : List State). IsBegun c xs []) (sym started.only) (record {
+  initial = started.initial;
+  initial_at = refl;
+  initial_is = started.initial_is;
+  met = λ n s at. one n s at;
+  count = refl;
+  origins = λ k o at. absurd (none-some o at);
+})
+  where
+    one : (n : ℕ) (s : State) → slice_get (started.initial ∷ []) n ≡ Some s → IsMet c s
+    one zero s at = subst (IsMet c) (same_Some started.initial s at) (met_first c started.initial started.initial_is)
+    one (suc n) s at = absurd (none-some s at)
+
+-- more states than the limit are reached
+pub more_than : (c : Client) (limit : ℕ) (states : List State) (origins : List Origin) → IsBegun c states origins → IsNumbered states → limit < length states → HasMore c limit
+more_than c limit states origins begun differ more = record { states = states; more = more; differ = differ; reached = λ n s at. (begun.met n s at).reached }
+
+-- ---- one step
+
+-- a step to a new state
+pub begun_after : (c : Client) → HasNoFault c → (old new : List State) (os os' : List Origin) (n m : ℕ) (a : Actor) → IsBegun c old os
+    → IsSuccessor c old new n a (m, true) → os' ≡ os ++ record { from = n; actor = a } ∷ [] → IsBegun c new os'
+begun_after c sound old new os os' n m a begun next more =
+    let o : Origin = record { from = n; actor = a } in
+    let on = begun_on c sound old os next.from next.to o begun next.at next.step in
+    let states : IsBegun c new (os ++ o ∷ []) = subst (λ (xs : List State). IsBegun c xs (os ++ o ∷ [])) (sym next.added.kept) on in
+    subst (IsBegun c new) (sym more) states
+
+pub stays_after : (c : Client) (old new : List State) (n : ℕ) (a : Actor) (r : ℕ × Bool) → IsSuccessor c old new n a r → Extends old new
+stays_after c old new n a r next = grown_extends old new next.to r.1 next.added.kept
+
+-- the step is followed
+pub followed_after : (c : Client) (old new : List State) (n : ℕ) (a : Actor) (r : ℕ × Bool) → IsSuccessor c old new n a r → IsFollowed c old new n a
+followed_after c old new n a r next s at has =
+    let same : next.from ≡ s = same_Some next.from s (sym next.at ∙ at) in
+    kept_at c new s next.to a r.0 (subst (λ (x : State). IsStep c x a next.to) same next.step) next.added.number
+
+-- there was none
+pub followed_nowhere : (c : Client) (old new : List State) (n : ℕ) (a : Actor) → (CanStep c old n a → ⊥) → IsFollowed c old new n a
+followed_nowhere c old new n a none s at has = absurd (none (record { from = s; at = at; step = has }))
+
+-- a step to a state that was kept before
+pub goes_on_same : (c : Client) (limit : ℕ) (old new : List State) (os : List Origin) → IsBegun c old os → length old ≤ limit → new ≡ old → GoesOn c limit old new os
+goes_on_same c limit old new os begun few same = subst (λ (xs : List State). GoesOn c limit old xs os) (sym same) (record { begun = begun; stays = λ i x at. at; few = few })
+
+-- what a step to a new state leaves
+pub record IsNew (c : Client) (old new : List State) (origins : List Origin) (n : ℕ) (a : Actor) : Type 0 where
+  pub begun : IsBegun c new origins
+  pub stays : Extends old new
+  pub followed : IsFollowed c old new n a
+
+new_by : (c : Client) → HasNoFault c → (old new : List State) (os os' : List Origin) (n : ℕ) (a : Actor) (r : ℕ × Bool) → IsBegun c old os
+    → IsSuccessor c old new n a r → not r.1 ≡ false → os' ≡ os ++ record { from = n; actor = a } ∷ [] → IsNew c old new os' n a
+new_by c sound old new os os' n a (m, true) begun next is more = record {
+  begun = begun_after c sound old new os os' n m a begun next more;
+  stays = stays_after c old new n a (m, true) next;
+  followed = followed_after c old new n a (m, true) next;
+}
+new_by c sound old new os os' n a (m, false) begun next is more = absurd (let clash : true ≡ false = is in cc)
+
+pub stepped_new : (c d : Client) → HasNoFault c → d ≡ c → (old new : List State) (os os' : List Origin) (n : ℕ) (a : Actor) (o : Option (ℕ × Bool)) (r : ℕ × Bool) → IsBegun c old os
+    → IsSuccessorOrNone d old new n a o → o ≡ Some r → not r.1 ≡ false → os' ≡ os ++ record { from = n; actor = a } ∷ [] → IsNew c old new os' n a
+stepped_new c d sound same old new os os' n a o r begun step e is more =
+    let next : IsSuccessor d old new n a r = subst (IsSuccessorOrNone d old new n a) e step in
+    new_by c sound old new os os' n a r begun (subst (λ (x : Client). IsSuccessor x old new n a r) same next) is more
+
+-- the state behind the others, with the step that leads there
+pub record IsNewState (c : Client) (old new : List State) (n : ℕ) (a : Actor) (m : ℕ) : Type 0 where
+  pub from : State
+  pub to : State
+  pub at : slice_get old n ≡ Some from
+  pub step : IsStep c from a to
+  pub grown : new ≡ old ++ to ∷ []
+  pub last : m ≡ length old
+
+new_state_by : (c : Client) (old new : List State) (n : ℕ) (a : Actor) (r : ℕ × Bool) → IsSuccessor c old new n a r → not r.1 ≡ false → IsNumbered new → IsNewState c old new n a r.0
+new_state_by c old new n a (m, false) next is differ = absurd (let clash : true ≡ false = is in cc)
+new_state_by c old new n a (m, true) next is differ = record {
+  from = next.from;
+  to = next.to;
+  at = next.at;
+  step = next.step;
+  grown = next.added.kept;
+  last = differ m (length old) next.to next.added.number (subst (λ (xs : List State). slice_get xs (length old) ≡ Some next.to) (sym next.added.kept) (new_item old next.to));
+}
+
+pub new_state : (c d : Client) → d ≡ c → (old new : List State) (n : ℕ) (a : Actor) (o : Option (ℕ × Bool)) (r : ℕ × Bool)
+    → IsSuccessorOrNone d old new n a o → o ≡ Some r → not r.1 ≡ false → IsNumbered new → IsNewState c old new n a r.0
+new_state c d same old new n a o r step e is differ =
+    let next : IsSuccessor d old new n a r = subst (IsSuccessorOrNone d old new n a) e step in
+    new_state_by c old new n a r (subst (λ (x : Client). IsSuccessor x old new n a r) same next) is differ
+
+new_at : (c : Client) (old new : List State) (n m : ℕ) (a : Actor) → (s : IsNewState c old new n a m) → slice_get new m ≡ Some s.to
+new_at c old new n m a s =
+    subst (λ i. slice_get new i ≡ Some s.to) (sym s.last) (subst (λ (xs : List State). slice_get xs (length old) ≡ Some s.to) (sym s.grown) (new_item old s.to))
+
+pub new_is_next : (c : Client) (old new : List State) (n m : ℕ) (a : Actor) → IsNewState c old new n a m → IsKeptSuccessor c new n a m
+new_is_next c old new n m a s = record {
+  from = s.from;
+  to = s.to;
+  at = subst (λ (xs : List State). slice_get xs n ≡ Some s.from) (sym s.grown) (old_item old s.to s.from n s.at);
+  step = s.step;
+  number = new_at c old new n m a s;
+}
+
+pub new_is_later : (c : Client) (old new : List State) (n m : ℕ) (a : Actor) → IsNewState c old new n a m → n < m
+new_is_later c old new n m a s = let lt = slice_get_within old n s.from s.at in let e = s.last in omega (arith, lt, e)
+
+pub new_is_within : (c : Client) (old new : List State) (n m : ℕ) (a : Actor) → IsNewState c old new n a m → m < length new
+new_is_within c old new n m a s = slice_get_within new m s.to (new_at c old new n m a s)
+
+pub good_below : (c : Client) (old new : List State) (n m : ℕ) (a : Actor) → IsNewState c old new n a m → AllGood c old → AllGoodBelow c new m
+good_below c old new n m a s good k x less at =
+    of_longer old s.to x k (subst (λ (xs : List State). slice_get xs k ≡ Some x) s.grown at) (λ before. good k x before) (λ last same. absurd (let e = s.last in omega (arith, less, last, e)))
+
+pub good_with : (c : Client) (old new : List State) (n m : ℕ) (a : Actor) → IsNewState c old new n a m → AllGood c old → IsGoodAt c new m → AllGood c new
+good_with c old new n m a s good one k x at =
+    of_longer old s.to x k (subst (λ (xs : List State). slice_get xs k ≡ Some x) s.grown at) (λ before. good k x before) (λ last same.
+    let here : one.state ≡ x = same_Some one.state x (sym one.at ∙ new_at c old new n m a s ∙ ap Some same) in
+    subst (IsGood c) here one.good)
+
+pub good_as : (c : Client) (old new : List State) → AllGood c old → new ≡ old → AllGood c new
+good_as c old new good same = subst (AllGood c) (sym same) good
+
+-- a search stops where a new state is bad
+pub stop_at : (c : Client) (limit : ℕ) (states : List State) (origins : List Origin) (n : ℕ) → IsBegun c states origins → (stop : Stop) → IsStopAt c states n stop → IsStop c limit states origins stop
+stop_at c limit states origins n begun (stops.Violation m) (same, bad) = (begun, subst (IsBadAt c states) (sym same) bad)
+stop_at c limit states origins n begun stops.Limit at = absurd at
+stop_at c limit states origins n begun stops.Memory at = tt
+
+pub new_goes_on : (c : Client) (limit : ℕ) (old new : List State) (os : List Origin) (n : ℕ) (a : Actor) → IsNew c old new os n a → length new ≤ limit → GoesOn c limit old new os
+new_goes_on c limit old new os n a new_one few = record { begun = new_one.begun; stays = new_one.stays; few = few }
+
+-- a step to a state that was kept before, or none
+old_by : (c : Client) (old new : List State) (n : ℕ) (a : Actor) (r : ℕ × Bool) → IsSuccessor c old new n a r → not r.1 ≡ true → new ≡ old
+old_by c old new n a (m, true) next is = absurd (let clash : false ≡ true = is in cc)
+old_by c old new n a (m, false) next is = next.added.kept
+
+pub stepped_old : (c d : Client) → d ≡ c → (old new : List State) (n : ℕ) (a : Actor) (o : Option (ℕ × Bool)) (r : ℕ × Bool)
+    → IsSuccessorOrNone d old new n a o → o ≡ Some r → not r.1 ≡ true → (new ≡ old) × IsFollowed c old new n a
+stepped_old c d same old new n a o r step e is =
+    let found : IsSuccessor d old new n a r = subst (IsSuccessorOrNone d old new n a) e step in
+    let next = subst (λ (x : Client). IsSuccessor x old new n a r) same found in
+    (old_by c old new n a r next is, followed_after c old new n a r next)
+
+pub stepped_nowhere : (c d : Client) → d ≡ c → (old new : List State) (n : ℕ) (a : Actor) (o : Option (ℕ × Bool))
+    → IsSuccessorOrNone d old new n a o → o ≡ None → (new ≡ old) × IsFollowed c old new n a
+stepped_nowhere c d same old new n a o step e =
+    let (none, kept) : (CanStep d old n a → ⊥) × (new ≡ old) = subst (IsSuccessorOrNone d old new n a) e step in
+    (kept, followed_nowhere c old new n a (subst (λ (x : Client). CanStep x old n a → ⊥) same none))
+
+-- ---- the actors of a set, one after another
+
+pub stays_stays : {X : Type 0} (xs ys zs : List X) → Extends xs ys → Extends ys zs → Extends xs zs
+stays_stays xs ys zs p q i x at = q i x (p i x at)
+
+pub goes_on_twice : (c : Client) (limit : ℕ) (old mid new : List State) (os ps : List Origin) → GoesOn c limit old mid os → GoesOn c limit mid new ps → GoesOn c limit old new ps
+goes_on_twice c limit old mid new os ps p q = record { begun = q.begun; stays = stays_stays old mid new p.stays q.stays; few = q.few }
+
+pub goes_nowhere : (c : Client) (limit : ℕ) (states : List State) (origins : List Origin) → IsBegun c states origins → length states ≤ limit → GoesOn c limit states states origins
+goes_nowhere c limit states origins begun few = record { begun = begun; stays = λ i x at. at; few = few }
+
+is_followed_on : (c : Client) (old mid new : List State) (n : ℕ) (a : Actor) → Extends mid new → IsFollowed c old mid n a → IsFollowed c old new n a
+is_followed_on c old mid new n a q f s at has = kept_stays c mid new s a q (f s at has)
+
+-- behind the actors below number k, that one too, if it is in the set
+pub followed_on : (c : Client) (old mid new : List State) (n set k : ℕ) → Extends old mid → Extends mid new → AreFollowed c old mid n set k
+    → (IsTrue (has_bit set k) → IsFollowed c mid new n (actor_at k)) → AreFollowed c old new n set (k + 1)
+followed_on c old mid new n set k p q all one j lt bit = by (cases_lt j k)
+  where
+    by : (j < k) ⊎ (k ≤ j) → IsFollowed c old new n (actor_at j)
+    by (inl less) = is_followed_on c old mid new n (actor_at j) q (all j less bit)
+    by (inr ge) =
+        let same : k ≡ j = omega (arith, ge, lt) in
+        let last : IsFollowed c mid new n (actor_at j) = subst (λ i. IsFollowed c mid new n (actor_at i)) same (one (subst (λ i. IsTrue (has_bit set i)) (sym same) bit)) in
+        λ s at has. last s (p n s at) has
+
+pub still_there : (old new : List State) (n : ℕ) (s : State) → Extends old new → n < length old → n < length new
+still_there old new n s stays lt = slice_get_within new n (get_or old n s) (stays n (get_or old n s) (slice_get-get_or old n s lt))
+
+pub longer : (old new : List State) → Extends old new → length old ≤ length new
+longer [] new stays = omega arith
+longer (x ∷ xs) new stays = let h : length xs < length new = still_there (x ∷ xs) new (length xs) x stays (omega arith) in omega (arith, h)
+
+pub some_as : {X : Type 0} (P : X → Type 0) (o : Option X) (x : X) → IfSome o P → o ≡ Some x → P x
+some_as P None x p e = absurd (none-some x e)
+some_as P (Some y) x p e = subst P (same_Some y x e) p
+
+-- what a hunt keeps goes on
+pub hunting_on : (c : Client) (old new : List State) (origins : List Origin) → GoesOn c 4194304 old new origins → AllGood c new → IsHunting c new origins
+hunting_on c old new origins on good = record { begun = on.begun; good = good; few = on.few }
+
+-- a hunt since it had this store, with steps left
+pub record IsLeaving (c : Client) (old new : Sheet) (origins : List Origin) (before steps : ℕ) : Type 0 where
+  pub client : new.client ≡ c
+  pub hunting : IsHunting c new.states origins
+  pub more : length old.states ≤ length new.states
+  pub room : new.kept + 4 * steps ≤ old.kept + 4 * before
+
+pub leaving_first : (c : Client) (old : Sheet) (origins : List Origin) (steps : ℕ) → old.client ≡ c → IsHunting c old.states origins → IsLeaving c old old origins steps steps
+leaving_first c old origins steps same hunting = record { client = same; hunting = hunting; more = omega arith; room = omega arith }
+
+pub leaving_on : (c : Client) (old mid next : Sheet) (os ps : List Origin) (before steps left : ℕ) → IsLeaving c old mid os before steps → next.client ≡ mid.client → IsHunting c next.states ps
+    → length mid.states ≤ length next.states → next.kept + 4 * left ≤ mid.kept + 4 * steps → IsLeaving c old next ps before left
+leaving_on c old mid next os ps before steps left l same hunting more room = record {
+  client = same ∙ l.client;
+  hunting = hunting;
+  more = (let a = l.more in omega (arith, a, more));
+  room = (let a = l.room in omega (arith, a, room));
+}
+
+pub leaving_as : (c : Client) (old new next : Sheet) (os ps : List Origin) (before steps left : ℕ) → IsLeaving c old next ps before left → new ≡ next → os ≡ ps → steps ≡ left → IsLeaving c old new os before steps
+leaving_as c old new next os ps before steps left l store tail same =
+    let a : IsLeaving c old next ps before steps = subst (IsLeaving c old next ps before) (sym same) l in
+    let b : IsLeaving c old next os before steps = subst (λ (xs : List Origin). IsLeaving c old next xs before steps) (sym tail) a in
+    subst (λ (s : Sheet). IsLeaving c old s os before steps) (sym store) b
+
+-- the actors of a set with numbers below k are followed
+pub record IsFollowing (c : Client) (limit : ℕ) (old new : Sheet) (origins : List Origin) (n set k : ℕ) : Type 0 where
+  pub client : new.client ≡ c
+  pub on : GoesOn c limit old.states new.states origins
+  pub followed : AreFollowed c old.states new.states n set k
+  pub room : new.kept ≤ old.kept + 4 * k
+
+pub following_first : (c : Client) (limit : ℕ) (old : Sheet) (origins : List Origin) (n set : ℕ) → old.client ≡ c → IsBegun c old.states origins → length old.states ≤ limit → IsFollowing c limit old old origins n set 0
+following_first c limit old origins n set same begun few = record {
+  client = same;
+  on = goes_nowhere c limit old.states origins begun few;
+  followed = λ k lt bit. absurd (omega (arith, lt));
+  room = omega arith;
+}
+
+pub following_on : (c : Client) (limit : ℕ) (old mid next new : Sheet) (os ps : List Origin) (origins : List Origin) (n set k : ℕ) (a : Actor) → IsFollowing c limit old mid os n set k
+    → GoesOn c limit mid.states next.states ps → a ≡ actor_at k → IsFollowed c mid.states next.states n a → next.kept ≤ mid.kept + 4 → next.client ≡ mid.client
+    → new ≡ next → origins ≡ ps → IsFollowing c limit old new origins n set (k + 1)
+following_on c limit old mid next new os ps origins n set k a f on actor one room client same tail =
+    let r : IsFollowing c limit old next ps n set (k + 1) = record {
+      client = client ∙ f.client;
+      on = goes_on_twice c limit old.states mid.states next.states os ps f.on on;
+      followed = followed_on c old.states mid.states next.states n set k f.on.stays on.stays f.followed (λ bit. subst (IsFollowed c mid.states next.states n) actor one);
+      room = (let r = f.room in omega (arith, room, r));
+    } in
+    let moved : IsFollowing c limit old new ps n set (k + 1) = subst (λ (s : Sheet). IsFollowing c limit old s ps n set (k + 1)) (sym same) r in
+    subst (λ (xs : List Origin). IsFollowing c limit old new xs n set (k + 1)) (sym tail) moved
+
+pub following_past : (c : Client) (limit : ℕ) (old mid new : Sheet) (os origins : List Origin) (n set k : ℕ) → IsFollowing c limit old mid os n set k → has_bit set k ≡ false
+    → new ≡ mid → origins ≡ os → IsFollowing c limit old new origins n set (k + 1)
+following_past c limit old mid new os origins n set k f off same tail =
+    let r : IsFollowing c limit old mid os n set (k + 1) = record {
+      client = f.client;
+      on = f.on;
+      followed = followed_on c old.states mid.states mid.states n set k f.on.stays (λ i x at. at) f.followed (λ bit. absurd (true-false (has_bit set k) bit off));
+      room = (let r = f.room in omega (arith, r));
+    } in
+    let moved : IsFollowing c limit old new os n set (k + 1) = subst (λ (s : Sheet). IsFollowing c limit old s os n set (k + 1)) (sym same) r in
+    subst (λ (xs : List Origin). IsFollowing c limit old new xs n set (k + 1)) (sym tail) moved
+
+pub searched_first : (c : Client) (t : Table) (states : List State) (origins : List Origin) → IsStarted c states → origins ≡ [] → IsSearched c t states origins 0
+searched_first c t states origins started none = record {
+  begun = subst (IsBegun c states) (sym none) (begun_first c states started);
+  worked = λ n s lt at. absurd (omega (arith, lt));
+}
+
+-- ---- all are worked
+
+pub has_begun : (c : Client) (states : List State) (origins : List Origin) → IsBegun c states origins → HasBegun c states
+has_begun c states origins begun = record { initial = begun.initial; initial_at = begun.initial_at; initial_is = begun.initial_is; met = begun.met }
+
+pub all_searched : (c : Client) (t : Table) (states : List State) (origins : List Origin) → IsSearched c t states origins (length states) → AreSearched c t states
+all_searched c t states origins searched = record {
+  begun = has_begun c states origins searched.begun;
+  worked = λ n s at. searched.worked n s (slice_get_within states n s at) at;
+}
+
+-- a state whose chosen steps all lead to kept states is worked
+pub closed_moves : (c : Client) (t : Table) (states : List State) (n set : ℕ) (s : State) → HasBegun c states → slice_get states n ≡ Some s → IsChoice c t s set → (set ≡ 0 → ⊥)
+    → AreFollowed c states states n set 10 → IsWorkedAt c t states n
+closed_moves c t states n set s begun here is some followed x at =
+    let well : IsWellFormed c s = (begun.met n s here).plausible.well_formed in
+    let this : IsWorked c t states s = record {
+      moves = chosen_followed c t s set states states n well is here followed;
+      unstopped = λ over. absurd (some (over_chooses_none c t s set is over));
+      explained = λ over. absurd (some (over_chooses_none c t s set is over));
+    } in
+    subst (IsWorked c t states) (same_Some s x (sym here ∙ at)) this
+
+-- so is one without a step that is good
+pub closed_end : (c : Client) (t : Table) (states : List State) (n : ℕ) (s : State) → slice_get states n ≡ Some s → IsChoice c t s 0 → IsGoodAt c states n → IsWorkedAt c t states n
+closed_end c t states n s here is good x at =
+    let one : good.state ≡ s = same_Some good.state s (sym good.at ∙ here) in
+    let this : IsWorked c t states s = record {
+      moves = nobody_followed c t s states is;
+      unstopped = λ over. subst HasNoStopped one good.good.unstopped;
+      explained = λ over. subst (λ (y : State). HasOrder c.mode c.capacity y.history) one good.good.explained;
+    } in
+    subst (IsWorked c t states) (same_Some s x (sym here ∙ at)) this
+
+-- the initial state alone
+pub started_begun : (c : Client) (states : List State) → IsStarted c states → HasBegun c states
+started_begun c states started = has_begun c states [] (begun_first c states started)
+
+-- with a state that is met
+pub begun_with : (c : Client) (old new : List State) (s : State) (b : Bool) → HasBegun c old → IsMet c s → new ≡ grown old s b → HasBegun c new
+begun_with c old new s false begun met is = subst (HasBegun c) (sym is) begun
+begun_with c old new s true begun met is = subst (HasBegun c) (sym is) (record {
+  initial = begun.initial;
+  initial_at = old_item old s begun.initial 0 begun.initial_at;
+  initial_is = begun.initial_is;
+  met = λ n x here. of_longer old s x n here (λ e. begun.met n x e) (λ last same. subst (IsMet c) same met);
+})
+
+pub more_met : (c : Client) (limit : ℕ) (states : List State) → HasBegun c states → IsNumbered states → limit < length states → HasMore c limit
+more_met c limit states begun differ more = record { states = states; more = more; differ = differ; reached = λ n s at. (begun.met n s at).reached }
+
+-- with the states of a table, each of which is met
+pub begun_union : (c : Client) (old others new : List State) → HasBegun c old → ((n : ℕ) (s : State) → slice_get others n ≡ Some s → IsMet c s) → IsWithinUnion old others new → HasBegun c new
+begun_union c old others new begun met within = record {
+  initial = begun.initial;
+  initial_at = within.stays 0 begun.initial begun.initial_at;
+  initial_is = begun.initial_is;
+  met = λ n s at. elim (within.either n s at) [
+    | inl before ↦ begun.met before.0 s before.1
+    | inr came ↦ met came.0 s came.1
+  ];
+}

@@ -1,0 +1,5 @@
+pub mod Reached
+pub mod Goodness
+pub mod Searched
+pub mod Shortening
+pub mod Ways

@@ -1,0 +1,54 @@
+-- States that compact steps reach, and where they were met from.
+use Rattle.std.specs.Prelude.{◌≡◌, ◌⊎◌, ◌+◌, ◌<◌, ℕ, List, map, Some, slice_get}
+use Rattle.tso_compact.specs.Laws.{IsLabelRun, IsPlausible, initial_of}
+use Rattle.tso_compact.specs.Plans.{IsStep}
+use Rattle.tso_search.specs.declared.origin.Origin.{Origin}
+use Rattle.tso_fifo.specs.Orders.{HasOrder}
+use Rattle.tso_judge.specs.Conditions.{HasNoStopped}
+use Rattle.tso_machine.specs.Machines.{label_of}
+use Rattle.tso_machine.specs.Programs.{program_of}
+use Rattle.tso_machine.specs.declared.label.Label.{Label}
+use Rattle.tso_model.specs.Reduce.{Steps}
+use Rattle.tso_model.specs.Steps as model
+use Rattle.tso_prog.specs.declared.client.Client.{Client}
+use Rattle.tso_state.specs.Views.{state_of}
+use Rattle.tso_state.specs.declared.state.State.{State}
+
+-- compact steps lead from the initial state to this one
+abbrev pub IsReached : Client → State → Type 0
+IsReached c s = (actors : List model.Actor) × Steps (model.step (program_of c)) (initial_of c) actors (state_of s)
+
+-- it is reached, and well-formed with each running call on a path of its procedure, as all that are reached are
+pub record IsMet (c : Client) (s : State) : Type 0 where
+  pub reached : IsReached c s
+  pub plausible : IsPlausible c s
+
+abbrev pub AllMet : Client → List State → Type 0
+AllMet c states = (n : ℕ) (s : State) → slice_get states n ≡ Some s → IsMet c s
+
+-- the actor's step leads from a state with a lower number to state number n
+pub record IsOrigin (c : Client) (states : List State) (n : ℕ) (o : Origin) : Type 0 where
+  pub earlier : o.from < n
+  pub before : State
+  pub after : State
+  pub before_at : slice_get states o.from ≡ Some before
+  pub after_at : slice_get states n ≡ Some after
+  pub step : IsStep c before o.actor after
+
+-- each state but the first has its origin, in order
+abbrev pub AreOrigins : Client → List State → List Origin → Type 0
+AreOrigins c states origins = (k : ℕ) (o : Origin) → slice_get origins k ≡ Some o → IsOrigin c states (k + 1) o
+
+-- a run of these labels leads from the initial state to state number n, with its history
+abbrev pub AreLabelsTo : Client → List State → ℕ → List Label → Type 0
+AreLabelsTo c states n labels = (s : State) → slice_get states n ≡ Some s → IsLabelRun c (initial_of c) (state_of s) (map label_of labels)
+
+-- a run to this state is not good: a fault has stopped a thread, or no order explains the calls
+abbrev pub IsBad : Client → State → Type 0
+IsBad c s = (HasNoStopped s → ⊥) ⊎ (HasOrder c.mode c.capacity s.history → ⊥)
+
+-- state number n is such a one
+pub record IsBadAt (c : Client) (states : List State) (n : ℕ) : Type 0 where
+  pub state : State
+  pub at : slice_get states n ≡ Some state
+  pub bad : IsBad c state

@@ -1,0 +1,171 @@
+//! The steps of the chosen actors of one state.
+
+ghost use Rattle.std.specs.Prelude.{◌≡◌, ◌+◌, ◌<◌, ◌≤◌, ◌++◌, ◌∷◌, [], IfErr, IfOk, IfSome, OnOk, length};
+ghost use Rattle.tso_search.specs.Goodness.{AllGood, AllGoodBelow};
+ghost use Rattle.tso_search.specs.Searched.{AreFollowed, GoesOn, IsBegun, IsFollowed, IsGoodAt, IsStop, IsStopAt};
+ghost use Rattle.tso_search.specs.declared.stop.Stop.TheVariants as stops;
+ghost use Rattle.tso_store.specs.Sheets.{IsKeptSuccessor, IsSuccessorOrNone};
+
+use crate::judging::{Judged, is_new_good};
+use crate::origin::Origin;
+use crate::stop::Stop;
+use std::alloc::{AllocError, Global};
+use tso_choose::{actor_at, has_bit};
+use tso_flow::Checked;
+use tso_parts::Refused;
+use tso_state::Actor;
+use tso_store::Store;
+
+// The number of the state after the actor's step, and whether it is new, if there is a step.
+fn successor(
+    alloc: Global,
+    store: &mut Store<'_>,
+    number: u32,
+    actor: Actor,
+) -> Result<Option<(u32, bool)>, Stop>
+    requires { store.old.kept + 4 < 4294967295 }
+    ensures step { IfOk result (IsSuccessorOrNone store.old.client store.old.states store.new.states number actor) }
+    ensures err { IfErr result (λ stop. stop ≡ stops.Memory) }
+    ensures room { store.new.kept ≤ store.old.kept + 4 }
+    ensures client { store.new.client ≡ store.old.client }
+{
+    match store.successor(alloc, number, actor) {
+        Ok(next) => Ok(next),
+        Err(Refused::Memory) => Err(Stop::Memory),
+        Err(Refused::Full) => unreachable!(),
+    }
+}
+
+// Puts an origin at the end.
+fn keep_origin(origins: &mut Vec<Origin>, origin: Origin) -> Result<(), AllocError>
+    ensures ok { OnOk result (origins.new.items ≡ origins.old.items ++ origin ∷ []) }
+{
+    Ok(origins.push(origin)?)
+}
+
+// Whether so many states are no more than the limit.
+fn within(count: usize, limit: u32) -> Result<(), Stop>
+    ensures ok { OnOk result (count ≤ limit) }
+    ensures err { IfErr result (λ stop. (stop ≡ stops.Limit) × (limit < count)) }
+{
+    if count > limit as usize {
+        return Err(Stop::Limit);
+    }
+    Ok(())
+}
+
+// Goes on where the runs to a new state are good.
+fn judge(
+    alloc: Global,
+    checked: &Checked,
+    store: &Store<'_>,
+    judged: &mut Judged,
+    origin: Origin,
+    new: u32,
+) -> Result<(), Stop>
+    requires next { IsKeptSuccessor checked.now.client store.now.states origin.from origin.actor new }
+    requires earlier { origin.from < new }
+    requires below { AllGoodBelow checked.now.client store.now.states new }
+    ensures good { OnOk result (IsGoodAt checked.now.client store.now.states new) }
+    ensures stop { IfErr result (IsStopAt checked.now.client store.now.states new) }
+{
+    if is_new_good(
+        alloc,
+        checked,
+        store,
+        judged,
+        origin.from,
+        origin.actor,
+        new,
+    )? {
+        return Ok(());
+    }
+    Err(Stop::Violation(new))
+}
+
+/// Follows the step of an actor of state `number`, keeps where a new state was met from, and judges it. The number of the new
+/// state, if there is one.
+///
+/// Errors: `Limit` where the new state is one more than the limit, `Violation` where the runs to it are not good, `Memory` where a
+/// growth was refused.
+pub fn follow(
+    alloc: Global,
+    checked: &Checked,
+    store: &mut Store<'_>,
+    origins: &mut Vec<Origin>,
+    judged: &mut Judged,
+    number: u32,
+    actor: Actor,
+    limit: u32,
+) -> Result<Option<u32>, Stop>
+    requires client { store.old.client ≡ checked.now.client }
+    requires begun { IsBegun checked.now.client store.old.states origins.old.items }
+    requires good { AllGood checked.now.client store.old.states }
+    requires from { number < length store.old.states }
+    requires few { length store.old.states ≤ limit }
+    requires room { store.old.kept + 4 < 4294967295 }
+    ensures on { OnOk result (GoesOn checked.now.client limit store.old.states store.new.states origins.new.items) }
+    ensures good { OnOk result (AllGood checked.now.client store.new.states) }
+    ensures followed { OnOk result (IsFollowed checked.now.client store.old.states store.new.states number actor) }
+    ensures new { IfOk result (λ met. IfSome met (λ n. n < length store.new.states)) }
+    ensures stop { IfErr result (IsStop checked.now.client limit store.new.states origins.new.items) }
+    ensures room { store.new.kept ≤ store.old.kept + 4 }
+    ensures client { store.new.client ≡ store.old.client }
+{
+    let Some(next) = successor(alloc, store, number, actor)? else {
+        return Ok(None);
+    };
+    if !next.1 {
+        return Ok(None);
+    }
+    let origin = Origin {
+        from: number,
+        actor,
+    };
+    keep_origin(origins, origin)?;
+    store.states_differ();
+    within(store.len(), limit)?;
+    judge(alloc, checked, store, judged, origin, next.0)?;
+    Ok(Some(next.0))
+}
+
+/// Follows the steps of all actors of a set.
+pub fn follow_all(
+    alloc: Global,
+    checked: &Checked,
+    store: &mut Store<'_>,
+    origins: &mut Vec<Origin>,
+    judged: &mut Judged,
+    number: u32,
+    set: u16,
+    limit: u32,
+) -> Result<(), Stop>
+    requires client { store.old.client ≡ checked.now.client }
+    requires begun { IsBegun checked.now.client store.old.states origins.old.items }
+    requires good { AllGood checked.now.client store.old.states }
+    requires from { number < length store.old.states }
+    requires few { length store.old.states ≤ limit }
+    requires room { store.old.kept + 40 < 4294967295 }
+    ensures on { OnOk result (GoesOn checked.now.client limit store.old.states store.new.states origins.new.items) }
+    ensures good { OnOk result (AllGood checked.now.client store.new.states) }
+    ensures followed { OnOk result (AreFollowed checked.now.client store.old.states store.new.states number set 10) }
+    ensures stop { IfErr result (IsStop checked.now.client limit store.new.states origins.new.items) }
+    ensures room { store.new.kept ≤ store.old.kept + 40 }
+    ensures client { store.new.client ≡ store.old.client }
+{
+    for k in 0..10 {
+        if has_bit(set, k) {
+            let _new = follow(
+                alloc,
+                checked,
+                store,
+                origins,
+                judged,
+                number,
+                actor_at(k),
+                limit,
+            )?;
+        }
+    }
+    Ok(())
+}
