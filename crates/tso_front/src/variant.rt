@@ -173,14 +173,14 @@ impl<'a> Variant<'a> {
     // Puts the prologue behind the head, the calls that stay behind that, and then the threads.
     fn completed(&self, draft: Draft) -> Result<Vec<u8>, AllocError> {
         let mut text = draft.head;
-        let before = self.before.unwrap_or("");
-        if !before.trim().is_empty() {
+        let before = self.before.unwrap_or("").trim();
+        if !before.is_empty() {
             put_line(&mut text, b".before ", before.as_bytes())?;
         }
         text.extend_from_slice(&draft.calls)?;
         if let Some(client) = self.client {
             for thread in client.split('|') {
-                put_line(&mut text, b".thread ", thread.as_bytes())?;
+                put_line(&mut text, b".thread ", thread.trim().as_bytes())?;
             }
         }
         Ok(text)

@@ -46,7 +46,7 @@ fn put_all<S: Session>(
     Ok(())
 }
 
-// Says how far the survey has come, if that is asked for.
+// Says how far the survey has come, if that is asked for. Behind a violation smaller clients are decided one by one.
 fn note_progress<S: Session>(
     session: &mut S,
     tally: &Tally,
@@ -55,7 +55,11 @@ fn note_progress<S: Session>(
 ) -> Result<(), Failure> {
     if asking.progress {
         let (count, all) = (tally.count, cases.calls.len());
-        let line = format!(in session.alloc(); "{count} of {all} clients\n")?;
+        let line = if count > all {
+            format!(in session.alloc(); "{count} clients\n")?
+        } else {
+            format!(in session.alloc(); "{count} of {all} clients\n")?
+        };
         session.note(line.as_bytes());
     }
     Ok(())

@@ -2,3 +2,4 @@ pub mod Lengths
 pub mod Parsed
 pub mod Reports
 pub mod Statuses
+pub mod Written

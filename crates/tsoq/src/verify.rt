@@ -1,9 +1,13 @@
 //! The search of a program's runs, and the file that says what it found.
 
-ghost use Rattle.std.specs.Prelude.{◌≤◌, IfOk, length};
+ghost use Rattle.std.specs.Prelude.{◌≤◌, IfOk, OnOk, length};
+ghost use Rattle.tso_cert.specs.Certificates.{certificate};
 ghost use Rattle.tso_cert.specs.Trees.{record_count, tree_of};
 ghost use Rattle.tso_trace.specs.Runs.{first_fault, violation_of};
+ghost use Rattle.tso_judge.specs.Valid.{IsValidCertificate};
+ghost use Rattle.tso_prog.specs.declared.client.Client.{Client};
 ghost use Rattle.tsoq.specs.Reports.{IsOfLabels, IsOfRecords, IsReport, IsTold};
+ghost use Rattle.tsoq.specs.Written.{AppendsCertificate};
 
 use crate::command::Search;
 use crate::counted::Counted;
@@ -71,6 +75,19 @@ fn finished<W: Write + Drop>(
     }
 }
 
+// Writes the bytes of a certificate. Where they are a valid certificate of a client, as those that a search hands out are, what the
+// writer holds more is one.
+fn put_bytes<W: Write>(
+    alloc: Global,
+    table: &Table,
+    cert: &Cert,
+    out: &mut W,
+) -> Result<(), WriteError>
+    ensures { (c : Client) → IsValidCertificate c (certificate table.now (tree_of cert.now)) → OnOk result (AppendsCertificate c (W.contents out.old) (W.contents out.new)) }
+{
+    tso_cert::write(alloc, table, cert, out)
+}
+
 // Writes a certificate to the draft of the file at this path, and says how many bytes it has.
 fn put_certificate<F: Files>(
     alloc: Global,
@@ -80,7 +97,7 @@ fn put_certificate<F: Files>(
     cert: &Cert,
 ) -> Result<u64, Failure> {
     let mut file = created(alloc, files, draft)?;
-    match tso_cert::write(alloc, table, cert, &mut file) {
+    match put_bytes(alloc, table, cert, &mut file) {
         Ok(()) => finished(alloc, draft, file),
         Err(WriteError::Io(error)) => Err(cannot_write(alloc, draft.name(), error.kind())),
         Err(WriteError::Memory) => Err(Failure::Memory),
