@@ -37,6 +37,12 @@ use Rattle.tso_model.specs.Table.{Below, IsClosedAt}
 use Rattle.tso_prog.specs.Views.{call_view}
 use Rattle.tso_prog.specs.declared.client.Client.{Client}
 
+-- inside a list there is an item
+missing : {X : Type 0} (xs : List X) (n : ℕ) → slice_get xs n ≡ None → n < length xs → ⊥
+missing [] n e small = omega (arith, small)
+missing (x ∷ xs) zero e small = none-some x (sym e)
+missing (x ∷ xs) (suc n) e small = missing xs n e (omega (arith, small))
+
 -- ---- items
 
 list_inductive : (c : Client) (t : IntervalTable) (name : ProcedureKind) → IsInductive c t → IsListInductive c.arrays (instructions_of c name) (items_of t name)
@@ -58,11 +64,6 @@ item_there c t a step is e =
     go : (o : Option Item) → slice_get (items_of t a.procedure) a.frame.pc ≡ o → IsListInductive c.arrays (instructions_of c a.procedure) (items_of t a.procedure)
         → a.frame.pc < length (instructions_of c a.procedure) → HasItem c t a step
     go None at l lt = absurd (missing (items_of t a.procedure) a.frame.pc at (omega (arith, lt, l.lengths)))
-      where
-        missing : {X : Type 0} (xs : List X) (n : ℕ) → slice_get xs n ≡ None → n < length xs → ⊥
-        missing [] n e small = omega (arith, small)
-        missing (x ∷ xs) zero e small = none-some x (sym e)
-        missing (x ∷ xs) (suc n) e small = missing xs n e (omega (arith, small))
     go (Some item) at l lt = record { item = item; at = at; is = l.each a.frame.pc step item e at }
 
 edge_goes : (o : Option (Instruction ℕ ℕ)) (step : Instruction ℕ ℕ) (i j : ℕ) → o ≡ Some step → goes_on_from None o i j ≡ true → goes_on step i j ≡ true
@@ -189,11 +190,6 @@ lie_item c t a step here j ws is edge (Some next) at h =
     go : (o : Option (Instruction ℕ ℕ)) → slice_get (instructions_of c a.procedure) j ≡ o → IsListInductive c.arrays (instructions_of c a.procedure) (items_of t a.procedure)
         → j < length (items_of t a.procedure) → length (moved here.item.registers step) ≡ 15 → AreInside (moved here.item.registers step) next.registers → lie_in next.registers ws ≡ true
     go None none l lt e inside = absurd (missing (instructions_of c a.procedure) j none (omega (arith, lt, l.lengths)))
-      where
-        missing : {X : Type 0} (xs : List X) (n : ℕ) → slice_get xs n ≡ None → n < length xs → ⊥
-        missing [] n e small = omega (arith, small)
-        missing (x ∷ xs) zero e small = none-some x (sym e)
-        missing (x ∷ xs) (suc n) e small = missing xs n e (omega (arith, small))
     go (Some one) some l lt e inside = lie_wider (moved here.item.registers step) next.registers ws (e ∙ sym (l.each j one next some at).count) inside h
 
 lies_next : (c : Client) (t : IntervalTable) (a b : Activation) (step : Instruction ℕ ℕ) → IsInductive c t → HasItem c t a step → instruction_at c a ≡ Some step → IsNext c a b

@@ -4,17 +4,19 @@ use Rattle.tso_cells.specs.Cells.{holds_all, own_reads, own_writes, size_of}
 use Rattle.tso_cells.specs.declared.table.Cells.{Cells}
 use Rattle.tso_cells.specs.declared.table.IntervalTable.{IntervalTable}
 use Rattle.tso_cells.specs.declared.table.Item.{Item}
+use Rattle.tso_flow.specs.Accesses.{register_number}
 use Rattle.tso_flow.specs.Calls.{calls_of_client}
 use Rattle.tso_flow.specs.Paths.{goes_on}
 use Rattle.tso_flow.specs.declared.location.ProcedureKind.{ProcedureKind}
 use Rattle.tso_flow.specs.declared.location.ProcedureKind.TheVariants as procedures
-use Rattle.tso_interval.specs.Intervals.{IsInside, all_words}
+use Rattle.tso_interval.specs.Intervals.{IsInside, all_words, has}
 use Rattle.tso_interval.specs.Laws.{AreFirst}
 use Rattle.tso_interval.specs.Moved.{moved}
 use Rattle.tso_interval.specs.declared.interval.Interval.{Interval}
 use Rattle.tso_line.specs.declared.instruction.CallKind.{CallKind}
 use Rattle.tso_line.specs.declared.instruction.CallKind.TheVariants.{Push}
 use Rattle.tso_line.specs.declared.instruction.Instruction.{Instruction}
+use Rattle.tso_line.specs.declared.instruction.Register.TheVariants.{Rdi}
 use Rattle.tso_prog.specs.declared.client.Array.{Array}
 use Rattle.tso_prog.specs.declared.client.Client.{Client}
 
@@ -61,8 +63,10 @@ registers_if (Some item) = item.registers
 abbrev pub registers_at : List Item → ℕ → List Interval
 registers_at items i = registers_if (slice_get items i)
 
--- the intervals at the first instructions have what calls begin with: each argument that the client pushes
+-- the intervals at the first instructions have what calls begin with: 0, but that of RDI in push, which has each argument that the client
+-- pushes
 pub record AreStarts (c : Client) (t : IntervalTable) : Type 0 where
+  pub zeros : (n : ℕ) (i : Interval) → slice_get (registers_at t.push 0) n ≡ Some i → (n ≡ register_number Rdi → ⊥) → IsTrue (has i 0)
   pub push : (i n v : ℕ) (calls : List CallKind) → slice_get (calls_of_client c) i ≡ Some calls → slice_get calls n ≡ Some (Push v) → AreFirst (registers_at t.push 0) v
   pub pop : AreFirst (registers_at t.pop 0) 0
 
