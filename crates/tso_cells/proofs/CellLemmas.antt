@@ -5,7 +5,7 @@ use Rattle.std.proofs.lemmas.Bool.{and_from, and_parts, eqb-true, false≢true, 
 use Rattle.std.proofs.lemmas.Int.{ints}
 use Rattle.std.proofs.lemmas.List.Sums.{sum_by-cons}
 use Rattle.std.proofs.lemmas.Option.{none-some, same_Some}
-use Rattle.tso_cells.specs.Cells.{cut, greatest_index, has_cell, holds, holds_all, index_interval, is_cell, least_index, operand_cells, size_of}
+use Rattle.tso_cells.specs.Cells.{cut, greatest_index, has_all_of, has_cell, holds, holds_all, index_interval, is_cell, least_index, operand_cells, size_of}
 use Rattle.tso_cells.specs.declared.table.Cells.{Cells}
 use Rattle.tso_interval.proofs.Lying.{register_in}
 use Rattle.tso_interval.specs.Intervals.{has, lie_in}
@@ -31,10 +31,7 @@ cell_by : (arrays : List Array) (c : Cells) (place : ℕ) → first_place arrays
 cell_by arrays c place low high =
     and_from (nat_le (first_place arrays c.array + c.lo) place) (nat_le place (first_place arrays c.array + c.hi)) (le-leb _ _ low) (le-leb _ _ high)
 
-abbrev has_it : Cells → Cells → Bool
-has_it d c = d.array == c.array && (nat_le d.lo c.lo && nat_le c.hi d.hi)
-
-wider_cell : (arrays : List Array) (d c : Cells) (place : ℕ) → has_it d c ≡ true → is_cell arrays c place ≡ true → is_cell arrays d place ≡ true
+wider_cell : (arrays : List Array) (d c : Cells) (place : ℕ) → has_all_of d c ≡ true → is_cell arrays c place ≡ true → is_cell arrays d place ≡ true
 wider_cell arrays d c place h at =
     let parts = and_parts (d.array == c.array) (nat_le d.lo c.lo && nat_le c.hi d.hi) h in
     let ends = and_parts (nat_le d.lo c.lo) (nat_le c.hi d.hi) parts.1 in
@@ -48,7 +45,7 @@ wider_cell arrays d c place h at =
 
 holds_place : (arrays : List Array) (ds : List Cells) (c : Cells) (place : ℕ) → holds ds c ≡ true → is_cell arrays c place ≡ true → has_cell arrays ds place ≡ true
 holds_place arrays [] c place h at = absurd (false≢true h)
-holds_place arrays (d ∷ ds) c place h at = elim (or_cases (has_it d c) (holds ds c) h) [
+holds_place arrays (d ∷ ds) c place h at = elim (or_cases (has_all_of d c) (holds ds c) h) [
   | inl here ↦ or_left (is_cell arrays d place) (has_cell arrays ds place) (wider_cell arrays d c place here at)
   | inr rest ↦ or_right (is_cell arrays d place) (has_cell arrays ds place) (holds_place arrays ds c place rest at)
 ]

@@ -78,7 +78,7 @@ below_item : (c : Client) (t : IntervalTable) (a : Activation) (step : Instructi
     → (has_cell c.arrays (reads_of o) place ≡ true → has_cell c.arrays here.item.reads place ≡ true) × (has_cell c.arrays (writes_of o) place ≡ true → has_cell c.arrays here.item.writes place ≡ true)
 below_item c t a step here j edge None at place = (λ h. absurd (false≢true h), λ h. absurd (false≢true h))
 below_item c t a step here j edge (Some next) at place =
-    let s = here.is.successors j next edge at in (
+    let s = here.is.foresees.successors j next edge at in (
       λ h. holds_all_place c.arrays here.item.reads next.reads place s.1 h,
       λ h. holds_all_place c.arrays here.item.writes next.writes place s.2 h,
     )
@@ -96,12 +96,12 @@ below_next c t a b step here e next =
 own_read : (c : Client) (t : IntervalTable) (a : Activation) (step : Instruction ℕ ℕ) (here : HasItem c t a step) (p : ℕ) → has_cell c.arrays (own_reads c.arrays here.item.registers step) p ≡ true
     → has_cell c.arrays (reads_of (slice_get (items_of t a.procedure) a.frame.pc)) p ≡ true
 own_read c t a step here p h =
-    subst (λ (o : Option Item). has_cell c.arrays (reads_of o) p ≡ true) (sym here.at) (holds_all_place c.arrays here.item.reads (own_reads c.arrays here.item.registers step) p here.is.own_reads h)
+    subst (λ (o : Option Item). has_cell c.arrays (reads_of o) p ≡ true) (sym here.at) (holds_all_place c.arrays here.item.reads (own_reads c.arrays here.item.registers step) p here.is.foresees.own.0 h)
 
 own_write : (c : Client) (t : IntervalTable) (a : Activation) (step : Instruction ℕ ℕ) (here : HasItem c t a step) (p : ℕ) → has_cell c.arrays (own_writes c.arrays here.item.registers step) p ≡ true
     → has_cell c.arrays (writes_of (slice_get (items_of t a.procedure) a.frame.pc)) p ≡ true
 own_write c t a step here p h =
-    subst (λ (o : Option Item). has_cell c.arrays (writes_of o) p ≡ true) (sym here.at) (holds_all_place c.arrays here.item.writes (own_writes c.arrays here.item.registers step) p here.is.own_writes h)
+    subst (λ (o : Option Item). has_cell c.arrays (writes_of o) p ≡ true) (sym here.at) (holds_all_place c.arrays here.item.writes (own_writes c.arrays here.item.registers step) p here.is.foresees.own.1 h)
 
 closed_action : (c : Client) (t : IntervalTable) (a : Activation) (step : Instruction ℕ ℕ) (here : HasItem c t a step) (x : Action Activation) → instruction_at c a ≡ Some step
     → HasAccess c.arrays (own_reads c.arrays here.item.registers step) (own_writes c.arrays here.item.registers step) x → GoesOnWith (IsNext c a) x → IsClosedAt (table_view c t) a x
@@ -134,7 +134,7 @@ lie_length [] (w ∷ ws) h = absurd (false≢true h)
 lie_length (x ∷ xs) [] h = absurd (false≢true h)
 lie_length (x ∷ xs) (w ∷ ws) h = let e = lie_length xs ws (and_parts (has x w) (lie_in xs ws) h).1 in omega (arith, e)
 
-any_lie : (ws : List ℕ) (n : ℕ) → length ws ≡ n → lie_in (replicate n all_words) ws ≡ true
+pub any_lie : (ws : List ℕ) (n : ℕ) → length ws ≡ n → lie_in (replicate n all_words) ws ≡ true
 any_lie [] zero e = refl
 any_lie [] (suc n) e = absurd (omega (arith, e))
 any_lie (w ∷ ws) zero e = absurd (omega (arith, e))
@@ -179,18 +179,18 @@ lie_item : (c : Client) (t : IntervalTable) (a : Activation) (step : Instruction
     → (o : Option Item) → slice_get (items_of t a.procedure) j ≡ o → lie_in (moved here.item.registers step) ws ≡ true → lie_in (registers_if o) ws ≡ true
 lie_item c t a step here j ws is edge None at h =
     let e = lie_length (moved here.item.registers step) ws h in
-    any_lie ws 15 (e ∙ (moved_length here.item.registers step ∙ here.is.count))
+    any_lie ws 15 (e ∙ (moved_length here.item.registers step ∙ here.is.proper.count))
 lie_item c t a step here j ws is edge (Some next) at h =
-    let s = here.is.successors j next edge at in
+    let s = here.is.foresees.successors j next edge at in
     let l = list_inductive c t a.procedure is in
     let lt = slice_get_within (items_of t a.procedure) j next at in
-    let e = moved_length here.item.registers step ∙ here.is.count in
+    let e = moved_length here.item.registers step ∙ here.is.proper.count in
     go (slice_get (instructions_of c a.procedure) j) refl l lt e s.0
   where
     go : (o : Option (Instruction ℕ ℕ)) → slice_get (instructions_of c a.procedure) j ≡ o → IsListInductive c.arrays (instructions_of c a.procedure) (items_of t a.procedure)
         → j < length (items_of t a.procedure) → length (moved here.item.registers step) ≡ 15 → AreInside (moved here.item.registers step) next.registers → lie_in next.registers ws ≡ true
     go None none l lt e inside = absurd (missing (instructions_of c a.procedure) j none (omega (arith, lt, l.lengths)))
-    go (Some one) some l lt e inside = lie_wider (moved here.item.registers step) next.registers ws (e ∙ sym (l.each j one next some at).count) inside h
+    go (Some one) some l lt e inside = lie_wider (moved here.item.registers step) next.registers ws (e ∙ sym (l.each j one next some at).proper.count) inside h
 
 lies_next : (c : Client) (t : IntervalTable) (a b : Activation) (step : Instruction ℕ ℕ) → IsInductive c t → HasItem c t a step → instruction_at c a ≡ Some step → IsNext c a b
     → ((here : HasItem c t a step) → lie_in (moved here.item.registers step) b.frame.registers ≡ true) → lies t b ≡ true

@@ -1,5 +1,6 @@
 -- Sets of cells of arrays.
-use Rattle.std.specs.Prelude.{ℕ, ◌+◌, ◌-◌, ◌==◌, ◌&&◌, ◌||◌, nat_lt, nat_le, if◌then◌else◌, Bool, true, false, List, [], ◌∷◌, length, Option, Some, None, slice_get, ℤ, pos, negsuc}
+use Rattle.std.specs.Prelude.{ℕ, ◌+◌, ◌-◌, ◌==◌, ◌&&◌, nat_lt, nat_le, if◌then◌else◌, Bool, List, [], ◌∷◌, length, Option, Some, None, slice_get, ℤ, pos, negsuc}
+use Rattle.std.specs.List.{list_all, list_any}
 use Rattle.tso_cells.specs.declared.table.Cells.{Cells}
 use Rattle.tso_interval.specs.Intervals.{alone}
 use Rattle.tso_interval.specs.Moved.{interval_of}
@@ -17,18 +18,19 @@ is_cell arrays c place = nat_le (first_place arrays c.array + c.lo) place && nat
 
 -- it is one of some of these
 abbrev pub has_cell : List Array → List Cells → ℕ → Bool
-has_cell arrays [] place = false
-has_cell arrays (c ∷ cs) place = is_cell arrays c place || has_cell arrays cs place
+has_cell arrays cells place = list_any (λ (c : Cells). is_cell arrays c place) cells
+
+-- the one has all cells of the other
+abbrev pub has_all_of : Cells → Cells → Bool
+has_all_of d c = d.array == c.array && (nat_le d.lo c.lo && nat_le c.hi d.hi)
 
 -- some of these has all cells of that one
 abbrev pub holds : List Cells → Cells → Bool
-holds [] c = false
-holds (d ∷ ds) c = (d.array == c.array && (nat_le d.lo c.lo && nat_le c.hi d.hi)) || holds ds c
+holds ds c = list_any (λ (d : Cells). has_all_of d c) ds
 
 -- each of those has its cells in one of these
 abbrev pub holds_all : List Cells → List Cells → Bool
-holds_all ds [] = true
-holds_all ds (c ∷ cs) = holds ds c && holds_all ds cs
+holds_all ds cs = list_all (λ (c : Cells). holds ds c) cs
 
 -- ---- the cells of a memory operand
 

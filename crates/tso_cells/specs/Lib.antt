@@ -1,3 +1,4 @@
 pub mod Cells
+pub mod Exactness
 pub mod Inductive
 pub mod Laws
