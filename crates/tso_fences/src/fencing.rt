@@ -15,6 +15,7 @@ use std::sync::Wait;
 use std::thread::Threads;
 use tso_client::checked_of;
 use tso_front::{Failure, Session, misused};
+use tso_prog::Client;
 use tso_survey::Finder;
 
 // Says what a change comes to that was tried, and counts it.
@@ -167,6 +168,38 @@ fn go_on<R: Threads + Wait + Sync, D: Finder, S: Session>(
     }
 }
 
+// The same of the client of the text, once it is known which clients are asked about.
+fn ask<R: Threads + Wait + Sync, D: Finder, S: Session>(
+    rt: &R,
+    finder: &D,
+    session: &mut S,
+    text: &[u8],
+    asked: &Fences<'_>,
+    client: &Client,
+    clients: &Clients<'_>,
+) -> Result<u8, Failure> {
+    let author = Author {
+        text,
+        client,
+        company: clients.company(client),
+    };
+    let ruling = rule_one(rt, finder, session, clients, text)?;
+    go_on(rt, finder, session, clients, asked, &author, &ruling)
+}
+
+// The same of the client of the text.
+fn ask_of<R: Threads + Wait + Sync, D: Finder, S: Session>(
+    rt: &R,
+    finder: &D,
+    session: &mut S,
+    text: &[u8],
+    asked: &Fences<'_>,
+    client: &Client,
+) -> Result<u8, Failure> {
+    let clients = clients_of(session.alloc(), &asked.survey)?;
+    ask(rt, finder, session, text, asked, client, &clients)
+}
+
 /// Says of an accepted client which of its fences and locked instructions it needs, and of one that is not accepted which fences
 /// would make it right; a line for each change that is tried, and a last one that says what follows. It gives the status.
 ///
@@ -180,12 +213,5 @@ pub fn fences<R: Threads + Wait + Sync, D: Finder, S: Session>(
     asked: &Fences<'_>,
 ) -> Result<u8, Failure> {
     let checked = checked_of(session.alloc(), text)?;
-    let clients = clients_of(session.alloc(), &asked.survey)?;
-    let author = Author {
-        text,
-        client: &checked.client,
-        company: clients.company(&checked.client),
-    };
-    let ruling = rule_one(rt, finder, session, &clients, text)?;
-    go_on(rt, finder, session, &clients, asked, &author, &ruling)
+    ask_of(rt, finder, session, text, asked, &checked.client)
 }

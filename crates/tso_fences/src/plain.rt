@@ -53,8 +53,8 @@ pub fn cell_text(
 }
 
 // Puts a line at the end.
-fn put(alloc: Global, lines: &mut Vec<Seq<u8>>, line: String) -> Result<(), AllocError> {
-    lines.push(Seq::from_slice(alloc, line.as_bytes())?)?;
+fn put(lines: &mut Vec<Seq<u8>>, line: String) -> Result<(), AllocError> {
+    lines.push(Seq::from_vec(line.into_bytes()))?;
     Ok(())
 }
 
@@ -63,7 +63,7 @@ fn put(alloc: Global, lines: &mut Vec<Seq<u8>>, line: String) -> Result<(), Allo
 /// Errors: where a growth was refused.
 pub fn one_line(alloc: Global, line: String) -> Result<Vec<Seq<u8>>, AllocError> {
     let mut lines = Vec::new(alloc);
-    put(alloc, &mut lines, line)?;
+    put(&mut lines, line)?;
     Ok(lines)
 }
 
@@ -87,21 +87,9 @@ pub fn add_lines(
     let (cell, register) = (locked.cell.as_str(), register_word(locked.register));
     let free = register_word(free);
     let mut lines = one_line(alloc, format!(in alloc; "mov {free}, {cell}")?)?;
-    put(
-        alloc,
-        &mut lines,
-        format!(in alloc; "add {register}, {free}")?,
-    )?;
-    put(
-        alloc,
-        &mut lines,
-        format!(in alloc; "mov {cell}, {register}")?,
-    )?;
-    put(
-        alloc,
-        &mut lines,
-        format!(in alloc; "mov {register}, {free}")?,
-    )?;
+    put(&mut lines, format!(in alloc; "add {register}, {free}")?)?;
+    put(&mut lines, format!(in alloc; "mov {cell}, {register}")?)?;
+    put(&mut lines, format!(in alloc; "mov {register}, {free}")?)?;
     Ok(lines)
 }
 
@@ -118,15 +106,11 @@ pub fn compare_lines(
     let (cell, register) = (locked.cell.as_str(), register_word(locked.register));
     let free = register_word(free);
     let mut lines = one_line(alloc, format!(in alloc; "mov {free}, {cell}")?)?;
-    put(alloc, &mut lines, format!(in alloc; "cmp rax, {free}")?)?;
-    put(alloc, &mut lines, format!(in alloc; "jne {label}")?)?;
-    put(
-        alloc,
-        &mut lines,
-        format!(in alloc; "mov {cell}, {register}")?,
-    )?;
-    put(alloc, &mut lines, format!(in alloc; "{label}:")?)?;
-    put(alloc, &mut lines, format!(in alloc; "mov rax, {free}")?)?;
+    put(&mut lines, format!(in alloc; "cmp rax, {free}")?)?;
+    put(&mut lines, format!(in alloc; "jne {label}")?)?;
+    put(&mut lines, format!(in alloc; "mov {cell}, {register}")?)?;
+    put(&mut lines, format!(in alloc; "{label}:")?)?;
+    put(&mut lines, format!(in alloc; "mov rax, {free}")?)?;
     Ok(lines)
 }
 

@@ -91,6 +91,28 @@ fn answer(change: &Change, standing: Standing) -> &'static str {
     }
 }
 
+// A standing in a word.
+fn standing_word(standing: Standing) -> &'static str {
+    match standing {
+        Standing::Right => "right",
+        Standing::Wrong => "wrong",
+        Standing::Open => "undecided",
+    }
+}
+
+// What is found of the text as it stands, as an object of JSON.
+fn unchanged_object(alloc: Global, ruling: &Ruling) -> Result<Value, AllocError> {
+    let object = ruling.object(alloc)?;
+    let lines = numbers(alloc, &[])?;
+    of_change(
+        alloc,
+        object,
+        "none",
+        lines,
+        standing_word(ruling.standing()),
+    )
+}
+
 /// Says what is found of the text as it stands.
 ///
 /// Errors: `CannotPrint`; `Memory`.
@@ -99,16 +121,26 @@ pub fn say_unchanged<S: Session>(
     json: bool,
     ruling: &Ruling,
 ) -> Result<(), Failure> {
-    let alloc = session.alloc();
-    let line = format!(in alloc; "as it stands: {ruling}\n")?;
-    let answer = match ruling.standing() {
-        Standing::Right => "right",
-        Standing::Wrong => "wrong",
-        Standing::Open => "undecided",
-    };
-    let lines = numbers(alloc, &[])?;
-    let object = of_change(alloc, ruling.object(alloc)?, "none", lines, answer)?;
+    let line = format!(in session.alloc(); "as it stands: {ruling}\n")?;
+    let object = unchanged_object(session.alloc(), ruling)?;
     say(session, json, line.as_str(), &object)
+}
+
+// What a change comes to, as a line.
+fn tried_line(alloc: Global, change: &Change, ruling: &Ruling) -> Result<String, AllocError> {
+    let answer = answer(change, ruling.standing());
+    match change {
+        Change::Back { .. } => format!(in alloc; "{change}: {answer}: {ruling}\n"),
+        Change::Behind(_) => format!(in alloc; "{change}: {ruling}\n"),
+    }
+}
+
+// The same as an object of JSON.
+fn tried_object(alloc: Global, change: &Change, ruling: &Ruling) -> Result<Value, AllocError> {
+    let answer = answer(change, ruling.standing());
+    let object = ruling.object(alloc)?;
+    let (word, lines) = told(alloc, change)?;
+    of_change(alloc, object, word.as_str(), lines, answer)
 }
 
 /// Says what a change comes to.
@@ -120,15 +152,22 @@ pub fn say_tried<S: Session>(
     change: &Change,
     ruling: &Ruling,
 ) -> Result<(), Failure> {
-    let alloc = session.alloc();
-    let answer = answer(change, ruling.standing());
-    let line = match change {
-        Change::Back { .. } => format!(in alloc; "{change}: {answer}: {ruling}\n")?,
-        Change::Behind(_) => format!(in alloc; "{change}: {ruling}\n")?,
-    };
-    let (word, lines) = told(alloc, change)?;
-    let object = of_change(alloc, ruling.object(alloc)?, word.as_str(), lines, answer)?;
+    let line = tried_line(session.alloc(), change, ruling)?;
+    let object = tried_object(session.alloc(), change, ruling)?;
     say(session, json, line.as_str(), &object)
+}
+
+// Why a change is not tried, as an object of JSON.
+fn untried_object(alloc: Global, change: &Change, reason: Reason) -> Result<Value, AllocError> {
+    let object = reason_object(alloc, reason)?;
+    let (word, lines) = told(alloc, change)?;
+    of_change(alloc, object, word.as_str(), lines, "not tried")
+}
+
+// A reason as an object of JSON.
+fn reason_object(alloc: Global, reason: Reason) -> Result<Value, AllocError> {
+    let why = reason.to_string(alloc)?;
+    json!(in alloc; {"why": why})
 }
 
 /// Says why a change is not tried.
@@ -140,11 +179,7 @@ pub fn say_untried<S: Session>(
     change: &Change,
     reason: Reason,
 ) -> Result<(), Failure> {
-    let alloc = session.alloc();
-    let why = reason.to_string(alloc)?;
-    let line = format!(in alloc; "{change}: not tried: {why}\n")?;
-    let (word, lines) = told(alloc, change)?;
-    let object = json!(in alloc; {"why": why})?;
-    let object = of_change(alloc, object, word.as_str(), lines, "not tried")?;
+    let line = format!(in session.alloc(); "{change}: not tried: {reason}\n")?;
+    let object = untried_object(session.alloc(), change, reason)?;
     say(session, json, line.as_str(), &object)
 }

@@ -79,6 +79,32 @@ fn scope(alloc: Global, clients: &Clients<'_>) -> Result<String, AllocError> {
     }
 }
 
+// Which instructions are needed, as a line.
+fn taken_back_line(
+    alloc: Global,
+    clients: &Clients<'_>,
+    tally: &Tally,
+) -> Result<String, AllocError> {
+    let scope = scope(alloc, clients)?;
+    let (needed, not_needed) = (tally.needed, tally.not_needed);
+    let (undecided, untried) = (tally.undecided, tally.untried);
+    format!(in alloc;
+        "{scope}, one at a time: {needed} needed, {not_needed} not needed, {undecided} undecided, {untried} not tried\n"
+    )
+}
+
+// The same as an object of JSON.
+fn taken_back_object(
+    alloc: Global,
+    clients: &Clients<'_>,
+    tally: &Tally,
+) -> Result<Value, AllocError> {
+    let (needed, not_needed) = (tally.needed as u64, tally.not_needed as u64);
+    let (undecided, untried) = (tally.undecided as u64, tally.untried as u64);
+    let count = clients.count() as u64;
+    json!(in alloc; {"needed": needed, "not_needed": not_needed, "undecided": undecided, "not_tried": untried, "clients": count})
+}
+
 /// Says which instructions are needed, and gives the status.
 ///
 /// Errors: `CannotPrint`; `Memory`.
@@ -88,20 +114,10 @@ pub fn end_taken_back<S: Session>(
     clients: &Clients<'_>,
     tally: &Tally,
 ) -> Result<u8, Failure> {
-    let alloc = session.alloc();
-    let scope = scope(alloc, clients)?;
-    let (needed, not_needed) = (tally.needed, tally.not_needed);
-    let (undecided, untried) = (tally.undecided, tally.untried);
-    let line = format!(in alloc;
-        "{scope}, one at a time: {needed} needed, {not_needed} not needed, {undecided} undecided, {untried} not tried\n"
-    )?;
-    let (needed, not_needed) = (needed as u64, not_needed as u64);
-    let (open, untried) = (undecided as u64, untried as u64);
-    let count = clients.count() as u64;
-    let object =
-        json!(in alloc; {"needed": needed, "not_needed": not_needed, "undecided": open, "not_tried": untried, "clients": count})?;
+    let line = taken_back_line(session.alloc(), clients, tally)?;
+    let object = taken_back_object(session.alloc(), clients, tally)?;
     say(session, json, line.as_str(), &object)?;
-    Ok(if undecided > 0 { 4 } else { 0 })
+    Ok(if tally.undecided > 0 { 4 } else { 0 })
 }
 
 // Which sets of at most so many fences make the text right.
@@ -122,6 +138,32 @@ fn right_text(alloc: Global, tally: &Tally, most: usize) -> Result<String, Alloc
     }
 }
 
+// What follows of all sets of at most so many fences, as a line.
+fn fenced_line(
+    alloc: Global,
+    clients: &Clients<'_>,
+    tally: &Tally,
+    most: usize,
+) -> Result<String, AllocError> {
+    let scope = scope(alloc, clients)?;
+    let right = right_text(alloc, tally, most)?;
+    let (undecided, untried) = (tally.undecided, tally.untried);
+    format!(in alloc; "{scope}: {right}, {undecided} undecided, {untried} not tried\n")
+}
+
+// The same as an object of JSON.
+fn fenced_object(
+    alloc: Global,
+    clients: &Clients<'_>,
+    tally: &Tally,
+    most: usize,
+) -> Result<Value, AllocError> {
+    let list = tally.right_list(alloc)?;
+    let (undecided, untried) = (tally.undecided as u64, tally.untried as u64);
+    let (most, count) = (most as u64, clients.count() as u64);
+    json!(in alloc; {"add": most, "right": list, "undecided": undecided, "not_tried": untried, "clients": count})
+}
+
 /// Says which sets of at most so many fences make the text right, and gives the status.
 ///
 /// Errors: `CannotPrint`; `Memory`.
@@ -132,23 +174,28 @@ pub fn end_fenced<S: Session>(
     tally: &Tally,
     most: usize,
 ) -> Result<u8, Failure> {
-    let alloc = session.alloc();
-    let scope = scope(alloc, clients)?;
-    let right = right_text(alloc, tally, most)?;
-    let (undecided, untried) = (tally.undecided, tally.untried);
-    let line = format!(in alloc; "{scope}: {right}, {undecided} undecided, {untried} not tried\n")?;
-    let (most, open, untried) = (most as u64, undecided as u64, untried as u64);
-    let (count, list) = (clients.count() as u64, tally.right_list(alloc)?);
-    let object =
-        json!(in alloc; {"add": most, "right": list, "undecided": open, "not_tried": untried, "clients": count})?;
+    let line = fenced_line(session.alloc(), clients, tally, most)?;
+    let object = fenced_object(session.alloc(), clients, tally, most)?;
     say(session, json, line.as_str(), &object)?;
     Ok(if !tally.right.is_empty() {
         0
-    } else if undecided > 0 {
+    } else if tally.undecided > 0 {
         4
     } else {
         1
     })
+}
+
+// That nothing follows, as a line.
+fn open_line(alloc: Global, clients: &Clients<'_>) -> Result<String, AllocError> {
+    let scope = scope(alloc, clients)?;
+    format!(in alloc; "{scope}: undecided\n")
+}
+
+// The same as an object of JSON.
+fn open_object(alloc: Global, clients: &Clients<'_>) -> Result<Value, AllocError> {
+    let count = clients.count() as u64;
+    json!(in alloc; {"answer": "undecided", "clients": count})
 }
 
 /// Says that nothing follows, since nothing follows of the text as it stands, and gives the status.
@@ -159,11 +206,8 @@ pub fn end_open<S: Session>(
     json: bool,
     clients: &Clients<'_>,
 ) -> Result<u8, Failure> {
-    let alloc = session.alloc();
-    let scope = scope(alloc, clients)?;
-    let line = format!(in alloc; "{scope}: undecided\n")?;
-    let count = clients.count() as u64;
-    let object = json!(in alloc; {"answer": "undecided", "clients": count})?;
+    let line = open_line(session.alloc(), clients)?;
+    let object = open_object(session.alloc(), clients)?;
     say(session, json, line.as_str(), &object)?;
     Ok(4)
 }

@@ -24,62 +24,58 @@ pub struct Fences<'a> {
     pub json: bool,
 }
 
-// A number that goes with a survey alone.
-fn bound<'a>(
+// The command with a number that goes with a survey alone.
+fn with_bound<'a>(
     alloc: Global,
+    command: Command<'a>,
     name: &'a str,
     least: i64,
     most: i64,
     help: &'a str,
-) -> Result<Arg<'a>, AllocError> {
-    Arg::new(alloc, name)
+) -> Result<Command<'a>, AllocError> {
+    let bound = Arg::new(alloc, name)
         .long(name)
         .value_name("N")
         .action(ArgAction::Set)
         .value_parser(value_parser!(u64).range(least..=most))
-        .help(help)
-        .requires_arg("survey")
+        .help(help);
+    command.arg(bound.requires_arg("survey")?)
 }
 
-// The words for the clients of a survey.
-fn survey_arguments<'a>(alloc: Global, command: Command<'a>) -> Result<Command<'a>, AllocError> {
+// The command with the flag of a survey.
+fn with_survey<'a>(alloc: Global, command: Command<'a>) -> Result<Command<'a>, AllocError> {
     let survey = Arg::new(alloc, "survey")
         .long("survey")
         .action(ArgAction::SetTrue)
         .help(
             "asks about the clients that a survey searches; --before is then how many pushes a prologue has at most",
-        )
-        .conflicts_with("client")?;
-    command
-        .arg(survey)?
-        .arg(bound(
-            alloc,
-            "threads",
-            1,
-            4,
-            "with --survey: how many threads a client has at most; 3 if not said",
-        )?)?
-        .arg(bound(
-            alloc,
-            "calls",
-            1,
-            12,
-            "with --survey: how many calls its threads have at most; 4 if not said",
-        )?)?
-        .arg(bound(
-            alloc,
-            "producers",
-            0,
-            4,
-            "with --survey: how many threads push at most; all if not said",
-        )?)?
-        .arg(bound(
-            alloc,
-            "consumers",
-            0,
-            4,
-            "with --survey: how many threads pop at most; all if not said",
-        )?)
+        );
+    command.arg(survey.conflicts_with("client")?)
+}
+
+// The words for the clients of a survey.
+fn survey_arguments<'a>(alloc: Global, command: Command<'a>) -> Result<Command<'a>, AllocError> {
+    let command = with_survey(alloc, command)?;
+    let help = "with --survey: how many threads a client has at most; 3 if not said";
+    let command = with_bound(alloc, command, "threads", 1, 4, help)?;
+    let help = "with --survey: how many calls its threads have at most; 4 if not said";
+    let command = with_bound(alloc, command, "calls", 1, 12, help)?;
+    let help = "with --survey: how many threads push at most; all if not said";
+    let command = with_bound(alloc, command, "producers", 0, 4, help)?;
+    let help = "with --survey: how many threads pop at most; all if not said";
+    with_bound(alloc, command, "consumers", 0, 4, help)
+}
+
+// The command with the number of fences that are added.
+fn with_add<'a>(alloc: Global, command: Command<'a>) -> Result<Command<'a>, AllocError> {
+    let add = Arg::new(alloc, "add")
+        .long("add")
+        .value_name("N")
+        .action(ArgAction::Set)
+        .value_parser(value_parser!(u64).range(1..=8))
+        .default_value("2")
+        .help("how many fences are added at most to a client that is not accepted, 1 to 8");
+    command.arg(add)
 }
 
 /// The command with its words.
@@ -89,18 +85,11 @@ pub fn fences_arguments<'a>(
     alloc: Global,
     command: Command<'a>,
 ) -> Result<Command<'a>, AllocError> {
-    let add = Arg::new(alloc, "add")
-        .long("add")
-        .value_name("N")
-        .action(ArgAction::Set)
-        .value_parser(value_parser!(u64).range(1..=8))
-        .default_value("2")
-        .help("how many fences are added at most to a client that is not accepted, 1 to 8");
-    let command = command
-        .arg(program_argument(alloc))?
-        .arg(add)?
-        .arg(json_argument(alloc))?;
-    survey_arguments(alloc, variant_arguments(alloc, command)?)
+    let command = command.arg(program_argument(alloc))?;
+    let command = with_add(alloc, command)?;
+    let command = command.arg(json_argument(alloc))?;
+    let command = variant_arguments(alloc, command)?;
+    survey_arguments(alloc, command)
 }
 
 // How many pushes a prologue of a survey has at most.

@@ -1,5 +1,7 @@
 //! Files that take the place of what was there when they are whole.
 
+ghost use Rattle.std.specs.Prelude.{◌≡◌, IfOk, Ok};
+
 use crate::failure::{Failure, cannot_write};
 use crate::files::Files;
 use std::alloc::{AllocError, Global};
@@ -50,7 +52,9 @@ impl<'p> Draft<'p> {
         alloc: Global,
         files: &mut F,
         written: Result<T, Failure>,
-    ) -> Result<T, Failure> {
+    ) -> Result<T, Failure>
+        ensures { IfOk result (λ made. written ≡ Ok made) }
+    {
         let Draft { path, beside } = self;
         let Some(beside) = beside else {
             return written;

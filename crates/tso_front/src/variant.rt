@@ -1,7 +1,8 @@
 //! Other calls than those that a program text has.
 
 use crate::failure::{Failure, misused};
-use clap::{Arg, ArgAction, ArgMatches, Command};
+use crate::words::with_option;
+use clap::{ArgMatches, Command};
 use std::alloc::{AllocError, Global};
 use tso_client::{CheckError, checked_of};
 
@@ -95,22 +96,12 @@ pub fn variant_arguments<'a>(
     alloc: Global,
     command: Command<'a>,
 ) -> Result<Command<'a>, AllocError> {
-    let client = Arg::new(alloc, "client")
-        .long("client")
-        .value_name("CALLS")
-        .action(ArgAction::Set)
-        .help("the calls of the threads, in place of the text's: push 1, push 2 | pop");
-    let before = Arg::new(alloc, "before")
-        .long("before")
-        .value_name("CALLS")
-        .action(ArgAction::Set)
-        .help("the calls of the prologue, in place of the text's; none where they are blank");
-    let mode = Arg::new(alloc, "mode")
-        .long("mode")
-        .value_name("MODE")
-        .action(ArgAction::Set)
-        .help("strict or weak, in place of what the text says");
-    command.arg(client)?.arg(before)?.arg(mode)
+    let help = "the calls of the threads, in place of the text's: push 1, push 2 | pop";
+    let command = with_option(alloc, command, "client", "CALLS", help)?;
+    let help = "the calls of the prologue, in place of the text's; none where they are blank";
+    let command = with_option(alloc, command, "before", "CALLS", help)?;
+    let help = "strict or weak, in place of what the text says";
+    with_option(alloc, command, "mode", "MODE", help)
 }
 
 /// What the words put in place of a text's calls.

@@ -4,8 +4,8 @@ ghost use Rattle.std.specs.Prelude.{◌≡◌, ◌≢◌};
 
 use crate::failure::Failure;
 use clap::error::ErrorKind as ClapKind;
-use clap::{Arg, Error};
-use std::alloc::{Alloc, Global};
+use clap::{Arg, ArgAction, Command, Error};
+use std::alloc::{Alloc, AllocError, Global};
 use std::env::Env;
 use std::io::{BufWriter, ErrorKind, Write};
 
@@ -66,4 +66,38 @@ pub fn program_argument<'a>(alloc: Global) -> Arg<'a> {
     Arg::new(alloc, "FILE")
         .required(true)
         .help("the program text")
+}
+
+/// The command with a flag.
+///
+/// Errors: where a growth was refused.
+pub fn with_flag<'a>(
+    alloc: Global,
+    command: Command<'a>,
+    name: &'a str,
+    help: &'a str,
+) -> Result<Command<'a>, AllocError> {
+    let flag = Arg::new(alloc, name)
+        .long(name)
+        .action(ArgAction::SetTrue)
+        .help(help);
+    command.arg(flag)
+}
+
+/// The command with an option of one word, of which its help says that it is such a value.
+///
+/// Errors: where a growth was refused.
+pub fn with_option<'a>(
+    alloc: Global,
+    command: Command<'a>,
+    name: &'a str,
+    value: &'a str,
+    help: &'a str,
+) -> Result<Command<'a>, AllocError> {
+    let option = Arg::new(alloc, name)
+        .long(name)
+        .value_name(value)
+        .action(ArgAction::Set)
+        .help(help);
+    command.arg(option)
 }

@@ -54,10 +54,10 @@ pub fn check_arguments<'a>(
 ) -> Result<Command<'a>, AllocError> {
     let command = command
         .about("decides a certificate: where it is accepted, every run of the program is good")
-        .arg(program_argument(alloc))?
-        .arg(cert)?
-        .arg(workers_argument(alloc, "how many workers check, 1 to 64"))?
-        .arg(json_argument(alloc))?;
+        .arg(program_argument(alloc))?;
+    let command = command.arg(cert)?;
+    let command = command.arg(workers_argument(alloc, "how many workers check, 1 to 64"))?;
+    let command = command.arg(json_argument(alloc))?;
     variant_arguments(alloc, command)
 }
 
@@ -128,6 +128,18 @@ pub fn verdict_on<R: Threads + Wait + Sync>(
     Ok(verdict)
 }
 
+// Prints the object that says a verdict.
+fn put_object<S: Session>(session: &mut S, verdict: Verdict) -> Result<(), Failure> {
+    let object = verdict_object(session.alloc(), verdict)?;
+    session.print_object(&object)
+}
+
+// Prints the line of a verdict.
+fn put_line<S: Session>(session: &mut S, verdict: Verdict) -> Result<(), Failure> {
+    let line = format!(in session.alloc(); "{verdict}\n")?;
+    session.print(line.as_str())
+}
+
 /// Prints the line of a verdict, or the object that says the same.
 ///
 /// Errors: `CannotPrint`; `Memory`.
@@ -136,13 +148,10 @@ pub fn put_verdict<S: Session>(
     verdict: Verdict,
     json: bool,
 ) -> Result<(), Failure> {
-    let alloc = session.alloc();
     if json {
-        let object = verdict_object(alloc, verdict)?;
-        session.print_object(&object)?;
+        put_object(session, verdict)?;
     } else {
-        let line = format!(in alloc; "{verdict}\n")?;
-        session.print(line.as_str())?;
+        put_line(session, verdict)?;
     }
     session.flush()
 }

@@ -1,5 +1,7 @@
 //! Clients that are decided by what lies in a folder.
 
+ghost use Rattle.tso_client.specs.Headline.{IsVerified};
+
 use crate::accepted::Accepted;
 use crate::calls::Calls;
 use crate::decided::Decided;
@@ -10,6 +12,7 @@ use std::thread::Threads;
 use tso_cert::{NoWatch, Workers};
 use tso_check::{Verdict, check_with};
 use tso_client::checked_of;
+use tso_flow::Checked;
 use tso_front::{Failure, Session};
 use tso_trace::{Trace, TraceFault};
 
@@ -42,6 +45,15 @@ fn file_of<S: Session>(
     }
 }
 
+// A text that was verified.
+fn verified_text(alloc: Global, text: &[u8]) -> Result<Accepted, Failure>
+    requires { IsVerified text.now }
+{
+    let copy = Vec::from_slice(alloc, text)?;
+    let checked = checked_of(alloc, text)?;
+    Ok(Accepted::verified(copy, checked))
+}
+
 // What a certificate says of a text.
 fn by_certificate<R: Threads + Wait + Sync>(
     rt: &R,
@@ -50,28 +62,37 @@ fn by_certificate<R: Threads + Wait + Sync>(
     cert: &[u8],
     workers: Workers,
 ) -> Result<Decided, Failure> {
-    let checked = checked_of(alloc, text)?;
     let verdict = check_with(rt, alloc, text, cert, workers, &NoWatch)?;
     match verdict {
         Verdict::Accepted => Ok(Decided::Accepted {
-            client: Accepted::verified(Vec::from_slice(alloc, text)?, checked),
+            client: verified_text(alloc, text)?,
             records: None,
         }),
         Verdict::Rejected { .. } => Ok(Decided::Rejected(verdict)),
     }
 }
 
-// What a trace says of a text.
-fn by_trace(alloc: Global, text: &[u8], trace: &[u8]) -> Result<Decided, Failure> {
-    let checked = checked_of(alloc, text)?;
-    match Trace::read(alloc, &checked, trace) {
-        Ok(trace) => Ok(Decided::Violated {
-            violation: trace.violation(),
-            labels: trace.labels.len(),
-        }),
+// What is said of a client by its trace.
+fn violated_by(trace: Trace) -> Decided {
+    Decided::Violated {
+        violation: trace.violation(),
+        labels: trace.labels.len(),
+    }
+}
+
+// What a trace says of a client.
+fn traced(alloc: Global, checked: &Checked, trace: &[u8]) -> Result<Decided, Failure> {
+    match Trace::read(alloc, checked, trace) {
+        Ok(trace) => Ok(violated_by(trace)),
         Err(TraceFault::Memory) => Err(Failure::Memory),
         Err(fault) => Ok(Decided::Untraced(fault)),
     }
+}
+
+// What a trace says of a text.
+fn by_trace(alloc: Global, text: &[u8], trace: &[u8]) -> Result<Decided, Failure> {
+    let checked = checked_of(alloc, text)?;
+    traced(alloc, &checked, trace)
 }
 
 impl<'a> Collector<'a> {

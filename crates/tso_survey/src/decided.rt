@@ -40,31 +40,57 @@ fn violation_words(violation: Violation) -> (&'static str, Value) {
     }
 }
 
+// That a client with these calls is accepted, by a certificate of so many records.
+fn accepted_object(
+    alloc: Global,
+    calls: &Calls,
+    records: Option<u64>,
+) -> Result<Value, AllocError> {
+    let (before, client) = (calls.before.as_str(), calls.client.as_str());
+    let records = number_or_null(records);
+    json!(in alloc; {"client": client, "before": before, "verdict": "accepted", "records": records})
+}
+
+// That a run of it is not good, by a trace of so many labels.
+fn violated_object(
+    alloc: Global,
+    calls: &Calls,
+    violation: Violation,
+    labels: usize,
+) -> Result<Value, AllocError> {
+    let (before, client) = (calls.before.as_str(), calls.client.as_str());
+    let (what, thread) = violation_words(violation);
+    let labels = labels as u64;
+    json!(in alloc; {"client": client, "before": before, "verdict": "violation", "violation": what, "thread": thread, "labels": labels})
+}
+
+// What is said of it in one word.
+fn plain_object(alloc: Global, calls: &Calls, verdict: &str) -> Result<Value, AllocError> {
+    let (before, client) = (calls.before.as_str(), calls.client.as_str());
+    json!(in alloc; {"client": client, "before": before, "verdict": verdict})
+}
+
+// That its file is refused, and why.
+fn refused_object(alloc: Global, calls: &Calls, why: &str) -> Result<Value, AllocError> {
+    let (before, client) = (calls.before.as_str(), calls.client.as_str());
+    json!(in alloc; {"client": client, "before": before, "verdict": "refused", "why": why})
+}
+
 impl Decided {
     /// What is said of a client with these calls, as an object of JSON.
     ///
     /// Errors: where a growth was refused.
     pub fn object(&self, alloc: Global, calls: &Calls) -> Result<Value, AllocError> {
-        let (before, client) = (calls.before.as_str(), calls.client.as_str());
         match self {
-            Decided::Accepted { records, .. } => {
-                let records = number_or_null(*records);
-                json!(in alloc; {"client": client, "before": before, "verdict": "accepted", "records": records})
-            }
+            Decided::Accepted { records, .. } => accepted_object(alloc, calls, *records),
             Decided::Violated { violation, labels } => {
-                let (what, thread) = violation_words(*violation);
-                let labels = *labels as u64;
-                json!(in alloc; {"client": client, "before": before, "verdict": "violation", "violation": what, "thread": thread, "labels": labels})
+                violated_object(alloc, calls, *violation, *labels)
             }
-            Decided::Limit => {
-                json!(in alloc; {"client": client, "before": before, "verdict": "limit reached"})
-            }
-            Decided::Missing => {
-                json!(in alloc; {"client": client, "before": before, "verdict": "missing"})
-            }
+            Decided::Limit => plain_object(alloc, calls, "limit reached"),
+            Decided::Missing => plain_object(alloc, calls, "missing"),
             Decided::Rejected(_) | Decided::Untraced(_) => {
                 let why = self.to_string(alloc)?;
-                json!(in alloc; {"client": client, "before": before, "verdict": "refused", "why": why})
+                refused_object(alloc, calls, why.as_str())
             }
         }
     }

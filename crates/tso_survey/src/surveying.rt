@@ -11,7 +11,7 @@ use crate::method::Words;
 use crate::plan::{Asked, Plan, count_of};
 use crate::tally::{Tally, Violated};
 use crate::words::Asking;
-use serde_json::json;
+use serde_json::{Value, json};
 use std::alloc::{AllocError, Global};
 use std::sync::Wait;
 use std::thread::Threads;
@@ -139,6 +139,30 @@ fn decide_smaller<R: Threads + Wait + Sync, D: Finder, S: Session>(
     Ok(())
 }
 
+// The client of a text by one that covers it, if this one does.
+fn covered_by(alloc: Global, text: &[u8], larger: &Accepted) -> Result<Option<Accepted>, Failure> {
+    let copy = Vec::from_slice(alloc, text)?;
+    let checked = checked_of(alloc, text)?;
+    Ok(larger.covered(copy, checked))
+}
+
+// The text of a smaller client, and the client by this one, if that covers it.
+fn served_by(
+    alloc: Global,
+    base: &[u8],
+    asking: &Asking<'_>,
+    plan: &Plan,
+    larger: &Accepted,
+    smaller: &Asked,
+) -> Result<Option<(Vec<u8>, Accepted)>, Failure> {
+    let calls = smaller.calls(alloc, &plan.words, Numbering::Larger)?;
+    let text = text_of(alloc, base, asking, &calls)?;
+    match covered_by(alloc, &text, larger)? {
+        Some(accepted) => Ok(Some((text, accepted))),
+        None => Ok(None),
+    }
+}
+
 // A smaller client by one that covers it, if that was accepted.
 fn served(
     alloc: Global,
@@ -148,18 +172,11 @@ fn served(
     accepted: &[Accepted],
     smaller: &Asked,
 ) -> Result<Option<(Vec<u8>, Accepted)>, Failure> {
-    let calls = smaller.calls(alloc, &plan.words, Numbering::Larger)?;
-    let text = text_of(alloc, base, asking, &calls)?;
-    let checked = checked_of(alloc, &text)?;
     let Some(number) = plan.larger(alloc, smaller)? else {
         return Ok(None);
     };
-    let Some(larger) = accepted.get(number) else {
-        return Ok(None);
-    };
-    let copy = Vec::from_slice(alloc, &text)?;
-    match larger.covered(copy, checked) {
-        Some(accepted) => Ok(Some((text, accepted))),
+    match accepted.get(number) {
+        Some(larger) => served_by(alloc, base, asking, plan, larger, smaller),
         None => Ok(None),
     }
 }
@@ -188,20 +205,28 @@ fn answers_for_all(
     Ok(are_all_accepted(accepted, texts))
 }
 
-// Says of how many clients nothing follows, and gives the status.
-fn put_undecided<S: Session>(session: &mut S, tally: &mut Tally) -> Result<u8, Failure> {
-    let alloc = session.alloc();
+// Of how many clients nothing follows, as a line.
+fn undecided_line(alloc: Global, tally: &Tally) -> Result<String, AllocError> {
     let count = tally.count;
     let (limits, missing, refused) = (tally.limits, tally.missing, tally.refused);
-    let line = format!(in alloc;
+    format!(in alloc;
         "undecided: of {count} clients {limits} at the limit, {missing} missing, {refused} refused\n"
-    )?;
-    let (count, limits) = (count as u64, limits as u64);
-    let (gone, faulty) = (missing as u64, refused as u64);
-    let object =
-        json!(in alloc; {"verdict": "undecided", "clients": count, "limits": limits, "missing": gone, "refused": faulty})?;
+    )
+}
+
+// The same as an object of JSON.
+fn undecided_object(alloc: Global, tally: &Tally) -> Result<Value, AllocError> {
+    let (count, limits) = (tally.count as u64, tally.limits as u64);
+    let (missing, refused) = (tally.missing as u64, tally.refused as u64);
+    json!(in alloc; {"verdict": "undecided", "clients": count, "limits": limits, "missing": missing, "refused": refused})
+}
+
+// Says of how many clients nothing follows, and gives the status.
+fn put_undecided<S: Session>(session: &mut S, tally: &mut Tally) -> Result<u8, Failure> {
+    let line = undecided_line(session.alloc(), tally)?;
+    let object = undecided_object(session.alloc(), tally)?;
     tally.say(session, line.as_str(), &object)?;
-    Ok(if refused > 0 { 3 } else { 4 })
+    Ok(if tally.refused > 0 { 3 } else { 4 })
 }
 
 // Says which client has a run that is not good, and gives the status.
@@ -217,17 +242,26 @@ fn put_violated<S: Session>(
     Ok(1)
 }
 
+// That each client of a list or of a part was accepted, as a line.
+fn accepted_line(alloc: Global, count: usize, of: usize) -> Result<String, AllocError> {
+    let s = if count == 1 { "" } else { "s" };
+    if count == of {
+        format!(in alloc; "accepted: {count} client{s}\n")
+    } else {
+        format!(in alloc; "accepted: {count} of the {of} clients that are searched\n")
+    }
+}
+
+// The same as an object of JSON.
+fn accepted_object(alloc: Global, count: usize, of: usize) -> Result<Value, AllocError> {
+    let (count, of) = (count as u64, of as u64);
+    json!(in alloc; {"verdict": "accepted", "searched": count, "of": of})
+}
+
 // Says that each client of a list or of a part was accepted, and gives the status.
 fn put_accepted<S: Session>(session: &mut S, tally: &mut Tally, of: usize) -> Result<u8, Failure> {
-    let count = tally.count;
-    let s = if count == 1 { "" } else { "s" };
-    let line = if count == of {
-        format!(in session.alloc(); "accepted: {count} client{s}\n")?
-    } else {
-        format!(in session.alloc(); "accepted: {count} of the {of} clients that are searched\n")?
-    };
-    let (count, of) = (count as u64, of as u64);
-    let object = json!(in session.alloc(); {"verdict": "accepted", "searched": count, "of": of})?;
+    let line = accepted_line(session.alloc(), tally.count, of)?;
+    let object = accepted_object(session.alloc(), tally.count, of)?;
     tally.say(session, line.as_str(), &object)?;
     Ok(0)
 }

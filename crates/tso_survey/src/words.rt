@@ -4,7 +4,7 @@ use crate::bounds::Bounds;
 use clap::{Arg, ArgAction, ArgMatches, Command, value_parser};
 use std::alloc::{AllocError, Global};
 use std::fmt;
-use tso_front::{Failure, json_argument, misused, program_argument};
+use tso_front::{Failure, json_argument, misused, program_argument, with_flag, with_option};
 
 /// Which of the clients that are searched are taken: those whose numbers, from 0, leave `part` when divided by `parts`.
 #[derive(Clone, Copy, Debug, PartialEq, Eq)]
@@ -38,61 +38,39 @@ pub struct Asking<'a> {
     pub json: bool,
 }
 
-fn flag<'a>(alloc: Global, name: &'a str, help: &'a str) -> Arg<'a> {
-    Arg::new(alloc, name)
-        .long(name)
-        .action(ArgAction::SetTrue)
-        .help(help)
-}
-
-fn option<'a>(alloc: Global, name: &'a str, value: &'a str, help: &'a str) -> Arg<'a> {
-    Arg::new(alloc, name)
-        .long(name)
-        .value_name(value)
-        .action(ArgAction::Set)
-        .help(help)
-}
-
-fn number<'a>(alloc: Global, name: &'a str, least: i64, most: i64, help: &'a str) -> Arg<'a> {
-    Arg::new(alloc, name)
+// The command with an option that is a number within bounds.
+fn with_number<'a>(
+    alloc: Global,
+    command: Command<'a>,
+    name: &'a str,
+    least: i64,
+    most: i64,
+    help: &'a str,
+) -> Result<Command<'a>, AllocError> {
+    let number = Arg::new(alloc, name)
         .long(name)
         .value_name("N")
         .action(ArgAction::Set)
         .value_parser(value_parser!(u64).range(least..=most))
-        .help(help)
+        .help(help);
+    command.arg(number)
+}
+
+// The words for how many threads and calls a client has, but for its prologue.
+fn size_arguments<'a>(alloc: Global, command: Command<'a>) -> Result<Command<'a>, AllocError> {
+    let help = "how many threads a client has at most; 3 if not said";
+    let command = with_number(alloc, command, "threads", 1, 4, help)?;
+    let help = "how many calls its threads have at most; 4 if not said";
+    with_number(alloc, command, "calls", 1, 12, help)
 }
 
 // The words for how large the clients are, but for their prologues.
 fn bounds_arguments<'a>(alloc: Global, command: Command<'a>) -> Result<Command<'a>, AllocError> {
-    command
-        .arg(number(
-            alloc,
-            "threads",
-            1,
-            4,
-            "how many threads a client has at most; 3 if not said",
-        ))?
-        .arg(number(
-            alloc,
-            "calls",
-            1,
-            12,
-            "how many calls its threads have at most; 4 if not said",
-        ))?
-        .arg(number(
-            alloc,
-            "producers",
-            0,
-            4,
-            "how many threads push at most; all if not said",
-        ))?
-        .arg(number(
-            alloc,
-            "consumers",
-            0,
-            4,
-            "how many threads pop at most; all if not said",
-        ))
+    let command = size_arguments(alloc, command)?;
+    let help = "how many threads push at most; all if not said";
+    let command = with_number(alloc, command, "producers", 0, 4, help)?;
+    let help = "how many threads pop at most; all if not said";
+    with_number(alloc, command, "consumers", 0, 4, help)
 }
 
 /// The words that say which clients' files are decided, but for `--before` and `--mode`.
@@ -102,19 +80,23 @@ pub fn collect_arguments<'a>(
     alloc: Global,
     command: Command<'a>,
 ) -> Result<Command<'a>, AllocError> {
-    let collect = option(
-        alloc,
-        "collect",
-        "DIR",
-        "checks the certificates and replays the traces of a folder, and searches nothing",
-    );
-    let clients = option(
-        alloc,
-        "clients",
-        "LIST",
-        "a file of clients, a line each, in place of those within the bounds",
-    );
-    bounds_arguments(alloc, command.arg(collect)?.arg(clients)?)
+    let help = "checks the certificates and replays the traces of a folder, and searches nothing";
+    let command = with_option(alloc, command, "collect", "DIR", help)?;
+    let help = "a file of clients, a line each, in place of those within the bounds";
+    let command = with_option(alloc, command, "clients", "LIST", help)?;
+    bounds_arguments(alloc, command)
+}
+
+// The words for prologues, for the mode and for files.
+fn file_arguments<'a>(alloc: Global, command: Command<'a>) -> Result<Command<'a>, AllocError> {
+    let help = "how many pushes its prologue has at most; none if not said";
+    let command = with_number(alloc, command, "before", 0, 4, help)?;
+    let help = "strict or weak, in place of what the text says";
+    let command = with_option(alloc, command, "mode", "MODE", help)?;
+    let help = "the folder where each client's text and certificate or trace are written";
+    let command = with_option(alloc, command, "out", "DIR", help)?;
+    let help = "takes each Nth client alone, from the Ith on";
+    with_option(alloc, command, "part", "I/N", help)
 }
 
 /// The words that say what a survey asks about.
@@ -124,48 +106,15 @@ pub fn asking_arguments<'a>(
     alloc: Global,
     command: Command<'a>,
 ) -> Result<Command<'a>, AllocError> {
-    let before = number(
-        alloc,
-        "before",
-        0,
-        4,
-        "how many pushes its prologue has at most; none if not said",
-    );
-    let mode = option(
-        alloc,
-        "mode",
-        "MODE",
-        "strict or weak, in place of what the text says",
-    );
-    let out = option(
-        alloc,
-        "out",
-        "DIR",
-        "the folder where each client's text and certificate or trace are written",
-    );
-    let part = option(
-        alloc,
-        "part",
-        "I/N",
-        "takes each Nth client alone, from the Ith on",
-    );
-    collect_arguments(alloc, command.arg(program_argument(alloc))?)?
-        .arg(before)?
-        .arg(mode)?
-        .arg(out)?
-        .arg(part)?
-        .arg(flag(
-            alloc,
-            "list",
-            "prints the clients that would be searched, a line each",
-        ))?
-        .arg(flag(alloc, "all", "goes on behind a violation"))?
-        .arg(flag(
-            alloc,
-            "progress",
-            "says on standard error how far the survey has come",
-        ))?
-        .arg(json_argument(alloc))
+    let command = command.arg(program_argument(alloc))?;
+    let command = collect_arguments(alloc, command)?;
+    let command = file_arguments(alloc, command)?;
+    let help = "prints the clients that would be searched, a line each";
+    let command = with_flag(alloc, command, "list", help)?;
+    let command = with_flag(alloc, command, "all", "goes on behind a violation")?;
+    let help = "says on standard error how far the survey has come";
+    let command = with_flag(alloc, command, "progress", help)?;
+    command.arg(json_argument(alloc))
 }
 
 fn asked_number(matches: &ArgMatches<'_>, name: &str, otherwise: usize) -> usize {

@@ -1,8 +1,8 @@
 //! What a replay is asked to show.
 
-use clap::{Arg, ArgAction, ArgMatches, Command};
+use clap::{ArgMatches, Command};
 use std::alloc::{AllocError, Global};
-use tso_front::{Failure, Variant, read_apart, variant_of, written_apart};
+use tso_front::{Failure, Variant, read_apart, variant_of, with_flag, with_option, written_apart};
 use tso_show::Show;
 
 /// Which trace is replayed, and what is shown of it.
@@ -39,52 +39,29 @@ impl Replay<'_> {
     }
 }
 
-fn flag<'a>(alloc: Global, name: &'a str, help: &'a str) -> Arg<'a> {
-    Arg::new(alloc, name)
-        .long(name)
-        .action(ArgAction::SetTrue)
-        .help(help)
+// The command with the options for what is shown beside each label.
+fn with_views<'a>(alloc: Global, command: Command<'a>) -> Result<Command<'a>, AllocError> {
+    let help = "prints the instruction beside each label, with its line";
+    let command = with_flag(alloc, command, "source", help)?;
+    let help = "prints registers and flags after each label";
+    let command = with_flag(alloc, command, "registers", help)?;
+    let help = "prints memory and store buffers after each label";
+    with_flag(alloc, command, "buffers", help)
 }
 
 /// The command with the options for what is shown.
+///
+/// Errors: where a growth was refused.
 pub fn with_flags<'a>(alloc: Global, command: Command<'a>) -> Result<Command<'a>, AllocError> {
-    let html = Arg::new(alloc, "html")
-        .long("html")
-        .value_name("OUT")
-        .action(ArgAction::Set)
-        .help("writes the run as a page that a browser shows");
-    command
-        .arg(flag(
-            alloc,
-            "source",
-            "prints the instruction beside each label, with its line",
-        ))?
-        .arg(flag(
-            alloc,
-            "registers",
-            "prints registers and flags after each label",
-        ))?
-        .arg(flag(
-            alloc,
-            "buffers",
-            "prints memory and store buffers after each label",
-        ))?
-        .arg(flag(
-            alloc,
-            "brief",
-            "prints no steps between registers, and a locked instruction as one line",
-        ))?
-        .arg(flag(
-            alloc,
-            "history",
-            "prints the calls with their answers, and how far they have an order",
-        ))?
-        .arg(flag(
-            alloc,
-            "partial",
-            "shows also a run in which nothing is wrong",
-        ))?
-        .arg(html)
+    let command = with_views(alloc, command)?;
+    let help = "prints no steps between registers, and a locked instruction as one line";
+    let command = with_flag(alloc, command, "brief", help)?;
+    let help = "prints the calls with their answers, and how far they have an order";
+    let command = with_flag(alloc, command, "history", help)?;
+    let help = "shows also a run in which nothing is wrong";
+    let command = with_flag(alloc, command, "partial", help)?;
+    let help = "writes the run as a page that a browser shows";
+    with_option(alloc, command, "html", "OUT", help)
 }
 
 /// What the words of the command ask for.

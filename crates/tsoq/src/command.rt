@@ -12,7 +12,7 @@ use std::alloc::{AllocError, Global};
 use tso_cert::Workers;
 use tso_front::{
     Ended, Failure, STREAM, VERSION, Variant, both_apart, ended_words, json_argument, misused,
-    program_argument, variant_arguments, variant_of, written_apart,
+    program_argument, variant_arguments, variant_of, with_flag, with_option, written_apart,
 };
 use tso_say::{Topic, find};
 use tso_survey::{Check, cert_argument, check_arguments, check_of, workers_argument, workers_of};
@@ -73,23 +73,6 @@ pub struct Request<'a> {
     pub verbose: bool,
 }
 
-// The flag that asks for words.
-fn verbose<'a>(alloc: Global) -> Arg<'a> {
-    Arg::new(alloc, "verbose")
-        .long("verbose")
-        .action(ArgAction::SetTrue)
-        .help("says on standard error, behind the promised lines, why")
-}
-
-// An option with a path.
-fn path_option<'a>(alloc: Global, name: &'a str, value: &'a str, help: &'a str) -> Arg<'a> {
-    Arg::new(alloc, name)
-        .long(name)
-        .value_name(value)
-        .action(ArgAction::Set)
-        .help(help)
-}
-
 fn states<'a>(alloc: Global) -> Arg<'a> {
     Arg::new(alloc, "states")
         .long("states")
@@ -100,38 +83,29 @@ fn states<'a>(alloc: Global) -> Arg<'a> {
         .help("how many states the search may meet, 1 to 4194304")
 }
 
+// The command with the words for what a search writes and says.
+fn with_results<'a>(alloc: Global, command: Command<'a>) -> Result<Command<'a>, AllocError> {
+    let help = "where the certificate is written, if it is to be";
+    let command = with_option(alloc, command, "out", "CERT", help)?;
+    let help = "where the trace is written, if it is to be";
+    let command = with_option(alloc, command, "trace", "TRACE", help)?;
+    let command = command.arg(workers_argument(alloc, "how many workers search, 1 to 64"))?;
+    command.arg(states(alloc))
+}
+
 fn verify_command<'a>(alloc: Global) -> Result<Command<'a>, AllocError> {
-    let stats = Arg::new(alloc, "stats")
-        .long("stats")
-        .action(ArgAction::SetTrue)
-        .help("says on standard error how much was met and written, and in what time");
-    let progress = Arg::new(alloc, "progress")
-        .long("progress")
-        .action(ArgAction::SetTrue)
-        .help("says on standard error how far the search has come");
     let command = Command::new(alloc, "verify")
         .about(
             "searches all runs of a program, for a certificate that they are good or a trace of one that is not",
         )
         .after_help(help::VERIFY)
-        .arg(program_argument(alloc))?
-        .arg(path_option(
-            alloc,
-            "out",
-            "CERT",
-            "where the certificate is written, if it is to be",
-        ))?
-        .arg(path_option(
-            alloc,
-            "trace",
-            "TRACE",
-            "where the trace is written, if it is to be",
-        ))?
-        .arg(workers_argument(alloc, "how many workers search, 1 to 64"))?
-        .arg(states(alloc))?
-        .arg(stats)?
-        .arg(progress)?
-        .arg(json_argument(alloc))?;
+        .arg(program_argument(alloc))?;
+    let command = with_results(alloc, command)?;
+    let help = "says on standard error how much was met and written, and in what time";
+    let command = with_flag(alloc, command, "stats", help)?;
+    let help = "says on standard error how far the search has come";
+    let command = with_flag(alloc, command, "progress", help)?;
+    let command = command.arg(json_argument(alloc))?;
     variant_arguments(alloc, command)
 }
 
@@ -152,43 +126,72 @@ fn explain_command<'a>(alloc: Global) -> Result<Command<'a>, AllocError> {
         .arg(code)
 }
 
-fn replay_command<'a>(alloc: Global) -> Result<Command<'a>, AllocError> {
-    let trace = Arg::new(alloc, "TRACE")
-        .required(true)
-        .help("the trace of an error");
+// The command with the label to which a replay goes back.
+fn with_label<'a>(alloc: Global, command: Command<'a>) -> Result<Command<'a>, AllocError> {
     let to = Arg::new(alloc, "to")
         .long("to")
         .value_name("K")
         .action(ArgAction::Set)
         .value_parser(value_parser!(u64))
         .help("goes back to the state after label K");
+    command.arg(to)
+}
+
+fn replay_command<'a>(alloc: Global) -> Result<Command<'a>, AllocError> {
+    let trace = Arg::new(alloc, "TRACE")
+        .required(true)
+        .help("the trace of an error");
     let command = Command::new(alloc, "replay")
         .about(
             "walks the machine along a trace, and prints its labels, the state and what is wrong",
         )
-        .after_help(help::REPLAY)
-        .arg(program_argument(alloc))?
-        .arg(trace)?
-        .arg(to)?
-        .arg(json_argument(alloc))?;
-    variant_arguments(alloc, with_flags(alloc, command)?)
+        .after_help(help::REPLAY);
+    let command = command.arg(program_argument(alloc))?;
+    let command = command.arg(trace)?;
+    let command = with_label(alloc, command)?;
+    let command = command.arg(json_argument(alloc))?;
+    let command = with_flags(alloc, command)?;
+    variant_arguments(alloc, command)
+}
+
+// The program's words with one command more, of which words can be asked for that say why.
+fn with_command<'a>(
+    alloc: Global,
+    program: Command<'a>,
+    command: Command<'a>,
+) -> Result<Command<'a>, AllocError> {
+    let help = "says on standard error, behind the promised lines, why";
+    program.subcommand(with_flag(alloc, command, "verbose", help)?)
+}
+
+// The commands on one client.
+fn with_client_commands<'a>(
+    alloc: Global,
+    program: Command<'a>,
+) -> Result<Command<'a>, AllocError> {
+    let program = with_command(alloc, program, verify_command(alloc)?)?;
+    let program = with_command(alloc, program, check_command(alloc)?)?;
+    let program = with_command(alloc, program, coverage_command(alloc)?)?;
+    with_command(alloc, program, replay_command(alloc)?)
+}
+
+// The commands on several clients.
+fn with_queue_commands<'a>(alloc: Global, program: Command<'a>) -> Result<Command<'a>, AllocError> {
+    let program = with_command(alloc, program, survey_command(alloc, states(alloc))?)?;
+    with_command(alloc, program, fences_command(alloc, states(alloc))?)
 }
 
 // All the words.
 fn command<'a>(alloc: Global) -> Result<Command<'a>, AllocError> {
-    Command::new(alloc, "tsoq")
+    let program = Command::new(alloc, "tsoq")
         .about("checks lock-free ring queues under x86-TSO")
         .version(VERSION)
         .after_help(help::PROGRAM)
-        .subcommand_required(true)
-        .subcommand(verify_command(alloc)?.arg(verbose(alloc))?)?
-        .subcommand(check_command(alloc)?.arg(verbose(alloc))?)?
-        .subcommand(coverage_command(alloc)?.arg(verbose(alloc))?)?
-        .subcommand(replay_command(alloc)?.arg(verbose(alloc))?)?
-        .subcommand(survey_command(alloc, states(alloc))?.arg(verbose(alloc))?)?
-        .subcommand(fences_command(alloc, states(alloc))?.arg(verbose(alloc))?)?
-        .subcommand(parse_command(alloc)?.arg(verbose(alloc))?)?
-        .subcommand(explain_command(alloc)?)
+        .subcommand_required(true);
+    let program = with_client_commands(alloc, program)?;
+    let program = with_queue_commands(alloc, program)?;
+    let program = with_command(alloc, program, parse_command(alloc)?)?;
+    program.subcommand(explain_command(alloc)?)
 }
 
 // How many states a search may meet.

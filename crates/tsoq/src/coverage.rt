@@ -1,8 +1,8 @@
 //! The words of the command.
 
-use clap::{Arg, ArgAction, ArgMatches, Command};
+use clap::{ArgMatches, Command};
 use std::alloc::{AllocError, Global};
-use tso_front::Failure;
+use tso_front::{Failure, with_flag};
 use tso_survey::{Check, cert_argument, check_arguments, check_of};
 
 const HELP: &str =
@@ -33,15 +33,13 @@ pub struct Covering<'a> {
 ///
 /// Errors: where a growth was refused.
 pub fn coverage_command<'a>(alloc: Global) -> Result<Command<'a>, AllocError> {
-    let source = Arg::new(alloc, "source")
-        .long("source")
-        .action(ArgAction::SetTrue)
-        .help("prints the program's text as well, with a mark at each line");
     let command = Command::new(alloc, "coverage").after_help(HELP);
     let cert = cert_argument(alloc).required(true);
-    check_arguments(alloc, command, cert)?
-        .about("says what the records of an accepted certificate show, and what they leave out")
-        .arg(source)
+    let command = check_arguments(alloc, command, cert)?.about(
+        "says what the records of an accepted certificate show, and what they leave out",
+    );
+    let help = "prints the program's text as well, with a mark at each line";
+    with_flag(alloc, command, "source", help)
 }
 
 /// What the words of the command ask for.

@@ -26,9 +26,10 @@ pub fn fences_command<'a>(alloc: Global, states: Arg<'a>) -> Result<Command<'a>,
     let command = Command::new(alloc, "fences")
         .about("says which fences a client needs, or which would make it right")
         .after_help(help::FENCES);
-    fences_arguments(alloc, command)?
-        .arg(workers_argument(alloc, "how many workers search, a text each, 1 to 64"))?
-        .arg(states)
+    let command = fences_arguments(alloc, command)?;
+    let help = "how many workers search, a text each, 1 to 64";
+    let command = command.arg(workers_argument(alloc, help))?;
+    command.arg(states)
 }
 
 /// What the words of `fences` ask for.

@@ -7,6 +7,7 @@ mod counted;
 mod coverage;
 mod covering;
 mod fences;
+mod filing;
 mod help;
 mod host;
 mod length;

@@ -7,10 +7,10 @@ use serde_json::{Map, Value, json};
 use std::alloc::{AllocError, Global};
 use tso_flow::{Checked, ProcedureKind};
 use tso_front::{Failure, Session, misused};
-use tso_machine::{Core, Entry, Machine, Stage, Thread};
+use tso_machine::{Core, Entry, Machine, Running, Stage, Thread};
 use tso_prog::Array;
 use tso_show::{Replayed, ShowError, Walk};
-use tso_trace::{cell_name, line_of};
+use tso_trace::{Violation, cell_name, line_of};
 
 const PLAIN: &str =
     "--json says labels, the state and what is wrong, and goes without --brief, --source, --registers, --buffers and --history
@@ -52,21 +52,29 @@ fn buffer_list(alloc: Global, arrays: &[Array], entries: &[Entry]) -> Result<Val
     Ok(Value::Array(list))
 }
 
+// That a thread makes no call, or is stopped, and what is in its store buffer.
+fn still_object(alloc: Global, how: &str, buffer: Value) -> Result<Value, AllocError> {
+    json!(in alloc; {"is": how, "buffer": buffer})
+}
+
+// Where the running call of a thread is, and what is in its store buffer.
+fn running_object(alloc: Global, running: &Running, buffer: Value) -> Result<Value, AllocError> {
+    let procedure = match running.procedure {
+        ProcedureKind::Push => "push",
+        ProcedureKind::Pop => "pop",
+    };
+    let instruction = running.frame.pc as u64;
+    let locked = !matches!(running.stage, Stage::Outside);
+    json!(in alloc; {"is": "running", "procedure": procedure, "instruction": instruction, "locked": locked, "buffer": buffer})
+}
+
 // Where a thread is, and what is in its store buffer.
 fn thread_object(alloc: Global, arrays: &[Array], thread: &Thread) -> Result<Value, AllocError> {
     let buffer = buffer_list(alloc, arrays, thread.buffer.live())?;
     match &thread.core {
-        Core::Idle => json!(in alloc; {"is": "idle", "buffer": buffer}),
-        Core::Stopped => json!(in alloc; {"is": "stopped", "buffer": buffer}),
-        Core::Running(running) => {
-            let procedure = match running.procedure {
-                ProcedureKind::Push => "push",
-                ProcedureKind::Pop => "pop",
-            };
-            let instruction = running.frame.pc as u64;
-            let locked = !matches!(running.stage, Stage::Outside);
-            json!(in alloc; {"is": "running", "procedure": procedure, "instruction": instruction, "locked": locked, "buffer": buffer})
-        }
+        Core::Idle => still_object(alloc, "idle", buffer),
+        Core::Stopped => still_object(alloc, "stopped", buffer),
+        Core::Running(running) => running_object(alloc, running, buffer),
     }
 }
 
@@ -103,6 +111,34 @@ fn print_labels<S: Session>(
     Ok(())
 }
 
+// Prints the state after so many labels.
+fn print_state<S: Session>(
+    session: &mut S,
+    checked: &Checked,
+    run: &Replayed,
+    to: usize,
+) -> Result<(), Failure> {
+    let alloc = session.alloc();
+    let labels = run.labels();
+    let walk = match Walk::to_end(alloc, checked, &labels[..to.min(labels.len())]) {
+        Ok(walk) => walk,
+        Err(error) => return Err(show_failure(&ShowError::from(error))),
+    };
+    let arrays = checked.client.arrays.as_slice();
+    session.print_object(&state_object(alloc, arrays, walk.machine(), to)?)
+}
+
+// What is wrong with a run, if something is.
+fn wrong_object(alloc: Global, violation: Option<Violation>) -> Result<Value, AllocError> {
+    match violation {
+        Some(violation) => {
+            let (what, thread) = violation_words(violation);
+            json!(in alloc; {"violation": what, "thread": thread})
+        }
+        None => json!(in alloc; {"violation": null}),
+    }
+}
+
 /// Prints the labels of a run up to label `to`, or all, the state after them, and at the end what is wrong, if something is.
 ///
 /// Errors: `Usage` where more is asked for; `CannotPrint`; `Memory`; `Trace`.
@@ -112,31 +148,19 @@ pub fn print_objects<S: Session>(
     run: &Replayed,
     asked: &Replay<'_>,
 ) -> Result<(), Failure> {
-    let alloc = session.alloc();
     if !asked.is_plain() {
-        return Err(misused(alloc, PLAIN));
+        return Err(misused(session.alloc(), PLAIN));
     }
-    let labels = run.labels();
+    let count = run.labels().len();
     let to = match asked.to {
-        Some(to) => (to as usize).min(labels.len()),
-        None => labels.len(),
+        Some(to) => (to as usize).min(count),
+        None => count,
     };
     print_labels(session, checked, run, to)?;
-    let walk = match Walk::to_end(alloc, checked, &labels[..to]) {
-        Ok(walk) => walk,
-        Err(error) => return Err(show_failure(&ShowError::from(error))),
-    };
-    let arrays = checked.client.arrays.as_slice();
-    session.print_object(&state_object(alloc, arrays, walk.machine(), to)?)?;
-    if to < labels.len() {
+    print_state(session, checked, run, to)?;
+    if to < count {
         return Ok(());
     }
-    let object = match run.violation() {
-        Some(violation) => {
-            let (what, thread) = violation_words(violation);
-            json!(in alloc; {"violation": what, "thread": thread})?
-        }
-        None => json!(in alloc; {"violation": null})?,
-    };
+    let object = wrong_object(session.alloc(), run.violation())?;
     session.print_object(&object)
 }

@@ -5,10 +5,10 @@ ghost use Rattle.std.specs.String.{string_bytes};
 ghost use Rattle.tsoq.specs.Parsed.{IsParsed};
 
 use crate::help;
-use clap::{Arg, ArgAction, ArgMatches, Command};
+use clap::{ArgMatches, Command};
 use std::alloc::{AllocError, Global};
 use tso_client::checked_of;
-use tso_front::{Failure, Variant, program_argument, variant_arguments, variant_of};
+use tso_front::{Failure, Variant, program_argument, variant_arguments, variant_of, with_flag};
 use tso_say::parsed;
 
 /// A program text that is to be parsed, and whether its canonical text is printed.
@@ -33,17 +33,14 @@ pub fn parse(alloc: Global, program: &[u8], prints: bool) -> Result<String, Fail
 ///
 /// Errors: where a growth was refused.
 pub fn parse_command<'a>(alloc: Global) -> Result<Command<'a>, AllocError> {
-    let print = Arg::new(alloc, "print")
-        .long("print")
-        .action(ArgAction::SetTrue)
-        .help("prints the canonical text of the program");
     let command = Command::new(alloc, "parse")
         .about(
             "reads a program, and says whether it is accepted and how many labels its runs have at most",
         )
         .after_help(help::PARSE)
-        .arg(program_argument(alloc))?
-        .arg(print)?;
+        .arg(program_argument(alloc))?;
+    let help = "prints the canonical text of the program";
+    let command = with_flag(alloc, command, "print", help)?;
     variant_arguments(alloc, command)
 }
 

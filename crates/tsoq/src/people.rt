@@ -13,6 +13,13 @@ use tso_say::{Page, put_hidden, put_meaning, put_program, put_trace};
 use tso_show::{ShowError, Walk, print_cause};
 use tso_trace::{Trace, TraceFault};
 
+// The last code of what is wrong with a certificate whatever its client is.
+const LAST_OF_SHAPE: u8 = 3;
+
+// What may be wrong where a certificate or a trace does not fit the client.
+const OTHER_CLIENT: &str =
+    "Was it made with `--client`, `--before` or `--mode`? Then it is of that client, and not of the text's own: give the same words here.\n";
+
 // The files of a command: the program, and the other one.
 #[derive(Clone, Copy, Debug)]
 struct Paths<'a> {
@@ -85,9 +92,13 @@ fn put_replayed(
     fault: &TraceFault,
 ) -> Result<(), AllocError> {
     match checked_of(alloc, &texts.program) {
-        Ok(checked) => put_trace(alloc, page, &checked, &texts.trace, fault),
-        Err(_) => Ok(()),
+        Ok(checked) => put_trace(alloc, page, &checked, &texts.trace, fault)?,
+        Err(_) => return Ok(()),
     }
+    if let TraceFault::NotAStep { label: 1 } = fault {
+        page.say(OTHER_CLIENT)?;
+    }
+    Ok(())
 }
 
 // Why a file gives no bytes.
@@ -182,7 +193,11 @@ fn put_verdict(alloc: Global, page: &mut Page, verdict: Verdict) -> Result<(), A
     if place.is_some() {
         page.say("Records count from 0.\n")?;
     }
-    put_meaning(alloc, page, format!(in alloc; "{code}")?.as_str())
+    put_meaning(alloc, page, format!(in alloc; "{code}")?.as_str())?;
+    if code.number() > LAST_OF_SHAPE {
+        page.say(OTHER_CLIENT)?;
+    }
+    Ok(())
 }
 
 /// Says in words why a certificate is refused.

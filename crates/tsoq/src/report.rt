@@ -53,6 +53,34 @@ pub fn limit_object(alloc: Global, states: u64) -> Result<Value, AllocError> {
     json!(in alloc; {"verdict": "limit reached", "states": states})
 }
 
+// That every run is good, by a certificate, as an object of JSON.
+fn certified_object(
+    alloc: Global,
+    records: u64,
+    bytes: Option<u64>,
+    states: u64,
+    times: Option<Times>,
+) -> Result<Value, AllocError> {
+    let (searched, composed, written) = parts_of(times);
+    let bytes = number_or_null(bytes);
+    json!(in alloc; {"verdict": "certificate", "records": records, "bytes": bytes, "states": states, "searched_ms": searched, "composed_ms": composed, "written_ms": written})
+}
+
+// That a run is not good, by a trace, as an object of JSON.
+fn violated_object(
+    alloc: Global,
+    violation: Violation,
+    labels: usize,
+    bytes: Option<u64>,
+    states: u64,
+    times: Option<Times>,
+) -> Result<Value, AllocError> {
+    let (searched, composed, written) = parts_of(times);
+    let (what, thread) = violation_words(violation);
+    let (labels, bytes) = (labels as u64, number_or_null(bytes));
+    json!(in alloc; {"verdict": "violation", "violation": what, "thread": thread, "labels": labels, "bytes": bytes, "states": states, "searched_ms": searched, "composed_ms": composed, "written_ms": written})
+}
+
 /// What a search found, and what was written of it.
 #[derive(Clone, Copy, Debug)]
 pub enum Report {
@@ -89,21 +117,15 @@ impl Report {
         states: u64,
         times: Option<Times>,
     ) -> Result<Value, AllocError> {
-        let (searched, composed, written) = parts_of(times);
         match self {
             Report::Certified { records, bytes } => {
-                let (records, bytes) = (*records, number_or_null(*bytes));
-                json!(in alloc; {"verdict": "certificate", "records": records, "bytes": bytes, "states": states, "searched_ms": searched, "composed_ms": composed, "written_ms": written})
+                certified_object(alloc, *records, *bytes, states, times)
             }
             Report::Violated {
                 violation,
                 labels,
                 bytes,
-            } => {
-                let (what, thread) = violation_words(*violation);
-                let (labels, bytes) = (*labels as u64, number_or_null(*bytes));
-                json!(in alloc; {"verdict": "violation", "violation": what, "thread": thread, "labels": labels, "bytes": bytes, "states": states, "searched_ms": searched, "composed_ms": composed, "written_ms": written})
-            }
+            } => violated_object(alloc, *violation, *labels, *bytes, states, times),
         }
     }
 

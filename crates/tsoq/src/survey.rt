@@ -33,9 +33,10 @@ pub fn survey_command<'a>(alloc: Global, states: Arg<'a>) -> Result<Command<'a>,
     let command = Command::new(alloc, "survey")
         .about("searches all clients of a queue up to a size")
         .after_help(help::SURVEY);
-    asking_arguments(alloc, command)?
-        .arg(workers_argument(alloc, "how many workers search, a client each, 1 to 64"))?
-        .arg(states)
+    let command = asking_arguments(alloc, command)?;
+    let help = "how many workers search, a client each, 1 to 64";
+    let command = command.arg(workers_argument(alloc, help))?;
+    command.arg(states)
 }
 
 /// What the words of a survey ask for.

@@ -1,37 +1,38 @@
 //! The search of a program's runs, and the file that says what it found.
 
-ghost use Rattle.std.specs.Prelude.{◌≤◌, IfOk, OnOk, length};
+ghost use Rattle.std.specs.Prelude.{◌≡◌, ◌≤◌, IfOk, None, Some, is_some, length};
 ghost use Rattle.tso_cert.specs.Certificates.{certificate};
 ghost use Rattle.tso_cert.specs.Trees.{record_count, tree_of};
+ghost use Rattle.tso_trace.specs.Grammar.{trace_text};
 ghost use Rattle.tso_trace.specs.Runs.{first_fault, violation_of};
-ghost use Rattle.tso_judge.specs.Valid.{IsValidCertificate};
-ghost use Rattle.tso_prog.specs.declared.client.Client.{Client};
 ghost use Rattle.tsoq.specs.Reports.{IsOfLabels, IsOfRecords, IsReport, IsTold};
-ghost use Rattle.tsoq.specs.Written.{AppendsCertificate};
+ghost use Rattle.tsoq.specs.Written.{HasTaken, IsAsked, IsAskedFor, IsFiled, bytes_of, count_of};
 
 use crate::command::Search;
-use crate::counted::Counted;
+use crate::counted::Taken;
+use crate::filing::{file_certificate, file_trace};
 use crate::progress::{Listener, Progress};
 use crate::report::Report;
 use std::alloc::Global;
-use std::io::{BufWriter, Write};
 use std::mem;
 use std::sync::Wait;
 use std::thread::Threads;
-use tso_cert::{Cert, WriteError};
+use tso_cert::Cert;
 use tso_client::checked_of;
 use tso_coverage::{Facts, told};
 use tso_explore::{Outcome, explore};
 use tso_flow::Checked;
 use tso_foot::Table;
-use tso_front::{Draft, Failure, Files, cannot_write};
+use tso_front::{Failure, Files};
 use tso_trace::Trace;
 
 /// What a search found, and the trace of it, if it is one.
-#[derive(Debug, Drop)]
+#[derive(Drop)]
 pub struct Found {
     pub report: Report,
     pub trace: Option<Trace>,
+    /// What the file of the certificate, or of the trace, has taken, if one was asked for and did not fail.
+    pub taken: Option<Taken>,
     /// Why the trace is not written, if it should be and is not.
     pub unwritten: Option<Failure>,
     /// What the records of a certificate show, in words, where they are asked for.
@@ -48,60 +49,46 @@ impl Found {
     }
 }
 
-// The draft of the file at this path, with a buffer before it.
-fn created<F: Files>(
-    alloc: Global,
-    files: &mut F,
-    draft: &Draft<'_>,
-) -> Result<Counted<BufWriter<F::Writer>>, Failure> {
-    match files.create(draft.path()) {
-        Ok(file) => match BufWriter::new(alloc, file) {
-            Ok(out) => Ok(Counted { out, bytes: 0 }),
-            Err(_) => Err(Failure::Memory),
-        },
-        Err(error) => Err(cannot_write(alloc, draft.name(), error.kind())),
-    }
+// A report of a certificate, and what its file has taken, if there is one.
+#[derive(Drop)]
+struct Certification {
+    report: Report,
+    taken: Option<Taken>,
 }
 
-// Writes out what waits before a file, and says how many bytes the file has.
-fn finished<W: Write + Drop>(
-    alloc: Global,
-    draft: &Draft<'_>,
-    mut file: Counted<W>,
-) -> Result<u64, Failure> {
-    match file.flush() {
-        Ok(()) => Ok(file.bytes),
-        Err(error) => Err(cannot_write(alloc, draft.name(), error.kind())),
-    }
+// What came of the file of a trace: what it has taken, or why it is not there, where one was asked for.
+#[derive(Drop)]
+struct TraceFile {
+    taken: Option<Taken>,
+    unwritten: Option<Failure>,
 }
 
-// Writes the bytes of a certificate. Where they are a valid certificate of a client, as those that a search hands out are, what the
-// writer holds more is one.
-fn put_bytes<W: Write>(
-    alloc: Global,
-    table: &Table,
-    cert: &Cert,
-    out: &mut W,
-) -> Result<(), WriteError>
-    ensures { (c : Client) → IsValidCertificate c (certificate table.now (tree_of cert.now)) → OnOk result (AppendsCertificate c (W.contents out.old) (W.contents out.new)) }
+// How many bytes a file has taken, if there is one.
+fn count_of(taken: &Option<Taken>) -> Option<u64>
+    ensures { result ≡ count_of taken.now }
 {
-    tso_cert::write(alloc, table, cert, out)
+    match taken {
+        Some(taken) => Some(taken.bytes()),
+        None => None,
+    }
 }
 
-// Writes a certificate to the draft of the file at this path, and says how many bytes it has.
-fn put_certificate<F: Files>(
+// Writes a certificate to this path, if there is one, and says what the file has taken.
+fn write_certificate<F: Files>(
     alloc: Global,
     files: &mut F,
-    draft: &Draft<'_>,
+    path: Option<&str>,
     table: &Table,
     cert: &Cert,
-) -> Result<u64, Failure> {
-    let mut file = created(alloc, files, draft)?;
-    match put_bytes(alloc, table, cert, &mut file) {
-        Ok(()) => finished(alloc, draft, file),
-        Err(WriteError::Io(error)) => Err(cannot_write(alloc, draft.name(), error.kind())),
-        Err(WriteError::Memory) => Err(Failure::Memory),
-    }
+) -> Result<Option<Taken>, Failure>
+    ensures taken { IfOk result (HasTaken (certificate table.now (tree_of cert.now))) }
+    ensures asked { IfOk result (λ taken. IsAsked (is_some path.entry) taken None) }
+{
+    let Some(path) = path else {
+        return Ok(None);
+    };
+    let taken = file_certificate(alloc, files, path, table, cert)?;
+    Ok(Some(taken))
 }
 
 // Writes a certificate to this path, if there is one.
@@ -111,53 +98,46 @@ fn certified<F: Files>(
     path: Option<&str>,
     table: &Table,
     cert: &Cert,
-) -> Result<Report, Failure>
+) -> Result<Certification, Failure>
     requires { record_count (tree_of cert.now) ≤ 4194304 }
-    ensures { IfOk result (IsOfRecords (record_count (tree_of cert.now))) }
+    ensures records { IfOk result (λ made. IsOfRecords (record_count (tree_of cert.now)) made.report) }
+    ensures taken { IfOk result (λ made. HasTaken (certificate table.now (tree_of cert.now)) made.taken) }
+    ensures asked { IfOk result (λ made. IsAsked (is_some path.entry) made.taken None) }
+    ensures counted { IfOk result (λ made. bytes_of made.report ≡ count_of made.taken) }
 {
-    let bytes = match path {
-        Some(path) => {
-            let draft = Draft::of(alloc, files, path)?;
-            let written = put_certificate(alloc, files, &draft, table, cert);
-            Some(draft.settle(alloc, files, written)?)
-        }
-        None => None,
-    };
-    Ok(Report::Certified {
+    let taken = write_certificate(alloc, files, path, table, cert)?;
+    let report = Report::Certified {
         records: cert.len(),
-        bytes,
-    })
+        bytes: count_of(&taken),
+    };
+    Ok(Certification { report, taken })
 }
 
-// Writes a trace to the draft of the file at this path, and says how many bytes it has.
-fn put_trace<F: Files>(
-    alloc: Global,
-    files: &mut F,
-    draft: &Draft<'_>,
-    trace: &Trace,
-) -> Result<u64, Failure> {
-    let mut file = created(alloc, files, draft)?;
-    match trace.print(&mut file) {
-        Ok(()) => finished(alloc, draft, file),
-        Err(error) => Err(cannot_write(alloc, draft.name(), error.kind())),
-    }
-}
-
-// Writes a trace to this path, if there is one: how many bytes it has. A file that failed is told beside that.
+// Writes a trace to this path, if there is one. A file that failed is told beside that.
 fn write_trace<F: Files>(
     alloc: Global,
     files: &mut F,
     path: Option<&str>,
     trace: &Trace,
-) -> Result<(Option<u64>, Option<Failure>), Failure> {
+) -> Result<TraceFile, Failure>
+    ensures taken { IfOk result (λ file. HasTaken (trace_text trace.now.checked.client.arrays trace.now.labels) file.taken) }
+    ensures asked { IfOk result (λ file. IsAsked (is_some path.entry) file.taken file.unwritten) }
+{
     let Some(path) = path else {
-        return Ok((None, None));
+        return Ok(TraceFile {
+            taken: None,
+            unwritten: None,
+        });
     };
-    let draft = Draft::of(alloc, files, path)?;
-    let written = put_trace(alloc, files, &draft, trace);
-    match draft.settle(alloc, files, written) {
-        Ok(bytes) => Ok((Some(bytes), None)),
-        Err(Failure::CannotWrite(path)) => Ok((None, Some(Failure::CannotWrite(path)))),
+    match file_trace(alloc, files, path, trace) {
+        Ok(taken) => Ok(TraceFile {
+            taken: Some(taken),
+            unwritten: None,
+        }),
+        Err(Failure::CannotWrite(path)) => Ok(TraceFile {
+            taken: None,
+            unwritten: Some(Failure::CannotWrite(path)),
+        }),
         Err(failure) => Err(failure),
     }
 }
@@ -170,17 +150,21 @@ fn violated<F: Files>(
     trace: Trace,
 ) -> Result<Found, Failure>
     ensures labels { IfOk result (λ found. IsOfLabels (violation_of (first_fault trace.labels)) (length trace.labels) found.report) }
-    ensures trace { IfOk result (λ found. IsTold found.report found.trace) }
+    ensures trace { IfOk result (λ found. found.trace ≡ Some trace) }
+    ensures taken { IfOk result (λ found. HasTaken (trace_text trace.checked.client.arrays trace.labels) found.taken) }
+    ensures asked { IfOk result (λ found. IsAsked (is_some path.entry) found.taken found.unwritten) }
+    ensures counted { IfOk result (λ found. bytes_of found.report ≡ count_of found.taken) }
 {
-    let (bytes, unwritten) = write_trace(alloc, files, path, &trace)?;
+    let TraceFile { taken, unwritten } = write_trace(alloc, files, path, &trace)?;
     let report = Report::Violated {
         violation: trace.violation(),
         labels: trace.labels.len(),
-        bytes,
+        bytes: count_of(&taken),
     };
     Ok(Found {
         report,
         trace: Some(trace),
+        taken,
         unwritten,
         said: None,
     })
@@ -194,13 +178,16 @@ fn certified_last<F: Files>(
     path: Option<&str>,
     table: &Table,
     cert: Cert,
-) -> Result<Report, Failure>
+) -> Result<Certification, Failure>
     requires { record_count (tree_of cert) ≤ 4194304 }
-    ensures { IfOk result (IsOfRecords (record_count (tree_of cert))) }
+    ensures records { IfOk result (λ made. IsOfRecords (record_count (tree_of cert)) made.report) }
+    ensures taken { IfOk result (λ made. HasTaken (certificate table.now (tree_of cert)) made.taken) }
+    ensures asked { IfOk result (λ made. IsAsked (is_some path.entry) made.taken None) }
+    ensures counted { IfOk result (λ made. bytes_of made.report ≡ count_of made.taken) }
 {
-    let report = certified(alloc, files, path, table, &cert);
+    let made = certified(alloc, files, path, table, &cert);
     mem::forget(cert);
-    report
+    made
 }
 
 // What the records of a certificate show, in words; none where they are not asked for, or memory is wanting.
@@ -213,7 +200,7 @@ fn said_of(alloc: Global, checked: &Checked, cert: &Cert, asked: bool) -> Option
 }
 
 /// Searches the runs of the client of a program text, and writes the certificate that all are good, or the trace of one that
-/// is not, where there is a path for it.
+/// is not, where there is a path for it: what the file there takes is a valid certificate of the client, or the trace's text.
 ///
 /// Errors: `Program` with the first fault of the text; `Limit` where more states can be reached than the search may meet;
 /// `CannotWrite` where the file of a certificate failed; `Memory`.
@@ -228,6 +215,9 @@ pub fn verify<R: Threads + Wait + Sync, F: Files, L: Listener + Sync>(
 ) -> Result<Found, Failure>
     ensures report { IfOk result (λ found. IsReport program.now found.report) }
     ensures trace { IfOk result (λ found. IsTold found.report found.trace) }
+    ensures file { IfOk result (λ found. IsFiled program.now found.report found.trace found.taken) }
+    ensures asked { IfOk result (λ found. IsAskedFor (is_some search.now.cert) (is_some search.now.trace) found.report found.taken found.unwritten) }
+    ensures counted { IfOk result (λ found. bytes_of found.report ≡ count_of found.taken) }
 {
     let checked = checked_of(alloc, program)?;
     let outcome = explore(
@@ -242,10 +232,12 @@ pub fn verify<R: Threads + Wait + Sync, F: Files, L: Listener + Sync>(
     match outcome {
         Outcome::Certificate(table, cert) => {
             let said = said_of(alloc, &checked, &cert, verbose);
-            let report = certified_last(alloc, files, search.cert, &table, cert)?;
+            let made = certified_last(alloc, files, search.cert, &table, cert)?;
+            let Certification { report, taken } = made;
             Ok(Found {
                 report,
                 trace: None,
+                taken,
                 unwritten: None,
                 said,
             })

@@ -1,0 +1,12 @@
+pub mod Lists
+pub mod Growth
+pub mod TakingUp
+pub mod RowLemmas
+pub mod Filling
+pub mod SpanLemmas
+pub mod OwnSpans
+pub mod CellLists
+pub mod Items
+pub mod StartLemmas
+pub mod TableLemmas
+pub mod HullLemmas

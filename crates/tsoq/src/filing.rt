@@ -1,0 +1,127 @@
+//! Certificates and traces as files.
+
+ghost use Rattle.std.specs.Io.Buffered.{writer_buffer, writer_inner};
+ghost use Rattle.std.specs.Prelude.{◌≡◌, ◌++◌, IfOk};
+ghost use Rattle.tso_cert.specs.Certificates.{certificate};
+ghost use Rattle.tso_cert.specs.Trees.{tree_of};
+ghost use Rattle.tso_trace.specs.Grammar.{trace_text};
+
+use crate::counted::{Counted, Taken};
+use std::alloc::Global;
+use std::io;
+use std::io::{BufWriter, Write};
+use tso_cert::{Cert, WriteError};
+use tso_foot::Table;
+use tso_front::{Draft, Failure, Files, cannot_write};
+use tso_trace::Trace;
+
+// Writes out what waits before a writer, and says what the writer has taken.
+fn taken_by<W: Write + Drop>(mut out: BufWriter<Counted<W>>) -> io::Result<Taken>
+    ensures { IfOk result (λ taken. taken.which.numbers ≡ (writer_inner out).taken.which.numbers ++ writer_buffer out) }
+{
+    out.flush()?;
+    match out.into_inner() {
+        Ok(counted) => Ok(counted.taken()),
+        Err(error) => Err(error.into_error()),
+    }
+}
+
+// Writes a certificate, and says what the writer has taken: the one spelling of it. Leaf by leaf is written, some thousand bytes
+// each, so a buffer before the writer would only copy them.
+fn put_bytes<W: Write + Drop>(
+    alloc: Global,
+    table: &Table,
+    cert: &Cert,
+    out: W,
+) -> Result<Taken, WriteError>
+    ensures { IfOk result (λ taken. taken.which.numbers ≡ certificate table.now (tree_of cert.now)) }
+{
+    let mut out = Counted::new(out);
+    tso_cert::write(alloc, table, cert, &mut out)?;
+    match out.flush() {
+        Ok(()) => Ok(out.taken()),
+        Err(error) => Err(WriteError::Io(error)),
+    }
+}
+
+// Writes the text of a trace, and says what the writer has taken.
+fn put_text<W: Write + Drop>(alloc: Global, trace: &Trace, out: W) -> io::Result<Taken>
+    ensures { IfOk result (λ taken. taken.which.numbers ≡ trace_text trace.now.checked.client.arrays trace.now.labels) }
+{
+    let mut out = BufWriter::new(alloc, Counted::new(out))?;
+    trace.print(&mut out)?;
+    taken_by(out)
+}
+
+// Writes a certificate to the draft of a file, and says what the file has taken.
+fn put_certificate<F: Files>(
+    alloc: Global,
+    files: &mut F,
+    draft: &Draft<'_>,
+    table: &Table,
+    cert: &Cert,
+) -> Result<Taken, Failure>
+    ensures { IfOk result (λ taken. taken.which.numbers ≡ certificate table.now (tree_of cert.now)) }
+{
+    let file = match files.create(draft.path()) {
+        Ok(file) => file,
+        Err(error) => return Err(cannot_write(alloc, draft.name(), error.kind())),
+    };
+    match put_bytes(alloc, table, cert, file) {
+        Ok(taken) => Ok(taken),
+        Err(WriteError::Io(error)) => Err(cannot_write(alloc, draft.name(), error.kind())),
+        Err(WriteError::Memory) => Err(Failure::Memory),
+    }
+}
+
+// Writes a trace to the draft of a file, and says what the file has taken.
+fn put_trace<F: Files>(
+    alloc: Global,
+    files: &mut F,
+    draft: &Draft<'_>,
+    trace: &Trace,
+) -> Result<Taken, Failure>
+    ensures { IfOk result (λ taken. taken.which.numbers ≡ trace_text trace.now.checked.client.arrays trace.now.labels) }
+{
+    let file = match files.create(draft.path()) {
+        Ok(file) => file,
+        Err(error) => return Err(cannot_write(alloc, draft.name(), error.kind())),
+    };
+    match put_text(alloc, trace, file) {
+        Ok(taken) => Ok(taken),
+        Err(error) => Err(cannot_write(alloc, draft.name(), error.kind())),
+    }
+}
+
+/// Writes a certificate to this path, and says what the file there has taken: the one spelling of the certificate.
+///
+/// Errors: `CannotWrite`, and then what was there is as it was; `Memory`.
+pub fn file_certificate<F: Files>(
+    alloc: Global,
+    files: &mut F,
+    path: &str,
+    table: &Table,
+    cert: &Cert,
+) -> Result<Taken, Failure>
+    ensures { IfOk result (λ taken. taken.which.numbers ≡ certificate table.now (tree_of cert.now)) }
+{
+    let draft = Draft::of(alloc, files, path)?;
+    let written = put_certificate(alloc, files, &draft, table, cert);
+    draft.settle(alloc, files, written)
+}
+
+/// Writes a trace to this path, and says what the file there has taken: the trace's text.
+///
+/// Errors: `CannotWrite`, and then what was there is as it was; `Memory`.
+pub fn file_trace<F: Files>(
+    alloc: Global,
+    files: &mut F,
+    path: &str,
+    trace: &Trace,
+) -> Result<Taken, Failure>
+    ensures { IfOk result (λ taken. taken.which.numbers ≡ trace_text trace.now.checked.client.arrays trace.now.labels) }
+{
+    let draft = Draft::of(alloc, files, path)?;
+    let written = put_trace(alloc, files, &draft, trace);
+    draft.settle(alloc, files, written)
+}
