@@ -1,13 +1,14 @@
 -- States to which the runs are good.
 use Rattle.std.specs.Prelude.{◌≡◌, ◌<◌, ℕ, Bool, true, false, List, Option, None, Some, slice_get}
 use Rattle.tso_compact.specs.Plans.{IsStep}
-use Rattle.tso_compact.specs.declared.sort.StepKind.{StepKind}
-use Rattle.tso_compact.specs.declared.sort.StepKind.TheVariants as kinds
 use Rattle.tso_fifo.specs.Orders.{HasOrder}
 use Rattle.tso_judge.specs.Conditions.{HasNoStopped}
 use Rattle.tso_prog.specs.declared.client.Client.{Client}
 use Rattle.tso_state.specs.declared.actor.Actor.{Actor}
+use Rattle.tso_state.specs.declared.state.Core.{Core}
+use Rattle.tso_state.specs.declared.state.Core.TheVariants.{Idle, Running, Stopped}
 use Rattle.tso_state.specs.declared.state.State.{State}
+use Rattle.tso_state.specs.declared.state.Thread.{Thread}
 
 -- no fault has stopped a thread, and an order explains the calls
 pub record IsGood (c : Client) (s : State) : Type 0 where
@@ -21,15 +22,20 @@ AllGood c states = (n : ℕ) (s : State) → slice_get states n ≡ Some s → I
 abbrev pub AllGoodBelow : Client → List State → ℕ → Type 0
 AllGoodBelow c states m = (n : ℕ) (s : State) → n < m → slice_get states n ≡ Some s → IsGood c s
 
--- a step of this kind returns from a call
-abbrev pub is_return : Option StepKind → Bool
-is_return None = false
-is_return (Some kinds.Return) = true
-is_return (Some _) = false
+-- a call is running
+abbrev pub is_running : Core → Bool
+is_running Idle = false
+is_running (Running frame) = true
+is_running Stopped = false
 
--- where an order explains the calls of s, one explains those after the actor's step
-abbrev pub StaysExplained : Client → State → Actor → Type 0
-StaysExplained c s a = (t : State) → IsStep c s a t → HasOrder c.mode c.capacity s.history → HasOrder c.mode c.capacity t.history
+-- a call of the thread is, if there is such a one
+abbrev pub is_running_if : Option Thread → Bool
+is_running_if None = false
+is_running_if (Some thread) = is_running thread.core
+
+-- where an order explains the calls of a state from which the actor's step leads to t, one explains those of t
+abbrev pub StaysExplained : Client → Actor → State → Type 0
+StaysExplained c a t = (s : State) → IsStep c s a t → HasOrder c.mode c.capacity s.history → HasOrder c.mode c.capacity t.history
 
 -- state number known, which has a lower number, has the history of state number new
 pub record IsKnown (states : List State) (known new : ℕ) : Type 0 where

@@ -1,19 +1,19 @@
 //! New states: whether the runs to them are still good.
 
 ghost use Rattle.std.specs.Prelude.{◌≡◌, ◌↔◌, ◌<◌, true, false, IfOk, IsTrue, MatchBool, length, slice_get};
-ghost use Rattle.tso_search.specs.Goodness.{AllGoodBelow, HasOrderAt, HasNoOrderAt, IsKnown, StaysExplained, is_return};
+ghost use Rattle.tso_search.specs.Goodness.{AllGoodBelow, HasOrderAt, HasNoOrderAt, IsKnown, StaysExplained, is_running_if};
+ghost use Rattle.tso_prog.specs.declared.client.Client.{Client};
 ghost use Rattle.tso_search.specs.Reached.{IsBadAt};
 ghost use Rattle.tso_search.specs.Searched.{IsGoodAt};
 ghost use Rattle.tso_store.specs.Sheets.{IsKeptSuccessor};
 
 use crate::ending::has_order;
 use std::alloc::{AllocError, Global};
-use tso_compact::{StepKind, kind};
 use tso_flow::Checked;
 use tso_hist::Call;
 use tso_judge::has_no_stopped;
 use tso_prog::{Answer, CallKind};
-use tso_state::{Actor, Viewed};
+use tso_state::{Actor, Core, Viewed};
 use tso_store::Store;
 
 /// How many histories are noted at the most.
@@ -116,19 +116,25 @@ fn has_same_history<A: Viewed, B: Viewed>(a: &A, b: &B) -> bool
     true
 }
 
-// Whether a step of this kind returns from a call.
-fn is_return(kind: Option<StepKind>) -> bool
-    ensures { result ≡ is_return kind }
+// Whether a call of this thread is running.
+fn is_running<S: Viewed>(state: &S, number: usize) -> bool
+    ensures { result ≡ is_running_if (slice_get (S.state state.now).threads number) }
 {
-    matches!(kind, Some(StepKind::Return))
+    match state.thread(number) {
+        Some(thread) => matches!(thread.core, Core::Running(_)),
+        None => false,
+    }
 }
 
-// Whether an order that explains the calls explains them after the actor's step: a call that begins is left out of it, and only an
-// answer asks for more.
-fn stays_explained<S: Viewed>(checked: &Checked, state: &S, actor: Actor) -> bool
-    ensures { result ≡ true → StaysExplained checked.now.client (S.state state.now) actor }
+// Whether an order that explains the calls explains them after the actor's step, which has led to this state: one whose call is running
+// then has not returned, and a call that begins is left out of the order.
+fn stays_explained<S: Viewed>(after: &S, actor: Actor) -> bool
+    ensures { result ≡ true → (c : Client) → StaysExplained c actor (S.state after.now) }
 {
-    !is_return(kind(checked, state, actor))
+    match actor {
+        Actor::Exec(number) => is_running(after, number),
+        Actor::Drain(_) => true,
+    }
 }
 
 // Whether the history of state `new` is that of the state that is noted at its mark.
@@ -192,16 +198,13 @@ pub fn is_new_good(
     requires below { AllGoodBelow checked.now.client store.now.states new }
     ensures { IfOk result (λ good. MatchBool good (IsGoodAt checked.now.client store.now.states new) (IsBadAt checked.now.client store.now.states new)) }
 {
-    let Some(before) = store.view(number) else {
-        unreachable!()
-    };
     let Some(after) = store.view(new) else {
         unreachable!()
     };
     if !has_no_stopped(&after) {
         return Ok(false);
     }
-    if stays_explained(checked, &before, actor) {
+    if stays_explained(&after, actor) {
         return Ok(true);
     }
     is_explained(alloc, checked, store, judged, new)
