@@ -4,6 +4,7 @@ are ordered as Python orders them.
 
   certificate  ([item, ..], [item, ..], tree)    tree     (0, [record, ..]) or (1, tree, state, tree)
   item         (reads, writes)                   record   (state, end)
+    of version 2  (15 pairs (least, most), [(array, first, last), ..] of reads, and of writes)
   state        ([word, ..], [thread, ..], [[call, ..], ..])
   thread       (core, [(place, word), ..])       core     (0,), (1, position, 15 words, flags, [count, ..]) or (2,)
   call         (kind, [count, ..], answer)       kind     (0, argument) or (1,)
@@ -12,7 +13,7 @@ are ordered as Python orders them.
   entry        (thread, call, answer)
 """
 
-HEAD = b"TSOC\x01"
+HEAD = b"TSOC"
 WORD = (1 << 64) - 1
 POSITION, COUNT, FLAGS, MASK = 65_535, 255, 15, 65_535
 RECORDS, RECORDS_IN_A_LEAF, FORKS = 4_194_304, 64, 64
@@ -75,12 +76,25 @@ class Reader:
         return value
 
     def table(self):
-        """The head and the two lists of the table."""
+        """The head and the two lists of the table, of either version."""
         if not self.whole.startswith(HEAD):
             raise Malformed("K01")
         self.at = len(HEAD)
-        item = lambda: (self.number(MASK), self.number(MASK))
+        version = self.byte(3)
+        if version == 0:
+            raise Malformed("K01")
+        item = self.masks if version == 1 else self.intervals
         return self.items(item), self.items(item)
+
+    def masks(self):
+        return self.number(MASK), self.number(MASK)
+
+    def cells(self):
+        return tuple(self.numbers(3, POSITION))
+
+    def intervals(self):
+        words = self.numbers(30)
+        return tuple(zip(words[::2], words[1::2])), self.items(self.cells), self.items(self.cells)
 
     def certificate(self):
         push, pop = self.table()
@@ -176,6 +190,13 @@ def pair(it):
     return number(it[0]) + number(it[1])
 
 
+def item(it):
+    if len(it) == 2:
+        return pair(it)
+    cells = lambda list_: many(list_, lambda piece: b"".join(map(number, piece)))
+    return b"".join(map(pair, it[0])) + cells(it[1]) + cells(it[2])
+
+
 def answer(it):
     return bytes(it[:1]) + b"".join(map(number, it[1:]))
 
@@ -216,7 +237,8 @@ def tree(it):
 def spell(certificate):
     """The bytes of a certificate."""
     push, pop, grown = certificate
-    return HEAD + many(push, pair) + many(pop, pair) + tree(grown)
+    version = b"\x02" if any(len(it) == 3 for it in push + pop) else b"\x01"
+    return HEAD + version + many(push, item) + many(pop, item) + tree(grown)
 
 
 def records(it):

@@ -1,6 +1,7 @@
 # Completions of fish for tsoq and tsoq-check. Copy this file to ~/.config/fish/completions/.
 complete -c tsoq -n __fish_use_subcommand -f -a verify -d 'searches all runs of a program, for a certificate that they are good or a trace of one that is not'
 complete -c tsoq -n __fish_use_subcommand -f -a check -d 'decides a certificate: where it is accepted, every run of the program is good'
+complete -c tsoq -n __fish_use_subcommand -f -a upgrade -d 'writes an accepted certificate anew, in version 2, without a search'
 complete -c tsoq -n __fish_use_subcommand -f -a coverage -d 'says what the records of an accepted certificate show, and what they leave out'
 complete -c tsoq -n __fish_use_subcommand -f -a replay -d 'walks the machine along a trace, and prints its labels, the state and what is wrong'
 complete -c tsoq -n __fish_use_subcommand -f -a survey -d 'searches all clients of a queue up to a size'
@@ -9,6 +10,7 @@ complete -c tsoq -n __fish_use_subcommand -f -a parse -d 'reads a program, and s
 complete -c tsoq -n __fish_use_subcommand -f -a explain -d 'says what a code means, with a small text that is refused with it and the mended text'
 complete -c tsoq -n '__fish_seen_subcommand_from verify' -l out -d 'where the certificate is written, if it is to be' -r -F
 complete -c tsoq -n '__fish_seen_subcommand_from verify' -l trace -d 'where the trace is written, if it is to be' -r -F
+complete -c tsoq -n '__fish_seen_subcommand_from verify' -l form -d 'which version of certificates is written, 1 or 2 [default: 1]' -x -a '1 2'
 complete -c tsoq -n '__fish_seen_subcommand_from verify' -l workers -d 'how many workers search, 1 to 64 [default: 1]' -x
 complete -c tsoq -n '__fish_seen_subcommand_from verify' -l states -d 'how many states the search may meet, 1 to 4194304 [default: 4194304]' -x
 complete -c tsoq -n '__fish_seen_subcommand_from verify' -l stats -d 'says on standard error how much was met and written, and in what time'
@@ -24,6 +26,11 @@ complete -c tsoq -n '__fish_seen_subcommand_from check' -l client -d 'the calls 
 complete -c tsoq -n '__fish_seen_subcommand_from check' -l before -d 'the calls of the prologue, in place of the text\'s; none where they are blank' -x
 complete -c tsoq -n '__fish_seen_subcommand_from check' -l mode -d 'strict or weak, in place of what the text says' -x -a 'strict weak'
 complete -c tsoq -n '__fish_seen_subcommand_from check' -l verbose -d 'says on standard error, behind the promised lines, why'
+complete -c tsoq -n '__fish_seen_subcommand_from upgrade' -l out -d 'where the new certificate is written' -r -F
+complete -c tsoq -n '__fish_seen_subcommand_from upgrade' -l client -d 'the calls of the threads, in place of the text\'s: push 1, push 2 | pop' -x
+complete -c tsoq -n '__fish_seen_subcommand_from upgrade' -l before -d 'the calls of the prologue, in place of the text\'s; none where they are blank' -x
+complete -c tsoq -n '__fish_seen_subcommand_from upgrade' -l mode -d 'strict or weak, in place of what the text says' -x -a 'strict weak'
+complete -c tsoq -n '__fish_seen_subcommand_from upgrade' -l verbose -d 'says on standard error, behind the promised lines, why'
 complete -c tsoq -n '__fish_seen_subcommand_from coverage' -l workers -d 'how many workers check, 1 to 64 [default: 1]' -x
 complete -c tsoq -n '__fish_seen_subcommand_from coverage' -l json -d 'prints objects of JSON, one a line, in place of the lines'
 complete -c tsoq -n '__fish_seen_subcommand_from coverage' -l client -d 'the calls of the threads, in place of the text\'s: push 1, push 2 | pop' -x
@@ -79,7 +86,7 @@ complete -c tsoq -n '__fish_seen_subcommand_from parse' -l client -d 'the calls 
 complete -c tsoq -n '__fish_seen_subcommand_from parse' -l before -d 'the calls of the prologue, in place of the text\'s; none where they are blank' -x
 complete -c tsoq -n '__fish_seen_subcommand_from parse' -l mode -d 'strict or weak, in place of what the text says' -x -a 'strict weak'
 complete -c tsoq -n '__fish_seen_subcommand_from parse' -l verbose -d 'says on standard error, behind the promised lines, why'
-complete -c tsoq -n '__fish_seen_subcommand_from explain' -f -a 'E01 E02 E03 E04 E05 E06 E07 E08 E09 E10 E11 E12 E13 E14 K01 K02 K03 K04 K05 K06 K07 K08 K09 K10 K11 T01 T02 T03'
+complete -c tsoq -n '__fish_seen_subcommand_from explain' -f -a 'E01 E02 E03 E04 E05 E06 E07 E08 E09 E10 E11 E12 E13 E14 K01 K02 K03 K04 K05 K06 K07 K08 K09 K10 K11 K12 T01 T02 T03'
 complete -c tsoq-check -l workers -d 'how many workers check, 1 to 64 [default: 1]' -x
 complete -c tsoq-check -l json -d 'prints objects of JSON, one a line, in place of the lines'
 complete -c tsoq-check -l client -d 'the calls of the threads, in place of the text\'s: push 1, push 2 | pop' -x

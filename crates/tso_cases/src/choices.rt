@@ -6,7 +6,7 @@ use crate::input::{before, behind, index_at, word};
 use std::alloc::{AllocError, Global};
 use tso_choose::{Choice, choose, chosen};
 use tso_flow::Checked;
-use tso_foot::{Masks, Table, build, is_closed};
+use tso_foot::{ArrayTable, Masks, Table, build, is_closed};
 use tso_indep::{Reason, holds};
 use tso_state::{State, is_well_formed};
 
@@ -28,12 +28,19 @@ fn put_masks(masks: &[Masks], out: &mut String) -> Result<(), AllocError> {
     Ok(())
 }
 
-// Writes the least closed table.
-fn put_table(checked: &Checked, table: &Table, out: &mut String) -> Result<(), AllocError> {
+// Writes the masks of both procedures.
+fn put_arrays(table: &ArrayTable, out: &mut String) -> Result<(), AllocError> {
     out.push_str("push ")?;
     put_masks(table.push.as_slice(), out)?;
     out.push_str("pop ")?;
-    put_masks(table.pop.as_slice(), out)?;
+    put_masks(table.pop.as_slice(), out)
+}
+
+// Writes the least closed table.
+fn put_table(checked: &Checked, table: &Table, out: &mut String) -> Result<(), AllocError> {
+    if let Table::Arrays(table) = table {
+        put_arrays(table, out)?;
+    }
     let closed = is_closed(checked, table);
     write!(out, "{closed}")
 }

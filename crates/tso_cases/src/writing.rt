@@ -6,7 +6,7 @@ use std::alloc::Global;
 use std::io;
 use std::io::{Error, ErrorKind, Write};
 use tso_cert::Cert;
-use tso_foot::Table;
+use tso_foot::{ArrayTable, Table};
 use tso_list::{Seq, write_bytes};
 use tso_rec::Packed;
 
@@ -54,10 +54,10 @@ fn writer_of(alloc: Global, call: &str) -> Result<Failing, Failure> {
 
 // No calls, no words and no threads.
 fn write_empty(alloc: Global, writer: &mut Failing) -> bool {
-    let table = Table {
+    let table = Table::Arrays(ArrayTable {
         push: Seq::new(alloc),
         pop: Seq::new(alloc),
-    };
+    });
     let cert = Cert::Leaf(Packed::new(alloc));
     tso_cert::write(alloc, &table, &cert, writer).is_ok()
 }

@@ -1,7 +1,7 @@
 -- Cells of lists, and the cells of a memory operand.
 use Rattle.std.proofs.Common.{◌≡◌, ◌∙◌, ℕ, zero, suc, ◌+◌, ◌-◌, ◌^◌, ◌%◌, ◌≤◌, ◌<◌, inl, inr, Bool, true, false, ◌&&◌, ◌||◌, nat_le, nat_lt, ◌==◌, if◌then◌else◌, List, [], ◌∷◌, length, Option, None, Some, slice_get, refl, sym, ap, subst, arith}
 use Rattle.std.specs.Prelude.{sum_by, ℤ, pos, negsuc, ◌+ℤ◌}
-use Rattle.std.proofs.lemmas.Bool.{and_from, and_parts, eqb-true, false≢true, le-leb, leb-true, lt-ltb, ltb-true, or_cases}
+use Rattle.std.proofs.lemmas.Bool.{and_from, and_parts, eqb-true, false≢true, le-leb, leb-true, lt-ltb, ltb-true, or_cases, or_left, or_right}
 use Rattle.std.proofs.lemmas.Int.{ints}
 use Rattle.std.proofs.lemmas.List.Sums.{sum_by-cons}
 use Rattle.std.proofs.lemmas.Option.{none-some, same_Some}
@@ -18,14 +18,6 @@ use Rattle.tso_machine.specs.declared.frame.Frame.{Frame}
 use Rattle.tso_prog.specs.declared.client.Array.{Array}
 
 -- ---- lists
-
-or_left : (x y : Bool) → x ≡ true → (x || y) ≡ true
-or_left true y e = refl
-or_left false y e = absurd (false≢true e)
-
-or_right : (x y : Bool) → y ≡ true → (x || y) ≡ true
-or_right true y e = refl
-or_right false y e = e
 
 cell_by : (arrays : List Array) (c : Cells) (place : ℕ) → first_place arrays c.array + c.lo ≤ place → place ≤ first_place arrays c.array + c.hi → is_cell arrays c place ≡ true
 cell_by arrays c place low high =

@@ -24,6 +24,7 @@ use Rattle.tso_line.specs.declared.instruction.CallKind.{CallKind}
 use Rattle.tso_line.specs.declared.instruction.CallKind.TheVariants as kinds
 use Rattle.tso_line.specs.declared.instruction.Instruction.{Instruction}
 use Rattle.tso_line.specs.declared.instruction.Instruction.TheVariants as the
+use Rattle.tso_machine.proofs.CallLists.{none_past}
 use Rattle.tso_machine.proofs.Edges.{follow_edges}
 use Rattle.tso_machine.proofs.Ranked.{ranked}
 use Rattle.tso_machine.specs.Activations.{Activation}
@@ -36,12 +37,6 @@ use Rattle.tso_model.specs.Programs as model
 use Rattle.tso_model.specs.Table.{Below, IsClosedAt}
 use Rattle.tso_prog.specs.Views.{call_view}
 use Rattle.tso_prog.specs.declared.client.Client.{Client}
-
--- inside a list there is an item
-missing : {X : Type 0} (xs : List X) (n : ℕ) → slice_get xs n ≡ None → n < length xs → ⊥
-missing [] n e small = omega (arith, small)
-missing (x ∷ xs) zero e small = none-some x (sym e)
-missing (x ∷ xs) (suc n) e small = missing xs n e (omega (arith, small))
 
 -- ---- items
 
@@ -63,7 +58,7 @@ item_there c t a step is e =
   where
     go : (o : Option Item) → slice_get (items_of t a.procedure) a.frame.pc ≡ o → IsListInductive c.arrays (instructions_of c a.procedure) (items_of t a.procedure)
         → a.frame.pc < length (instructions_of c a.procedure) → HasItem c t a step
-    go None at l lt = absurd (missing (items_of t a.procedure) a.frame.pc at (omega (arith, lt, l.lengths)))
+    go None at l lt = let past = none_past (items_of t a.procedure) a.frame.pc at in absurd (omega (arith, past, lt, l.lengths))
     go (Some item) at l lt = record { item = item; at = at; is = l.each a.frame.pc step item e at }
 
 edge_goes : (o : Option (Instruction ℕ ℕ)) (step : Instruction ℕ ℕ) (i j : ℕ) → o ≡ Some step → goes_on_from None o i j ≡ true → goes_on step i j ≡ true
@@ -158,7 +153,7 @@ lie_wider (x ∷ xs) (y ∷ ys) (w ∷ ws) e inside h =
     let parts = and_parts (has x w) (lie_in xs ws) h in
     and_from (has y w) (lie_in ys ws) (wider x y w (inside zero x y refl refl) parts.0) (lie_wider xs ys ws (omega (arith, e)) (λ n. inside (suc n)) parts.1)
 
-moved_length : (xs : List Interval) (i : Instruction ℕ ℕ) → length (moved xs i) ≡ length xs
+pub moved_length : (xs : List Interval) (i : Instruction ℕ ℕ) → length (moved xs i) ≡ length xs
 moved_length xs (the.Move to from) = length-set xs _ _
 moved_length xs (the.Load to from) = length-set xs _ _
 moved_length xs (the.Store to from) = refl
@@ -189,7 +184,7 @@ lie_item c t a step here j ws is edge (Some next) at h =
   where
     go : (o : Option (Instruction ℕ ℕ)) → slice_get (instructions_of c a.procedure) j ≡ o → IsListInductive c.arrays (instructions_of c a.procedure) (items_of t a.procedure)
         → j < length (items_of t a.procedure) → length (moved here.item.registers step) ≡ 15 → AreInside (moved here.item.registers step) next.registers → lie_in next.registers ws ≡ true
-    go None none l lt e inside = absurd (missing (instructions_of c a.procedure) j none (omega (arith, lt, l.lengths)))
+    go None none l lt e inside = let past = none_past (instructions_of c a.procedure) j none in absurd (omega (arith, past, lt, l.lengths))
     go (Some one) some l lt e inside = lie_wider (moved here.item.registers step) next.registers ws (e ∙ sym (l.each j one next some at).proper.count) inside h
 
 lies_next : (c : Client) (t : IntervalTable) (a b : Activation) (step : Instruction ℕ ℕ) → IsInductive c t → HasItem c t a step → instruction_at c a ≡ Some step → IsNext c a b

@@ -1,22 +1,13 @@
 //! The cells that an instruction itself may access, where registers lie in intervals.
 
-ghost use Rattle.std.specs.Prelude.{◌≡◌, ◌<◌, option_to_list, Some};
+ghost use Rattle.std.specs.Prelude.{◌≡◌, option_to_list, Some};
 ghost use Rattle.tso_cells.specs.Cells.{cut, greatest_index, index_interval, least_index, operand_cells, own_reads, own_writes};
-ghost use Rattle.tso_flow.specs.Accesses.{register_number};
 
 use crate::lists::array_len;
 use crate::table::Cells;
-use tso_interval::Interval;
+use tso_interval::{Interval, register_number};
 use tso_line::{Address, Instruction, Register};
 use tso_prog::{Array, Step};
-
-// The place of a register in the order of registers.
-pub(crate) fn register_number(register: Register) -> usize
-    ensures is { result ≡ register_number register }
-    ensures below { result < 15 }
-{
-    register as usize
-}
 
 // The interval of the index register. Without one the index is 0.
 fn index_interval(registers: &[Interval; 15], index: Option<Register>) -> Interval

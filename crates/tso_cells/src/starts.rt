@@ -5,9 +5,8 @@ ghost use Rattle.tso_cells.specs.Inductive.{AreStarts, HasArgument, HasZero, Hav
 ghost use Rattle.tso_flow.specs.Calls.{calls_of_client};
 ghost use Rattle.tso_interval.specs.Laws.{AreFirst};
 
-use crate::own::register_number;
 use crate::table::{IntervalTable, Item};
-use tso_interval::{ALL_WORDS, Interval};
+use tso_interval::{ALL_WORDS, Interval, register_number};
 use tso_list::Seq;
 use tso_prog::{CallKind, Client, Register};
 

@@ -3,5 +3,7 @@ pub mod Opening
 pub mod TreeCode
 pub mod LimitPassed
 pub mod LookupLemmas
+pub mod NeedLemmas
+pub mod SeenLemmas
 pub mod Uniqueness
 pub mod WriteLemmas

@@ -3,3 +3,4 @@ pub mod Certificates
 pub mod Limits
 pub mod Lookup
 pub mod Search
+pub mod Seen

@@ -5,6 +5,7 @@ mod cert;
 mod decoding;
 mod encoding;
 mod fault;
+mod intervals;
 mod lookup;
 mod workers;
 
@@ -12,4 +13,5 @@ pub use cert::Cert;
 pub use decoding::{decode, read_table, read_tree};
 pub use encoding::{encode, write};
 pub use fault::{DecodeError, Fault, WriteError};
+pub use intervals::build_intervals;
 pub use workers::{NoWatch, Watch, Workers};

@@ -18,6 +18,7 @@ use Rattle.tso_compact.specs.Plans.{kind_of_move}
 use Rattle.tso_fifo.specs.Orders.{order_view}
 use Rattle.tso_flow.specs.declared.location.ProcedureKind.{ProcedureKind}
 use Rattle.tso_foot.specs.declared.table.Table.{Table}
+use Rattle.tso_foot.specs.Within.{IsWithin}
 use Rattle.tso_hist.specs.Views.{history_view}
 use Rattle.tso_judge.specs.Conditions.{HasNoStopped, IsKeptAfter, SuccessorsAreKept}
 use Rattle.tso_judge.specs.Judging.{AreMet}
@@ -135,7 +136,7 @@ module _ (c : Client) (t : Table) (tree : Tree) (valid : IsValidTree c t tree) w
       ((b : steps.Actor) (m' : model.State Activation) → Has (a ∷ rest) b → steps.step (program_of c) m b ≡ Some m' → Kept m')
 
   -- chosen actors of a record
-  chosen : (s : State) (choices : List Choice) → AreMet c t (SuccessorsAreKept c (tree_states tree) s (Choices choices)) s (Choices choices) → Closed (state_of s)
+  chosen : (s : State) (choices : List Choice) → AreMet c t (SuccessorsAreKept c (tree_states tree) s (Choices choices)) (IsWithin t s) s (Choices choices) → Closed (state_of s)
   chosen s [] met = absurd (let more = met.fits.some in omega (arith, more))
   chosen s (x ∷ rest) met =
       let choices = x ∷ rest in
@@ -147,7 +148,7 @@ module _ (c : Client) (t : Table) (tree : Tree) (valid : IsValidTree c t tree) w
       } in (
         actor_of x.actor,
         map actor_of (actors_of rest),
-        valid_choices_are_persistent c t s choices valid.closed met.well_formed sets,
+        valid_choices_are_persistent c t s choices valid.closed met.well_formed met.within sets,
         λ b m' h e.
             let (k, y, at, is) = had choices b h in
             let after = all_at (λ (z : Choice). IsKeptAfter c (tree_states tree) s z.actor) choices k y met.successors at in
@@ -156,7 +157,7 @@ module _ (c : Client) (t : Table) (tree : Tree) (valid : IsValidTree c t tree) w
       )
 
   closed_by : (s : State) (e : End) (a : steps.Actor) (m' : model.State Activation) → steps.step (program_of c) (state_of s) a ≡ Some m'
-      → AreMet c t (SuccessorsAreKept c (tree_states tree) s e) s e → Closed (state_of s)
+      → AreMet c t (SuccessorsAreKept c (tree_states tree) s e) (IsWithin t s) s e → Closed (state_of s)
   closed_by s (Choices choices) a m' step met = chosen s choices met
   closed_by s (Order order) a m' step met =
       let (b, is) = mover a in
@@ -187,7 +188,7 @@ module _ (c : Client) (t : Table) (tree : Tree) (valid : IsValidTree c t tree) w
       let (x, there, stopped) = stopped_thread (running_procedure (slice_index_or s.history i [])) (slice_get s.threads i) th (sym (slice_get-threads_view s.history s.threads i) ∙ at) is in
       none i (record { thread = x; at = there; stopped = stopped })
 
-  end_by : (s : State) (e : End) → Over (steps.step (program_of c)) (state_of s) → AreMet c t (SuccessorsAreKept c (tree_states tree) s e) s e → IsGoodEnd (state_of s)
+  end_by : (s : State) (e : End) → Over (steps.step (program_of c)) (state_of s) → AreMet c t (SuccessorsAreKept c (tree_states tree) s e) (IsWithin t s) s e → IsGoodEnd (state_of s)
   end_by s (Choices []) over met = absurd (let more = met.fits.some in omega (arith, more))
   end_by s (Choices (x ∷ rest)) over met = absurd (let yes = all_at (λ (z : Choice). IsTrue (is_enabled c s z.actor)) (x ∷ rest) 0 x met.fits.enabled refl in off c s x.actor (over (actor_of x.actor)) yes)
   end_by s (Order order) over met = (no_stopped s met.unstopped, (order_view (history_view s.history) order, met.explained))

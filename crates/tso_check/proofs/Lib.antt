@@ -9,3 +9,4 @@ pub mod SpanLemmas
 pub mod StoredLemmas
 pub mod VerdictLemmas
 pub mod WalkLemmas
+pub mod UpgradeLemmas

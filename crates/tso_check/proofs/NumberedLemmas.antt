@@ -11,8 +11,9 @@ use Rattle.tso_check.proofs.VerdictLemmas.{initial_there}
 use Rattle.tso_check.specs.Numbered.{AreKeptFrom, IsJudgedAt, IsKeptFrom}
 use Rattle.tso_compact.specs.Laws.{initial_of}
 use Rattle.tso_compact.specs.Plans.{IsStep}
+use Rattle.tso_foot.specs.Within.{IsWithin}
 use Rattle.tso_foot.specs.declared.table.Table.{Table}
-use Rattle.tso_judge.proofs.JudgeLemmas.{all_met, alone_first, not_kept}
+use Rattle.tso_judge.proofs.JudgeLemmas.{all_met, alone_first, not_kept, not_within}
 use Rattle.tso_judge.specs.Conditions.{IsKeptAfter, SuccessorsAreKept}
 use Rattle.tso_judge.specs.Judging.{IsJudgedAlone}
 use Rattle.tso_judge.specs.Valid.{HasInitial}
@@ -102,8 +103,15 @@ module _ (c : Client) (states : List State) (n : ℕ) where
     pub fails_alone : (code : Code) → IsJudgedAlone c t view e (Some code) → IsJudgedAt c t states n e (Some code)
     fails_alone code alone s at = alone_first c t states s e code (alone_at s (Some code) at alone)
 
-    pub meets_all : IsJudgedAlone c t view e None → AreKeptFrom c states n e → IsJudgedAt c t states n e None
-    meets_all alone kept s at = all_met c t states s e (alone_at s None at alone) (are_kept s at e kept)
+    within_at : (s : State) → slice_get states n ≡ Some s → IsWithin t view → IsWithin t s
+    within_at s at within = subst (IsWithin t) (same_Some view s (sym found ∙ at)) within
+
+    pub meets_all : IsJudgedAlone c t view e None → AreKeptFrom c states n e → IsWithin t view → IsJudgedAt c t states n e None
+    meets_all alone kept within s at = all_met c t states s e (alone_at s None at alone) (are_kept s at e kept) (within_at s at within)
+
+    pub lies_elsewhere : IsJudgedAlone c t view e None → AreKeptFrom c states n e → (IsWithin t view → ⊥) → IsJudgedAt c t states n e (Some faults.K12)
+    lies_elsewhere alone kept fails s at =
+        not_within c t states s e (alone_at s None at alone) (are_kept s at e kept) (λ w. fails (subst (IsWithin t) (same_Some s view (sym at ∙ found)) w))
 
     pub fails_among : IsJudgedAlone c t view e None → (AreKeptFrom c states n e → ⊥) → IsJudgedAt c t states n e (Some faults.K08)
     fails_among alone fails s at = not_kept c t states s e (alone_at s None at alone) (λ k. fails (kept_are s at e k))

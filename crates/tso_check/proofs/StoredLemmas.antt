@@ -16,6 +16,7 @@ use Rattle.tso_check.specs.Verdicts.{IsTreeFault, IsVerdict, no_initial, not_clo
 use Rattle.tso_check.specs.declared.judging.Bad.{Bad}
 use Rattle.tso_check.specs.declared.verdict.Verdict.{Verdict}
 use Rattle.tso_foot.specs.Closed.{IsClosed}
+use Rattle.tso_foot.specs.Within.{IsWithin}
 use Rattle.tso_judge.specs.Conditions.{SuccessorsAreKept}
 use Rattle.tso_judge.specs.Judging.{AreMet, IsFirstFault}
 use Rattle.tso_judge.specs.Valid.{HasInitial}
@@ -74,8 +75,8 @@ module _ (c : Client) (s : Scanned) (stored : IsStored c s) where
         let parts = its_parts s.store.states s.ends k r stored.long at in
         let met = judged r.state (ap (slice_get s.store.states) same ∙ parts.0) in
         let its_end : e ≡ r.end = same_Some e r.end (there ∙ ap (slice_get s.ends) same ∙ parts.1) in
-        let here : AreMet c s.table (SuccessorsAreKept c s.store.states r.state r.end) r.state r.end = subst (λ (d : End). AreMet c s.table (SuccessorsAreKept c s.store.states r.state d) r.state d) its_end met in
-        subst (λ (l : List State). AreMet c s.table (SuccessorsAreKept c l r.state r.end) r.state r.end) (sym (states_with s.store.states s.ends stored.long)) here
+        let here : AreMet c s.table (SuccessorsAreKept c s.store.states r.state r.end) (IsWithin s.table r.state) r.state r.end = subst (λ (d : End). AreMet c s.table (SuccessorsAreKept c s.store.states r.state d) (IsWithin s.table r.state) r.state d) its_end met in
+        subst (λ (l : List State). AreMet c s.table (SuccessorsAreKept c l r.state r.end) (IsWithin s.table r.state) r.state r.end) (sym (states_with s.store.states s.ends stored.long)) here
   ]
 
   pub number_bad : (from to n : ℕ) (e : End) (code : Code) → from ≤ n → n < to → Some e ≡ slice_get s.ends n → AreValidBetween c s.table (records_with s.store.states s.ends) from n → IsJudgedAt c s.table s.store.states n e (Some code)
@@ -91,7 +92,7 @@ module _ (c : Client) (s : Scanned) (stored : IsStored c s) where
         found = record { state = x; end = e };
         at = of_parts s.store.states s.ends n x e at (sym there);
         before = valid;
-        fault = subst (λ (l : List State). IsFirstFault c s.table (SuccessorsAreKept c l x e) x e code) (sym (states_with s.store.states s.ends long)) fault;
+        fault = subst (λ (l : List State). IsFirstFault c s.table (SuccessorsAreKept c l x e) (IsWithin s.table x) x e code) (sym (states_with s.store.states s.ends long)) fault;
       }
 
   pub none_left : (from to n : ℕ) → None ≡ slice_get s.ends n → AreValidBetween c s.table (records_with s.store.states s.ends) from n → AreValidBetween c s.table (records_with s.store.states s.ends) from to

@@ -9,6 +9,7 @@ use Rattle.tso_judge.specs.Valid.{AreValidRecords, IsValidRecord}
 use Rattle.tso_check.specs.Verdicts.{AreJudged, IsFirstBadRecord}
 use Rattle.tso_check.specs.declared.judging.Bad.{Bad}
 use Rattle.tso_foot.specs.declared.table.Table.{Table}
+use Rattle.tso_foot.specs.Within.{IsWithin}
 use Rattle.tso_judge.specs.Conditions.{SuccessorsAreKept}
 use Rattle.tso_judge.specs.Judging.{AreMet, IsFirstFault}
 use Rattle.tso_judge.specs.declared.code.Code.{Code}
@@ -40,7 +41,7 @@ module _ (c : Client) (t : Table) (states : List State) where
   AreValidTo records n = (k : ℕ) (r : Record) → k < n → slice_get records k ≡ Some r → IsValidRecord c t states r
 
   pub valid_one_more : (records : List Record) (n : ℕ) (s : State) (e : End) → AreValidTo records n → slice_get (states_of records) n ≡ Some s → slice_get (ends_of records) n ≡ Some e
-      → AreMet c t (SuccessorsAreKept c states s e) s e → AreValidTo records (n + 1)
+      → AreMet c t (SuccessorsAreKept c states s e) (IsWithin t s) s e → AreValidTo records (n + 1)
   valid_one_more records n s e valid at is met k r lt there = elim (cases_lt k n) [
     | inl less ↦ valid k r less there
     | inr ge ↦
@@ -52,7 +53,7 @@ module _ (c : Client) (t : Table) (states : List State) where
   valid_all records n le valid k r at = let lt = slice_get_within records k r at in valid k r (omega (arith, lt, le)) at
 
   pub first_bad : (records : List Record) (n : ℕ) (s : State) (e : End) (code : Code) → AreValidTo records n → slice_get (states_of records) n ≡ Some s → slice_get (ends_of records) n ≡ Some e
-      → IsFirstFault c t (SuccessorsAreKept c states s e) s e code → IsFirstBadRecord c t states records n code
+      → IsFirstFault c t (SuccessorsAreKept c states s e) (IsWithin t s) s e code → IsFirstBadRecord c t states records n code
   first_bad records n s e code valid at is fault = record { bad = record { state = s; end = e }; at = record_at records n s e at is; before = valid; fault = fault }
 
   pub both_valid : (left right : List Record) → AreValidRecords c t states left → AreValidRecords c t states right → AreValidRecords c t states (left ++ right)

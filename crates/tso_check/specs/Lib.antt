@@ -3,4 +3,5 @@ pub mod Laws
 pub mod Numbered
 pub mod Risen
 pub mod Spans
+pub mod Upgrades
 pub mod Verdicts

@@ -7,6 +7,7 @@ use Rattle.tso_check.specs.declared.judging.Bad.{Bad}
 use Rattle.tso_check.specs.declared.verdict.Verdict.{Verdict}
 use Rattle.tso_foot.specs.Closed.{IsClosed}
 use Rattle.tso_foot.specs.declared.table.Table.{Table}
+use Rattle.tso_foot.specs.Within.{IsWithin}
 use Rattle.tso_judge.specs.Conditions.{SuccessorsAreKept}
 use Rattle.tso_judge.specs.Judging.{IsFirstFault}
 use Rattle.tso_judge.specs.Valid.{HasInitial, IsValidRecord}
@@ -52,7 +53,7 @@ pub record IsFirstBadBetween (c : Client) (t : Table) (records : List Record) (f
   pub found : Record
   pub at : slice_get records bad.place ≡ Some found
   pub before : AreValidBetween c t records from bad.place
-  pub fault : IsFirstFault c t (SuccessorsAreKept c (states_of records) found.state found.end) found.state found.end bad.code
+  pub fault : IsFirstFault c t (SuccessorsAreKept c (states_of records) found.state found.end) (IsWithin t found.state) found.state found.end bad.code
 
 -- all are valid, or this is the first that is not
 abbrev pub IsSpanJudged : Span → Option Bad → Type 0

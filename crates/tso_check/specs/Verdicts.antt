@@ -17,6 +17,7 @@ use Rattle.tso_check.specs.declared.verdict.Verdict.TheVariants.{Accepted, Rejec
 use Rattle.tso_check.specs.declared.judging.Bad.{Bad}
 use Rattle.tso_foot.specs.Closed.{IsClosed}
 use Rattle.tso_foot.specs.declared.table.Table.{Table}
+use Rattle.tso_foot.specs.Within.{IsWithin}
 use Rattle.tso_judge.specs.Codes.{code_text}
 use Rattle.tso_judge.specs.Conditions.{SuccessorsAreKept}
 use Rattle.tso_judge.specs.Judging.{IsFirstFault}
@@ -46,7 +47,7 @@ pub record IsFirstBadRecord (c : Client) (t : Table) (states : List State) (reco
   pub bad : Record
   pub at : slice_get records place ≡ Some bad
   pub before : (k : ℕ) (r : Record) → k < place → slice_get records k ≡ Some r → IsValidRecord c t states r
-  pub fault : IsFirstFault c t (SuccessorsAreKept c states bad.state bad.end) bad.state bad.end code
+  pub fault : IsFirstFault c t (SuccessorsAreKept c states bad.state bad.end) (IsWithin t bad.state) bad.state bad.end code
 
 -- the first condition of a table and a tree that fails, and the number of its record, if it is one of a record
 pub data IsTreeFault (c : Client) (t : Table) (tree : Tree) : Code → Option ℕ → Type 0 where

@@ -10,9 +10,11 @@ mod numbered;
 mod rising;
 mod stored;
 mod threads;
+mod upgrading;
 mod verdict;
 
 pub use deciding::{check, check_client, check_with};
 pub use laws::{accepted_runs_are_good, answers_are_unique, verdicts_are_unique};
 pub use tso_client::CheckError;
+pub use upgrading::{UpgradeError, upgrade};
 pub use verdict::Verdict;

@@ -1,6 +1,6 @@
 //! Records whose states lie in a store under the records' numbers.
 
-ghost use Rattle.std.specs.Prelude.{◌≡◌, ◌↔◌, ◌≤◌, All, IfOk, IsTrue, length};
+ghost use Rattle.std.specs.Prelude.{◌≡◌, ◌↔◌, ◌≤◌, All, IfOk, IsTrue, None, Some, length, slice_get};
 ghost use Rattle.std.specs.declared.cmp.Ordering.TheVariants.{Less};
 ghost use Rattle.tso_cert.specs.Lookup.{IsRising};
 ghost use Rattle.tso_check.specs.Numbered.{AreKeptFrom, IsJudgedAt, IsKeptFrom};
@@ -13,7 +13,7 @@ use crate::rising::is_less;
 use std::alloc::{AllocError, Global};
 use tso_choose::Choice;
 use tso_flow::Checked;
-use tso_foot::Table;
+use tso_foot::{Table, is_within};
 use tso_judge::{Code, judge_alone};
 use tso_rec::End;
 use tso_state::{Actor, initial_state};
@@ -98,6 +98,27 @@ fn judge_view(
     judge_alone(alloc, checked, table, view, view.history(), end)
 }
 
+// Where a kept state meets those conditions, K08 and K12 are left.
+fn judge_rest(
+    table: &Table,
+    store: &Store<'_>,
+    number: u32,
+    view: &View<'_>,
+    end: &End,
+) -> Option<Code>
+    requires state { slice_get store.now.states number ≡ Some view.now }
+    requires alone { IsJudgedAlone store.now.client table.now view.now end.now None }
+    ensures { IsJudgedAt store.now.client table.now store.now.states number end.now result }
+{
+    if !are_successors_kept(store, number, end) {
+        return Some(Code::K08);
+    }
+    if !is_within(table, view) {
+        return Some(Code::K12);
+    }
+    None
+}
+
 /// The first condition that the state of this number fails with an end, if there is such a state.
 ///
 /// Errors: where a growth was refused.
@@ -117,11 +138,6 @@ pub fn judge_number(
     };
     match judge_view(alloc, checked, table, &view, end)? {
         Some(code) => Ok(Some(code)),
-        None => {
-            if are_successors_kept(store, number, end) {
-                return Ok(None);
-            }
-            Ok(Some(Code::K08))
-        }
+        None => Ok(judge_rest(table, store, number, &view, end)),
     }
 }

@@ -525,7 +525,7 @@ position_within i j n lt own apart = elim (cases_lt j i) [
 ]
 
 pub valid_choices_are_persistent : (c : Client) → ValidChoicesArePersistent c
-valid_choices_are_persistent c t s choices closed w valid = true_reasons_are_persistent c t s (actors_of choices) closed w each
+valid_choices_are_persistent c t s choices closed w within valid = true_reasons_are_persistent c t s (actors_of choices) closed w within each
   where
     one : (n : ℕ) (x : Choice) → slice_get choices n ≡ Some x → IsValid c t s (actors_of choices) x.actor
     one n x at =

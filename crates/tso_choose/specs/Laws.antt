@@ -3,6 +3,7 @@ use Rattle.std.specs.Prelude.{◌≡◌, List, map}
 use Rattle.tso_choose.specs.Choices.{AreChosen, AreValid, actors_of}
 use Rattle.tso_choose.specs.declared.choice.Choice.{Choice}
 use Rattle.tso_foot.specs.Closed.{IsClosed}
+use Rattle.tso_foot.specs.Within.{IsWithin}
 use Rattle.tso_foot.specs.declared.table.Table.{Table}
 use Rattle.tso_machine.specs.Programs.{program_of}
 use Rattle.tso_model.specs.Reduce.{Persistent}
@@ -22,7 +23,7 @@ ChosenAreValid c = (t : Table) (s : State) (choices : List Choice) → IsWellFor
 abbrev pub ChoicesAreDetermined : Client → Type 0
 ChoicesAreDetermined c = (t : Table) (s : State) (choices others : List Choice) → AreChosen c t s choices → AreChosen c t s others → choices ≡ others
 
--- over a closed table, valid choices at a well-formed state are persistent
+-- over a closed table, valid choices at a well-formed state whose running registers lie where the table says are persistent
 abbrev pub ValidChoicesArePersistent : Client → Type 0
-ValidChoicesArePersistent c = (t : Table) (s : State) (choices : List Choice) → IsClosed c t → IsWellFormed c s → AreValid c t s choices
+ValidChoicesArePersistent c = (t : Table) (s : State) (choices : List Choice) → IsClosed c t → IsWellFormed c s → IsWithin t s → AreValid c t s choices
     → Persistent (step (program_of c)) AtLeast (state_of s) (map actor_of (actors_of choices))

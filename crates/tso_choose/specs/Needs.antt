@@ -4,7 +4,7 @@ use Rattle.tso_choose.specs.Sets.{has}
 use Rattle.tso_compact.specs.Plans.{thread_in}
 use Rattle.tso_compact.specs.declared.sort.StepKind.{StepKind}
 use Rattle.tso_compact.specs.declared.sort.StepKind.TheVariants as kinds
-use Rattle.tso_foot.specs.Futures.{future_masks}
+use Rattle.tso_foot.specs.Ahead.{future_reads, future_writes}
 use Rattle.tso_foot.specs.declared.table.Table.{Table}
 use Rattle.tso_indep.specs.Reasons.{is_done, is_far, is_free, kind_in, place_of}
 use Rattle.tso_prog.specs.declared.client.Client.{Client}
@@ -26,7 +26,7 @@ abbrev pub is_apart : Client → Table → State → StepKind → ℕ → Bool
 is_apart c t s kinds.Local j = true
 is_apart c t s kinds.Return j = true
 is_apart c t s kinds.Call j = is_done c s j (thread_in s j).core
-is_apart c t s kind j = is_far c.arrays (future_masks c t s j) kind
+is_apart c t s kind j = is_far (future_reads c t s j) (future_writes c t s j) kind
 
 -- against thread j it needs j's core alone, which has a step, since nothing in j's buffer is for its place
 abbrev pub is_served : Client → State → StepKind → ℕ → Bool

@@ -15,8 +15,8 @@ pub fn choices_are_determined(checked: &Checked)
     ensures { ChoicesAreDetermined checked.now.client }
 {}
 
-/// Over a closed table valid choices at a well-formed state are persistent: whatever steps others take, each chosen actor
-/// could have gone first.
+/// Over a closed table valid choices at a well-formed state, whose running registers lie where the table says, are persistent:
+/// whatever steps others take, each chosen actor could have gone first.
 pub fn valid_choices_are_persistent(checked: &Checked)
     ensures { ValidChoicesArePersistent checked.now.client }
 {}

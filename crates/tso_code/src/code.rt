@@ -1,5 +1,6 @@
 //! Values with one spelling: numbers and lists.
 ghost use Rattle.std.specs.Prelude.{◌≡◌, [], Err, None, ◌++◌, ◌<◌, ◌^◌, ◌+◌, ◌*◌, ℕ, List, Result, length, OnOk, IfSome, option_map};
+ghost use Rattle.std.specs.List.{flat_map};
 ghost use Rattle.tso_code.specs.Fields.{Gives, items_at, list, list_at, ListFits};
 ghost use Rattle.tso_code.specs.Numbers.{Reading, digits, digits_at, number, number_at, below_at};
 ghost use Rattle.tso_code.specs.declared.code.ReadError.TheVariants.{Memory};
@@ -261,15 +262,41 @@ pub fn read_items<T: Code>(
     Ok((items, rest))
 }
 
+/// Fifteen items, one after the other with no count, and the bytes after them.
+pub(crate) fn read_fifteen<T: Code + Copy>(
+    alloc: Global,
+    blank: T,
+    bytes: &[u8],
+) -> Result<([T; 15], &[u8]), ReadError>
+    ensures read { Gives (λ x. (x.0, x.1.now)) result (items_at T.read_at 15 bytes.now) }
+    ensures empty { bytes.now ≡ [] → result ≡ Err ReadError.Malformed }
+{
+    let mut items = [blank; 15];
+    let mut rest = bytes;
+    for i in 0..15 {
+        let (item, after) = T::read(alloc, rest)?;
+        items[i] = item;
+        rest = after;
+    }
+    Ok((items, rest))
+}
+
+/// Puts the items at the end, one after the other with no count.
+pub(crate) fn write_items<T: Code>(items: &[T], out: &mut Vec<u8>) -> Result<(), AllocError>
+    ensures { OnOk result (out.new.items ≡ out.old.items ++ flat_map T.spell items.now) }
+{
+    for item in items {
+        item.write(out)?;
+    }
+    Ok(())
+}
+
 /// Puts the count of the items and then the items at the end.
 pub fn write_list<T: Code>(items: &[T], out: &mut Vec<u8>) -> Result<(), AllocError>
     ensures { OnOk result (out.new.items ≡ out.old.items ++ list T.spell items.now) }
 {
     write_number(items.len() as u64, out)?;
-    for item in items {
-        item.write(out)?;
-    }
-    Ok(())
+    write_items(items, out)
 }
 
 impl<T: Code> Code for Seq<T> {

@@ -5,7 +5,10 @@ ghost use Rattle.tso_code.specs.Fields.{Gives, list, list_at, ListFits};
 ghost use Rattle.tso_code.specs.Numbers.{Reading, number, number_at};
 ghost use Rattle.tso_code.specs.States.{FlagsFit, flags_of, flags_at, registers, registers_at, RegistersFit, frame, frame_at, FrameFits, core, core_at, CoreFits, entry, entry_at, EntryFits, thread, thread_at, ThreadFits, kind, kind_at, KindFits, answer, answer_at, AnswerFits, any_answer, any_answer_at, AnyAnswerFits, call, call_at, CallFits, state, state_at, StateFits};
 
-use crate::code::{Code, ReadError, read_below, read_number, read_place, write_list, write_number};
+use crate::code::{
+    Code, ReadError, read_below, read_fifteen, read_number, read_place, write_items, write_list,
+    write_number,
+};
 use std::alloc::{AllocError, Global};
 use tso_hist::{Call, History};
 use tso_line::CallKind;
@@ -55,20 +58,6 @@ impl Code for Flags {
 }
 
 // The words of the registers, one after the other with no count.
-fn read_registers(bytes: &[u8]) -> Option<([u64; 15], &[u8])>
-    ensures read { option_map (λ x. (x.0, x.1.now)) result ≡ registers_at bytes.now }
-    ensures empty { bytes.now ≡ [] → result ≡ None }
-{
-    let mut words = [0; 15];
-    let mut rest = bytes;
-    for i in 0..15 {
-        let (word, after) = read_number(rest)?;
-        words[i] = word;
-        rest = after;
-    }
-    Some((words, rest))
-}
-
 impl Code for [u64; 15] {
     ghost Fits = { RegistersFit };
 
@@ -76,18 +65,13 @@ impl Code for [u64; 15] {
 
     ghost read_at = { registers_at };
 
-    fn read(_alloc: Global, bytes: &[u8]) -> Result<([u64; 15], &[u8]), ReadError> {
-        match read_registers(bytes) {
-            Some(read) => Ok(read),
-            None => Err(ReadError::Malformed),
-        }
+    #[tactic(auto, unfolding(crate::specs::States::registers_at))]
+    fn read(alloc: Global, bytes: &[u8]) -> Result<([u64; 15], &[u8]), ReadError> {
+        read_fifteen(alloc, 0, bytes)
     }
 
     fn write(&self, out: &mut Vec<u8>) -> Result<(), AllocError> {
-        for word in self {
-            word.write(out)?;
-        }
-        Ok(())
+        write_items(self, out)
     }
 }
 

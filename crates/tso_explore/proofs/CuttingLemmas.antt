@@ -25,7 +25,9 @@ use Rattle.tso_choose.specs.declared.choice.Choice.{Choice}
 use Rattle.tso_explore.specs.Cutting.{AreNumbers, AreRecordsOf, AreRising, IsCut, IsEndOf, IsFork, IsHalved, IsRecordOf}
 use Rattle.tso_explore.specs.Outcomes.{IsCertificate}
 use Rattle.tso_search.specs.Searched.{AreSearched, IsWorked}
+use Rattle.tso_foot.proofs.WithinLemmas.{reached_is_within}
 use Rattle.tso_foot.specs.Closed.{IsClosed, IsLeastClosed}
+use Rattle.tso_foot.specs.Within.{IsWithin as LiesWithin}
 use Rattle.tso_foot.specs.declared.table.Table.{Table}
 use Rattle.tso_judge.specs.Conditions.{IsOver, SuccessorsAreKept}
 use Rattle.tso_judge.specs.Judging.{AreMet}
@@ -112,8 +114,9 @@ none_over c t s choices w chosen none a = by_case (is_enabled c s a) refl
     by_case true e = absurd (let some = (chosen_are_valid c t s choices w chosen).some a e in omega (arith, none, some))
 
 -- a worked state with its end is a valid record
-valid_end : (c : Client) (t : Table) (states : List State) (s : State) (e : End) → IsWellFormed c s → IsWorked c t states s → IsEndOf c t s e → AreMet c t (SuccessorsAreKept c states s e) s e
-valid_end c t states s (Choices choices) w worked (chosen, some) =
+valid_end : (c : Client) (t : Table) (states : List State) (s : State) (e : End) → IsWellFormed c s → IsWorked c t states s → LiesWithin t s → IsEndOf c t s e
+    → AreMet c t (SuccessorsAreKept c states s e) (LiesWithin t s) s e
+valid_end c t states s (Choices choices) w worked within (chosen, some) =
     let valid = chosen_are_valid c t s choices w chosen in
     record {
       well_formed = w;
@@ -122,8 +125,10 @@ valid_end c t states s (Choices choices) w worked (chosen, some) =
       successors = worked.moves choices chosen;
       unstopped = tt;
       explained = tt;
+      within = within;
     }
-valid_end c t states s (Order order) w worked (over, explained) = record { well_formed = w; fits = over; reasons = tt; successors = tt; unstopped = worked.unstopped over; explained = explained }
+valid_end c t states s (Order order) w worked within (over, explained) =
+    record { well_formed = w; fits = over; reasons = tt; successors = tt; unstopped = worked.unstopped over; explained = explained; within = within }
 
 pub searched_well_formed : (c : Client) (t : Table) (states : List State) (n : ℕ) (s : State) → AreSearched c t states → slice_get states n ≡ Some s → IsWellFormed c s
 searched_well_formed c t states n s searched at = (searched.begun.met n s at).plausible.well_formed
@@ -131,10 +136,13 @@ searched_well_formed c t states n s searched at = (searched.begun.met n s at).pl
 pub searched_worked : (c : Client) (t : Table) (states : List State) (n : ℕ) (s : State) → AreSearched c t states → slice_get states n ≡ Some s → IsWorked c t states s
 searched_worked c t states n s searched at = searched.worked n s at
 
-pub worked_record : (c : Client) (t : Table) (states : List State) (n : ℕ) (s : State) (e : End) → AreSearched c t states → slice_get states n ≡ Some s → IsEndOf c t s e → IsRecordOf c t states n (record { state = s; end = e })
-worked_record c t states n s e searched at ends = record {
+pub searched_within : (c : Client) (t : Table) (states : List State) (n : ℕ) (s : State) → AreSearched c t states → IsClosed c t → slice_get states n ≡ Some s → LiesWithin t s
+searched_within c t states n s searched closed at = let met = searched.begun.met n s at in reached_is_within c t s met.reached.0 closed met.reached.1
+
+pub worked_record : (c : Client) (t : Table) (states : List State) (n : ℕ) (s : State) (e : End) → AreSearched c t states → IsClosed c t → slice_get states n ≡ Some s → IsEndOf c t s e → IsRecordOf c t states n (record { state = s; end = e })
+worked_record c t states n s e searched closed at ends = record {
   at = at;
-  valid = valid_end c t states s e (searched_well_formed c t states n s searched at) (searched_worked c t states n s searched at) ends;
+  valid = valid_end c t states s e (searched_well_formed c t states n s searched at) (searched_worked c t states n s searched at) (searched_within c t states n s searched closed at) ends;
 }
 
 -- ---- the record that a recorder makes of a state
@@ -419,7 +427,7 @@ module _ (c : Client) (t : Table) (states : List State) (ns : List ℕ) (tree : 
       let count = cut.records.count in
       got ns k (omega (arith, lt, count)) (λ n here.
       let met = (cut.records.each k n r here there).valid in
-      record { well_formed = met.well_formed; fits = met.fits; reasons = met.reasons; successors = kept_after r.state r.end met.successors; unstopped = met.unstopped; explained = met.explained })
+      record { well_formed = met.well_formed; fits = met.fits; reasons = met.reasons; successors = kept_after r.state r.end met.successors; unstopped = met.unstopped; explained = met.explained; within = met.within })
 
   has_initial : AreSearched c t states → HasInitial c (tree_states tree)
   has_initial searched = record { initial = searched.begun.initial; first = searched.begun.initial_is; there = kept searched.begun.initial (is_there states searched.begun.initial 0 searched.begun.initial_at) }
@@ -464,6 +472,7 @@ certificate_is_valid c limit t states ns tree searched closed least all differ c
       valid = valid;
       least = least;
       within = within;
+      fits = fits;
       few = omega (arith, few, count);
       halved = cut.halved;
       bytes = record { table = t; tree = tree; spelled = (fits, refl); within = within; valid = valid };

@@ -36,8 +36,8 @@ pub cut_in_two : (c : Client) (t : Table) (states : List State) (ns low high : L
     → AreHalvesCut (uncut c t states ns) (uncut c t states low) (uncut c t states high) × CanBeCut (uncut c t states low) × CanBeCut (uncut c t states high)
 cut_in_two c t states ns low high many front rest ready = (
   record { many = many; left_is = ap (uncut c t states) front; right_is = ap (uncut c t states) rest },
-  record { searched = ready.searched; numbers = numbers_low states ns low (length ns / 2) front ready.numbers; rising = rising_low states ns low (length ns / 2) front ready.rising },
-  record { searched = ready.searched; numbers = numbers_high states ns high (length ns / 2) rest ready.numbers; rising = rising_high states ns high (length ns / 2) rest ready.rising },
+  record { searched = ready.searched; closed = ready.closed; numbers = numbers_low states ns low (length ns / 2) front ready.numbers; rising = rising_low states ns low (length ns / 2) front ready.rising },
+  record { searched = ready.searched; closed = ready.closed; numbers = numbers_high states ns high (length ns / 2) rest ready.numbers; rising = rising_high states ns high (length ns / 2) rest ready.rising },
 )
 
 -- ---- whether states are worked

@@ -3,6 +3,7 @@ use Rattle.std.specs.Prelude.{◌≡◌, ◌/◌, ◌<◌, ◌≤◌, ℕ, List,
 use Rattle.tso_cert.specs.Trees.{Tree}
 use Rattle.tso_explore.specs.Cutting.{AreNumbers, AreRising, IsCut}
 use Rattle.tso_search.specs.Searched.{AreSearched, AreWorkedBetween, HasBegun}
+use Rattle.tso_foot.specs.Closed.{IsClosed}
 use Rattle.tso_foot.specs.declared.table.Table.{Table}
 use Rattle.tso_prog.specs.declared.client.Client.{Client}
 use Rattle.tso_state.specs.declared.state.State.{State}
@@ -22,6 +23,7 @@ uncut c t states ns = record { client = c; table = t; states = states; numbers =
 -- all states are worked, and those with these numbers rise
 pub record CanBeCut (u : Numbered) : Type 0 where
   pub searched : AreSearched u.client u.table u.states
+  pub closed : IsClosed u.client u.table
   pub numbers : AreNumbers u.states u.numbers
   pub rising : AreRising u.states u.numbers
 

@@ -4,6 +4,7 @@ ghost use Rattle.std.specs.Prelude.{◌≡◌, ◌<◌, ◌≤◌, IfOk, Some, l
 ghost use Rattle.tso_cert.specs.Trees as trees;
 ghost use Rattle.tso_explore.specs.Cutting.{AreNumbers, AreRecordsOf, AreRising, IsCut, IsEndOf, IsExplainedAtEnd, IsRecordOf};
 ghost use Rattle.tso_search.specs.Searched.{AreSearched};
+ghost use Rattle.tso_foot.specs.Closed.{IsClosed};
 ghost use Rattle.tso_rec.specs.Keeping as keeping;
 ghost use Rattle.tso_state.specs.WellFormed.{IsWellFormed};
 
@@ -62,6 +63,7 @@ fn record_of(
     number: u32,
 ) -> Result<Kept, AllocError>
     requires searched { AreSearched checked.now.client table.now store.now.states }
+    requires closed { IsClosed checked.now.client table.now }
     requires same { recorder.now ≡ store.now.states }
     requires there { number < length store.now.states }
     ensures { IfOk result (λ k. IsRecordOf checked.now.client table.now store.now.states number (keeping.record_of k)) }
@@ -90,6 +92,7 @@ fn leaf_of(
     numbers: &[u32],
 ) -> Result<Packed, AllocError>
     requires searched { AreSearched checked.now.client table.now store.now.states }
+    requires closed { IsClosed checked.now.client table.now }
     requires same { recorder.now ≡ store.now.states }
     requires numbers { AreNumbers store.now.states numbers.now }
     ensures { IfOk result (AreRecordsOf checked.now.client table.now store.now.states numbers.now) }
@@ -125,6 +128,7 @@ fn tree_of(
     numbers: &[u32],
 ) -> Result<Cert, AllocError>
     requires searched { AreSearched checked.now.client table.now store.now.states }
+    requires closed { IsClosed checked.now.client table.now }
     requires same { recorder.now ≡ store.now.states }
     requires numbers { AreNumbers store.now.states numbers.now }
     requires rising { AreRising store.now.states numbers.now }
@@ -153,6 +157,7 @@ pub fn cut(
     numbers: &[u32],
 ) -> Result<Cert, AllocError>
     requires searched { AreSearched checked.now.client table.now store.now.states }
+    requires closed { IsClosed checked.now.client table.now }
     requires numbers { AreNumbers store.now.states numbers.now }
     requires rising { AreRising store.now.states numbers.now }
     ensures { IfOk result (λ cert. IsCut checked.now.client table.now store.now.states numbers.now (trees.tree_of cert)) }
@@ -245,6 +250,7 @@ pub fn cut_by<R: Threads + Sync>(
     workers: u64,
 ) -> Result<Cert, AllocError>
     requires searched { AreSearched checked.now.client table.now store.now.states }
+    requires closed { IsClosed checked.now.client table.now }
     requires numbers { AreNumbers store.now.states numbers.now }
     requires rising { AreRising store.now.states numbers.now }
     ensures { IfOk result (λ cert. IsCut checked.now.client table.now store.now.states numbers.now (trees.tree_of cert)) }

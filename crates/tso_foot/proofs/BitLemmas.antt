@@ -2,7 +2,7 @@
 use Rattle.std.proofs.Common.{◌≡◌, ◌∙◌, ℕ, zero, suc, ◌≤◌, ◌<◌, ◌==◌, ◌||◌, Bool, true, false, refl, sym, ap, subst, arith}
 use Rattle.std.specs.Int.{bit_at}
 use Rattle.std.specs.Prelude.{bit_or, max, IsTrue}
-use Rattle.std.proofs.lemmas.Bool.{eqb-true, eq-eqb}
+use Rattle.std.proofs.lemmas.Bool.{eqb-true, eq-eqb, or_left, or_right}
 use Rattle.std.proofs.lemmas.Nat.{le_or_l}
 use Rattle.std.proofs.lemmas.Nat.Bits.{bit_at-lt, bit_at-zero, bit_at_or, same_from_bits}
 use Rattle.tso_foot.specs.Masks.{covers, has_array}
@@ -18,14 +18,6 @@ bit_of_or x (suc (suc y)) p q = absurd (omega arith)
 -- the bits of a union
 pub has_array-or : (a b k : ℕ) → has_array (bit_or a b) k ≡ (has_array a k || has_array b k)
 has_array-or a b k = ap (λ n. n == 1) (bit_at_or a b k) ∙ bit_of_or (bit_at a k) (bit_at b k) (bit_at-lt a k) (bit_at-lt b k)
-
-pub or_left : (x y : Bool) → x ≡ true → (x || y) ≡ true
-or_left true y e = refl
-or_left false y e = absurd cc
-
-pub or_right : (x y : Bool) → y ≡ true → (x || y) ≡ true
-or_right true y e = refl
-or_right false y e = e
 
 pub or_either : (x y z : Bool) → (x ≡ true → z ≡ true) → (y ≡ true → z ≡ true) → (x || y) ≡ true → z ≡ true
 or_either true y z f g e = f refl

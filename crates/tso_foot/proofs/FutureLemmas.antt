@@ -1,4 +1,4 @@
--- The masks of a thread's future have what the model says.
+-- The masks of a thread's future have what the model says, by a table of arrays.
 use Rattle.std.proofs.Common.{◌≡◌, ◌∙◌, ℕ, suc, zero, ◌<◌, Bool, true, ◌==◌, List, [], ◌∷◌, length, map, drop, Option, None, Some, slice_get, slice_index_or, refl, sym, ap, arith}
 use Rattle.std.specs.Prelude.{bit_or}
 use Rattle.std.specs.List.{fold, sum_by}
@@ -10,29 +10,25 @@ use Rattle.tso_flow.specs.Calls.{kind_of}
 use Rattle.tso_flow.specs.declared.location.ProcedureKind.{ProcedureKind}
 use Rattle.tso_foot.proofs.BitLemmas.{or_either}
 use Rattle.tso_foot.proofs.MaskLemmas.{left_place, own_array, right_place, some_array}
-use Rattle.tso_foot.proofs.TableLemmas.{closed_is_the_models}
 use Rattle.tso_foot.specs.Closed.{items_of}
 use Rattle.tso_foot.specs.Futures.{buffer_mask, calls_masks, calls_to_come, core_masks, future_if}
-use Rattle.tso_foot.specs.Laws.{FuturesHold, RunsAreForeseen, table_view}
+use Rattle.tso_foot.specs.Laws.{HoldsFuture, arrays_view}
+use Rattle.tso_foot.specs.declared.table.Table.TheVariants.{Arrays}
 use Rattle.tso_foot.specs.Masks.{array_mask, array_of, has_place, masks_at, no_masks, union}
 use Rattle.tso_foot.specs.declared.masks.Masks.{Masks}
-use Rattle.tso_foot.specs.declared.table.Table.{Table}
+use Rattle.tso_foot.specs.declared.table.ArrayTable.{ArrayTable}
 use Rattle.tso_line.specs.declared.instruction.CallKind.{CallKind}
 use Rattle.tso_line.specs.declared.instruction.CallKind.TheVariants as calls
 use Rattle.tso_machine.proofs.CallLists.{calls_of_thread}
-use Rattle.tso_machine.proofs.Ranked.{ranked}
 use Rattle.tso_machine.specs.Activations.{Activation}
 use Rattle.tso_machine.specs.Machines.{entry_view}
 use Rattle.tso_machine.specs.Programs.{calls_in, calls_of, program_of, start_of}
-use Rattle.tso_machine.specs.Soundness.{is_sound_or_past_end, rank}
 use Rattle.tso_machine.specs.declared.buffer.Entry.{Entry}
-use Rattle.tso_model.proofs.Futures as model
 use Rattle.tso_model.specs.Programs as programs
 use Rattle.tso_model.specs.Table.{buffer_has, calls_left, core_has, some_call, thread_reads, thread_writes}
 use Rattle.tso_prog.specs.Views.{call_view}
 use Rattle.tso_prog.specs.declared.client.Array.{Array}
 use Rattle.tso_prog.specs.declared.client.Client.{Client}
-use Rattle.tso_state.proofs.ModelLemmas.{may_be_past_end}
 use Rattle.tso_state.proofs.ViewLemmas.{begun_by-state_of, slice_get-threads_view}
 use Rattle.tso_state.specs.Views.{core_view, running_procedure, state_of, thread_view}
 use Rattle.tso_state.specs.WellFormed.{IsWellFormed, word_count}
@@ -47,7 +43,7 @@ abbrev Joins : (Masks → ℕ) → Type 0
 Joins get = (a b : Masks) → get (union a b) ≡ bit_or (get a) (get b)
 
 -- what the model's table says of a running call, of one mask
-abbrev said : Client → Table → (Masks → ℕ) → Activation → ℕ → Bool
+abbrev said : Client → ArrayTable → (Masks → ℕ) → Activation → ℕ → Bool
 said c t get a place = has_place c.arrays (get (masks_at (items_of t a.procedure) a.frame.pc)) place
 
 has_left : (c : Client) (get : Masks → ℕ) → Joins get → (a b : Masks) (place : ℕ) → has_place c.arrays (get a) place ≡ true → has_place c.arrays (get (union a b)) place ≡ true
@@ -58,20 +54,20 @@ has_right c get joins a b place h = ap (λ n. has_place c.arrays n place) (joins
 
 -- ---- calls to come
 
-abbrev from_calls : Table → Masks → List CallKind → Masks
+abbrev from_calls : ArrayTable → Masks → List CallKind → Masks
 from_calls t masks ks = fold (λ (m : Masks) (k : CallKind). union m (masks_at (items_of t (kind_of k)) 0)) masks ks
 
-calls_keep : (c : Client) (t : Table) (get : Masks → ℕ) → Joins get → (ks : List CallKind) (masks : Masks) (place : ℕ)
+calls_keep : (c : Client) (t : ArrayTable) (get : Masks → ℕ) → Joins get → (ks : List CallKind) (masks : Masks) (place : ℕ)
     → has_place c.arrays (get masks) place ≡ true → has_place c.arrays (get (from_calls t masks ks)) place ≡ true
 calls_keep c t get joins [] masks place h = h
 calls_keep c t get joins (k ∷ ks) masks place h =
     calls_keep c t get joins ks (union masks (masks_at (items_of t (kind_of k)) 0)) place (has_left c get joins masks (masks_at (items_of t (kind_of k)) 0) place h)
 
-starts : (c : Client) (t : Table) (get : Masks → ℕ) (k : CallKind) (place : ℕ) → said c t get (start_of c (call_view k)) place ≡ has_place c.arrays (get (masks_at (items_of t (kind_of k)) 0)) place
+starts : (c : Client) (t : ArrayTable) (get : Masks → ℕ) (k : CallKind) (place : ℕ) → said c t get (start_of c (call_view k)) place ≡ has_place c.arrays (get (masks_at (items_of t (kind_of k)) 0)) place
 starts c t get (calls.Push v) place = refl
 starts c t get calls.Pop place = refl
 
-calls_have : (c : Client) (t : Table) (get : Masks → ℕ) → Joins get → (ks : List CallKind) (masks : Masks) (place : ℕ)
+calls_have : (c : Client) (t : ArrayTable) (get : Masks → ℕ) → Joins get → (ks : List CallKind) (masks : Masks) (place : ℕ)
     → some_call (program_of c) (said c t get) (map call_view ks) place ≡ true → has_place c.arrays (get (from_calls t masks ks)) place ≡ true
 calls_have c t get joins [] masks place h = absurd cc
 calls_have c t get joins (k ∷ ks) masks place h =
@@ -82,7 +78,7 @@ calls_have c t get joins (k ∷ ks) masks place h =
 
 -- ---- cores
 
-core_has-masks : (c : Client) (t : Table) (get : Masks → ℕ) → Joins get → (name : ProcedureKind) (ks : List CallKind) (core : Core) (place : ℕ)
+core_has-masks : (c : Client) (t : ArrayTable) (get : Masks → ℕ) → Joins get → (name : ProcedureKind) (ks : List CallKind) (core : Core) (place : ℕ)
     → core_has (program_of c) (said c t get) (map call_view ks) (core_view name core) place ≡ true → has_place c.arrays (get (core_masks t name ks core)) place ≡ true
 core_has-masks c t get joins name ks Idle place h = calls_have c t get joins ks no_masks place h
 core_has-masks c t get joins name ks (Running f) place h =
@@ -123,17 +119,17 @@ entries_have arrays (e ∷ rest) mask place inside h =
 
 -- ---- threads
 
-abbrev thread_future : Client → Table → State → ℕ → Thread → Masks
+abbrev thread_future : Client → ArrayTable → State → ℕ → Thread → Masks
 thread_future c t s i th = core_masks t (running_procedure (slice_index_or s.history i [])) (calls_to_come c s i) th.core
 
-calls_left-view : (c : Client) (s : State) (i : ℕ) → calls_left (program_of c) (state_of s) i ≡ map call_view (calls_to_come c s i)
+pub calls_left-view : (c : Client) (s : State) (i : ℕ) → calls_left (program_of c) (state_of s) i ≡ map call_view (calls_to_come c s i)
 calls_left-view c s i =
     ap (λ n. drop n (slice_index_or (calls_of c) i [])) (begun_by-state_of s i)
     ∙ ap (λ (ks : List programs.CallKind). drop (length (slice_index_or s.history i [])) ks) (calls_of_thread c.threads c.prologue i)
     ∙ drop-map call_view (length (slice_index_or s.history i [])) (calls_in c.threads c.prologue i)
 
 -- of one mask: what the core of thread i may still do
-core_said : (c : Client) (t : Table) (get : Masks → ℕ) → Joins get → (s : State) (i : ℕ) (th : Thread) (place : ℕ)
+core_said : (c : Client) (t : ArrayTable) (get : Masks → ℕ) → Joins get → (s : State) (i : ℕ) (th : Thread) (place : ℕ)
     → core_has (program_of c) (said c t get) (calls_left (program_of c) (state_of s) i) (core_view (running_procedure (slice_index_or s.history i [])) th.core) place ≡ true
     → has_place c.arrays (get (thread_future c t s i th)) place ≡ true
 core_said c t get joins s i th place h =
@@ -153,10 +149,10 @@ words_of c = length-flat_map (λ (x : Array). x.words) c.arrays
 inside_memory : (c : Client) (s : State) (i : ℕ) (th : Thread) → IsWellFormed c s → slice_get s.threads i ≡ Some th → AreInside c.arrays th.buffer
 inside_memory c s i th w there n e at = let lt = w.sizes.places i n th e there at in omega (arith, lt, words_of c)
 
-thread_holds : (c : Client) (t : Table) (s : State) (i place : ℕ) (o : Option Thread) → IsWellFormed c s → slice_get s.threads i ≡ o
-    → (thread_reads (program_of c) (table_view c t) (calls_left (program_of c) (state_of s) i) (option_map (thread_view (running_procedure (slice_index_or s.history i []))) o) place ≡ true
+thread_holds : (c : Client) (t : ArrayTable) (s : State) (i place : ℕ) (o : Option Thread) → IsWellFormed c s → slice_get s.threads i ≡ o
+    → (thread_reads (program_of c) (arrays_view c t) (calls_left (program_of c) (state_of s) i) (option_map (thread_view (running_procedure (slice_index_or s.history i []))) o) place ≡ true
     → has_place c.arrays (future_if c t s i o).reads place ≡ true)
-    × (thread_writes (program_of c) (table_view c t) (calls_left (program_of c) (state_of s) i) (option_map (thread_view (running_procedure (slice_index_or s.history i []))) o) place ≡ true
+    × (thread_writes (program_of c) (arrays_view c t) (calls_left (program_of c) (state_of s) i) (option_map (thread_view (running_procedure (slice_index_or s.history i []))) o) place ≡ true
     → has_place c.arrays (future_if c t s i o).writes place ≡ true)
 thread_holds c t s i place None w there = (λ h. absurd cc, λ h. absurd cc)
 thread_holds c t s i place (Some th) w there =
@@ -169,20 +165,11 @@ thread_holds c t s i place (Some th) w there =
           (λ e. right_place c.arrays core.writes (buffer_mask c.arrays th.buffer) place (entries_have c.arrays th.buffer 0 place (inside_memory c s i th w there) e)) h,
     )
 
-pub futures_hold : (c : Client) → FuturesHold c
-futures_hold c t s i place w =
+pub array_futures_hold : (c : Client) (t : ArrayTable) (s : State) (i place : ℕ) → IsWellFormed c s → HoldsFuture c (Arrays t) s i place
+array_futures_hold c t s i place w =
     let both = thread_holds c t s i place (slice_get s.threads i) w refl in
     let view = slice_get-threads_view s.history s.threads i in
     record {
-      reads = λ h. both.0 (ap (λ o. thread_reads (program_of c) (table_view c t) (calls_left (program_of c) (state_of s) i) o place) (sym view) ∙ h);
-      writes = λ h. both.1 (ap (λ o. thread_writes (program_of c) (table_view c t) (calls_left (program_of c) (state_of s) i) o place) (sym view) ∙ h);
-    }
-
-pub runs_are_foreseen : (c : Client) → RunsAreForeseen c
-runs_are_foreseen c t s ls m closed w run =
-    let all = model.runs_are_foreseen Activation (program_of c) (word_count c) (is_sound_or_past_end c) (rank c) (table_view c t) (ranked c) (closed_is_the_models c t closed)
-    (state_of s) ls m (may_be_past_end c s w) run in
-    record {
-      reads = λ i place h. (futures_hold c t s i place w).reads (all.reads i place h);
-      drains = λ i place h. (futures_hold c t s i place w).writes (all.drains i place h);
+      reads = λ h. both.0 (ap (λ o. thread_reads (program_of c) (arrays_view c t) (calls_left (program_of c) (state_of s) i) o place) (sym view) ∙ h);
+      writes = λ h. both.1 (ap (λ o. thread_writes (program_of c) (arrays_view c t) (calls_left (program_of c) (state_of s) i) o place) (sym view) ∙ h);
     }

@@ -3,14 +3,14 @@ use Rattle.std.proofs.Common.{◌≡◌, ◌∙◌, ℕ, zero, suc, Bool, not, �
 use Rattle.std.specs.Prelude.{bit_or, slice_set}
 use Rattle.std.specs.List.{list_all}
 use Rattle.std.proofs.Math.Pow.{pow-lt}
-use Rattle.std.proofs.lemmas.Bool.{and_from, and_parts, cases_eq, cases_lt, eqb-true, eq-eqb, ltb-true}
+use Rattle.std.proofs.lemmas.Bool.{and_from, and_parts, cases_eq, cases_lt, eq-eqb, eqb-true, ltb-true, or_left, or_right}
 use Rattle.std.proofs.lemmas.List.{get_or-set_other, get_or-set_same, get_or_past, length-replicate, set-get_or}
 use Rattle.std.proofs.lemmas.Option.{get_or_from_slice_get, same_Some, slice_get-get_or, slice_get_within}
 use Rattle.std.proofs.lemmas.List.Sums.{sum_by-set}
 use Rattle.std.proofs.lemmas.Nat.{le_or_l, or_lt, pow_pos}
 use Rattle.std.proofs.lemmas.Nat.Bits.{bit_at-zero}
 use Rattle.tso_flow.specs.Paths.{goes_on, is_at, next_of, target_of}
-use Rattle.tso_foot.proofs.BitLemmas.{IsIn, both_in, covers_in, in_covers, left_in, none_in, or_left, or_right, right_in}
+use Rattle.tso_foot.proofs.BitLemmas.{IsIn, both_in, covers_in, in_covers, left_in, none_in, right_in}
 use Rattle.tso_foot.proofs.MaskLemmas.{holds_reads, holds_writes}
 use Rattle.tso_foot.specs.Closed.{IsAbove, IsItem, IsListClosed}
 use Rattle.tso_foot.specs.Least.{AreJoined, AreWithin, IsGrowing, joined, masks_if, room}

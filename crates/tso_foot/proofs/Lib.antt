@@ -1,7 +1,10 @@
 pub mod AccessLemmas
+pub mod AheadLemmas
 pub mod BitLemmas
 pub mod ClosedLemmas
 pub mod FutureLemmas
 pub mod LeastLemmas
 pub mod MaskLemmas
+pub mod NarrowerLemmas
 pub mod TableLemmas
+pub mod WithinLemmas

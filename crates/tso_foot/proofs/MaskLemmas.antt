@@ -3,11 +3,11 @@ use Rattle.std.proofs.Common.{◌≡◌, ◌∙◌, ℕ, zero, suc, ◌+◌, ◌
 use Rattle.std.specs.Prelude.{bit_or, ◌^◌}
 use Rattle.std.specs.List.{sum_by}
 use Rattle.std.specs.Option.{option_map}
-use Rattle.std.proofs.lemmas.Bool.{and_parts, eqb-true, le-ltb, lt-ltb, ltb-false, ltb-true}
+use Rattle.std.proofs.lemmas.Bool.{and_parts, eqb-true, le-ltb, lt-ltb, ltb-false, ltb-true, or_left, or_right}
 use Rattle.std.proofs.lemmas.Nat.Bits.{bit_at-pow_same, bit_at-zero}
 use Rattle.std.proofs.lemmas.Option.{none-some, same_Some}
 use Rattle.std.proofs.lemmas.List.Sums.{sum_by-cons}
-use Rattle.tso_foot.proofs.BitLemmas.{has_array-or, or_left, or_right}
+use Rattle.tso_foot.proofs.BitLemmas.{has_array-or}
 use Rattle.tso_foot.specs.Masks.{array_of, covers, has_array, has_place, has_some, holds}
 use Rattle.tso_foot.specs.declared.masks.Masks.{Masks}
 use Rattle.tso_machine.specs.Places.{first_place, place_in, place_of}

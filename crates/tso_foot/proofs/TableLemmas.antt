@@ -1,4 +1,4 @@
--- A closed table is closed in the model's sense.
+-- A closed table of arrays is closed in the model's sense.
 use Rattle.std.proofs.Common.{◌≡◌, ◌∙◌, ℕ, ◌<◌, ◌≤◌, true, List, length, Option, None, Some, ◌⊎◌, inl, inr, refl, sym, ap, subst, arith}
 use Rattle.std.proofs.lemmas.Bool.{cases_lt}
 use Rattle.std.proofs.lemmas.Option.{slice_get_past, slice_get_within, slice_get-get_or}
@@ -8,11 +8,11 @@ use Rattle.tso_flow.specs.declared.location.ProcedureKind.{ProcedureKind}
 use Rattle.tso_flow.specs.declared.location.ProcedureKind.TheVariants as procedures
 use Rattle.tso_foot.proofs.AccessLemmas.{HasAccess, next_has_own, none_next}
 use Rattle.tso_foot.proofs.MaskLemmas.{covers_place, holds_reads, holds_writes, no_place}
-use Rattle.tso_foot.specs.Closed.{IsClosed, IsItem, IsListClosed, items_of}
-use Rattle.tso_foot.specs.Laws.{ClosedIsTheModels, table_view}
+use Rattle.tso_foot.specs.Closed.{IsArrayTableClosed, IsItem, IsListClosed, items_of}
+use Rattle.tso_foot.specs.Laws.{arrays_view}
 use Rattle.tso_foot.specs.Masks.{has_place, masks_at, no_masks, own_masks}
 use Rattle.tso_foot.specs.declared.masks.Masks.{Masks}
-use Rattle.tso_foot.specs.declared.table.Table.{Table}
+use Rattle.tso_foot.specs.declared.table.ArrayTable.{ArrayTable}
 use Rattle.tso_line.specs.declared.instruction.Instruction.{Instruction}
 use Rattle.tso_machine.proofs.Edges.{follow_edges}
 use Rattle.tso_machine.specs.Activations.{Activation}
@@ -22,15 +22,15 @@ use Rattle.tso_model.specs.Programs.{Action, Barrier, Cut, Fail, Load, Locked, R
 use Rattle.tso_model.specs.Table.{Below, IsClosedAt}
 use Rattle.tso_prog.specs.declared.client.Client.{Client}
 
-list_closed : (c : Client) (t : Table) (name : ProcedureKind) → IsClosed c t → IsListClosed (length c.arrays) (instructions_of c name) (items_of t name)
+list_closed : (c : Client) (t : ArrayTable) (name : ProcedureKind) → IsArrayTableClosed c t → IsListClosed (length c.arrays) (instructions_of c name) (items_of t name)
 list_closed c t procedures.Push closed = closed.push
 list_closed c t procedures.Pop closed = closed.pop
 
 -- the item at a running call's position
-abbrev item_at : Table → Activation → Masks
+abbrev item_at : ArrayTable → Activation → Masks
 item_at t a = masks_at (items_of t a.procedure) a.frame.pc
 
-item_there : (c : Client) (t : Table) (a : Activation) (step : Instruction ℕ ℕ) → IsClosed c t → instruction_at c a ≡ Some step
+item_there : (c : Client) (t : ArrayTable) (a : Activation) (step : Instruction ℕ ℕ) → IsArrayTableClosed c t → instruction_at c a ≡ Some step
     → IsItem (length c.arrays) (items_of t a.procedure) a.frame.pc step (item_at t a)
 item_there c t a step closed at =
     let l = list_closed c t a.procedure closed in
@@ -46,7 +46,7 @@ edge_goes None step i j e h = absurd cc
 edge_goes (Some s) step i j e h = let same : s ≡ step = cc in subst (λ (x : Instruction ℕ ℕ). goes_on x i j ≡ true) same h
 
 -- a successor's item is below
-below_next : (c : Client) (t : Table) (a b : Activation) (step : Instruction ℕ ℕ) → IsClosed c t → instruction_at c a ≡ Some step → IsNext c a b → Below (table_view c t) b a
+below_next : (c : Client) (t : ArrayTable) (a b : Activation) (step : Instruction ℕ ℕ) → IsArrayTableClosed c t → instruction_at c a ≡ Some step → IsNext c a b → Below (arrays_view c t) b a
 below_next c t a b step closed at next =
     let item = item_there c t a step closed at in
     let items = items_of t a.procedure in
@@ -75,8 +75,8 @@ below_next c t a b step closed at next =
           λ h. absurd (no_place c.arrays place (ap (λ (m : Masks). has_place c.arrays m.writes place) (sym none) ∙ h)),
         )
 
-closed_action : (c : Client) (t : Table) (a : Activation) (step : Instruction ℕ ℕ) (x : Action Activation) → IsClosed c t → instruction_at c a ≡ Some step
-    → HasAccess c.arrays (own_masks step) x → GoesOnWith (IsNext c a) x → IsClosedAt (table_view c t) a x
+closed_action : (c : Client) (t : ArrayTable) (a : Activation) (step : Instruction ℕ ℕ) (x : Action Activation) → IsArrayTableClosed c t → instruction_at c a ≡ Some step
+    → HasAccess c.arrays (own_masks step) x → GoesOnWith (IsNext c a) x → IsClosedAt (arrays_view c t) a x
 closed_action c t a step (Silent g) closed at own on = below_next c t a g step closed at on
 closed_action c t a step (Load p k) closed at own on =
     let item = item_there c t a step closed at in
@@ -95,9 +95,9 @@ closed_action c t a step (Ret r) closed at own on = tt
 closed_action c t a step (Fail n) closed at own on = tt
 closed_action c t a step Cut closed at own on = tt
 
-closed_at : (c : Client) (t : Table) (a : Activation) (o : Option (Instruction ℕ ℕ)) → instruction_at c a ≡ o → IsClosed c t → IsClosedAt (table_view c t) a (next_action c a)
-closed_at c t a None at closed = let Q : Action Activation → Type 0 = λ x. IsClosedAt (table_view c t) a x in subst Q (sym (none_next c a at)) tt
+closed_at : (c : Client) (t : ArrayTable) (a : Activation) (o : Option (Instruction ℕ ℕ)) → instruction_at c a ≡ o → IsArrayTableClosed c t → IsClosedAt (arrays_view c t) a (next_action c a)
+closed_at c t a None at closed = let Q : Action Activation → Type 0 = λ x. IsClosedAt (arrays_view c t) a x in subst Q (sym (none_next c a at)) tt
 closed_at c t a (Some step) at closed = closed_action c t a step (next_action c a) closed at (next_has_own c a step at) (follow_edges c a)
 
-pub closed_is_the_models : (c : Client) → ClosedIsTheModels c
-closed_is_the_models c t closed a sound = closed_at c t a (instruction_at c a) refl closed
+pub arrays_closed_at : (c : Client) (t : ArrayTable) (a : Activation) → IsArrayTableClosed c t → IsClosedAt (arrays_view c t) a (next_action c a)
+arrays_closed_at c t a closed = closed_at c t a (instruction_at c a) refl closed

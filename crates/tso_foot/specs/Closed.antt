@@ -1,11 +1,14 @@
 -- Tables of what may still be read and written from each instruction, and when they are closed.
 use Rattle.std.specs.Prelude.{◌≡◌, ℕ, ◌<◌, ◌^◌, List, length, Some, slice_get, IsTrue}
+use Rattle.tso_cells.specs.Inductive.{IsInductive}
 use Rattle.tso_flow.specs.Paths.{goes_on}
 use Rattle.tso_flow.specs.declared.location.ProcedureKind.{ProcedureKind}
 use Rattle.tso_flow.specs.declared.location.ProcedureKind.TheVariants as procedures
 use Rattle.tso_foot.specs.Masks.{has_array, holds, masks_at, own_masks}
 use Rattle.tso_foot.specs.declared.masks.Masks.{Masks}
+use Rattle.tso_foot.specs.declared.table.ArrayTable.{ArrayTable}
 use Rattle.tso_foot.specs.declared.table.Table.{Table}
+use Rattle.tso_foot.specs.declared.table.Table.TheVariants.{Arrays, Intervals}
 use Rattle.tso_line.specs.declared.instruction.Instruction.{Instruction}
 use Rattle.tso_prog.specs.declared.client.Client.{Client}
 
@@ -23,12 +26,12 @@ pub record IsListClosed (arrays : ℕ) (steps : List (Instruction ℕ ℕ)) (ite
   pub each : (i : ℕ) (step : Instruction ℕ ℕ) (item : Masks) → slice_get steps i ≡ Some step → slice_get items i ≡ Some item → IsItem arrays items i step item
 
 -- the items of a procedure
-abbrev pub items_of : Table → ProcedureKind → List Masks
+abbrev pub items_of : ArrayTable → ProcedureKind → List Masks
 items_of t procedures.Push = t.push
 items_of t procedures.Pop = t.pop
 
--- a table is closed for the client: both procedures' items are
-pub record IsClosed (c : Client) (t : Table) : Type 0 where
+-- a table of arrays is closed for the client: both procedures' items are
+pub record IsArrayTableClosed (c : Client) (t : ArrayTable) : Type 0 where
   pub push : IsListClosed (length c.arrays) c.push.instructions t.push
   pub pop : IsListClosed (length c.arrays) c.pop.instructions t.pop
 
@@ -38,7 +41,7 @@ pub record IsAbove (items others : List Masks) : Type 0 where
   pub writes : (i k : ℕ) → IsTrue (has_array (masks_at others i).writes k) → IsTrue (has_array (masks_at items i).writes k)
 
 -- so it is in both procedures
-pub record IsTableAbove (table other : Table) : Type 0 where
+pub record IsTableAbove (table other : ArrayTable) : Type 0 where
   pub push : IsAbove table.push other.push
   pub pop : IsAbove table.pop other.pop
 
@@ -46,6 +49,15 @@ pub record IsTableAbove (table other : Table) : Type 0 where
 abbrev pub IsBelowClosed : ℕ → List (Instruction ℕ ℕ) → List Masks → Type 0
 IsBelowClosed arrays steps items = (others : List Masks) → IsListClosed arrays steps others → IsAbove others items
 
--- no closed table of the client has less than this one
+-- ---- tables of either form
+
+-- a table is closed for the client: all that may still be read and written from an instruction is in its item, by arrays; or by cells, where
+-- registers lie in intervals, of which it is inductive
+abbrev pub IsClosed : Client → Table → Type 0
+IsClosed c (Arrays t) = IsArrayTableClosed c t
+IsClosed c (Intervals t) = IsInductive c t
+
+-- it is of arrays, and no closed one of the client has less
 abbrev pub IsLeastClosed : Client → Table → Type 0
-IsLeastClosed c t = (other : Table) → IsClosed c other → IsTableAbove other t
+IsLeastClosed c (Arrays t) = (other : ArrayTable) → IsArrayTableClosed c other → IsTableAbove other t
+IsLeastClosed c (Intervals t) = ⊥

@@ -1,5 +1,9 @@
+pub mod Ahead
 pub mod Closed
+pub mod Exactness
 pub mod Futures
 pub mod Laws
 pub mod Least
 pub mod Masks
+pub mod Narrower
+pub mod Within

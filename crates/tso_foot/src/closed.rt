@@ -2,17 +2,18 @@
 
 ghost use Rattle.std.specs.Prelude.{◌≡◌, ◌<◌, ◌≤◌, ◌^◌, ◌↔◌, ℕ, IsTrue, length, slice_get, Some};
 ghost use Rattle.tso_flow.specs.Paths.{is_at};
-ghost use Rattle.tso_foot.specs.Closed.{IsClosed, IsItem, IsListClosed};
+ghost use Rattle.tso_foot.specs.Closed.{IsArrayTableClosed, IsClosed, IsItem, IsListClosed};
 ghost use Rattle.tso_foot.specs.Masks.{holds, masks_at};
 ghost use Rattle.tso_prog.specs.Limits.{are_arrays_below, has_array_below};
 
 use crate::masks::{Masks, own_masks};
-use crate::table::Table;
+use crate::table::{ArrayTable, Table};
+use tso_cells::is_inductive;
 use tso_flow::{Checked, jump_target, next_position};
 use tso_prog::Step;
 
 // Whether an item has no array past so many.
-fn is_within(arrays: usize, item: Masks) -> bool
+fn is_bounded(arrays: usize, item: Masks) -> bool
     requires { arrays ≤ 16 }
     ensures { IsTrue result ↔ (item.reads < 2 ^ arrays) × (item.writes < 2 ^ arrays) }
 {
@@ -37,7 +38,7 @@ fn is_item(arrays: usize, items: &[Masks], i: usize, step: Step, item: Masks) ->
     requires small { i < usize.MAX }
     ensures { IsTrue result ↔ IsItem arrays items.now i step item }
 {
-    is_within(arrays, item)
+    is_bounded(arrays, item)
         && item.holds(own_masks(arrays, step))
         && has_successor(items, item, next_position(step, i))
         && has_successor(items, item, jump_target(step))
@@ -62,10 +63,10 @@ fn is_list_closed(arrays: usize, steps: &[Step], items: &[Masks]) -> bool
     true
 }
 
-/// Whether the table has an item for each instruction, each with no array but the client's, with what the instruction
-/// itself reads and writes and with the items of its successors inside the procedure. It takes no memory.
-pub fn is_closed(checked: &Checked, table: &Table) -> bool
-    ensures { IsTrue result ↔ IsClosed checked.now.client table.now }
+// Whether a table of arrays has an item for each instruction, each with no array but the client's, with what the instruction
+// itself reads and writes and with the items of its successors inside the procedure.
+fn is_array_table_closed(checked: &Checked, table: &ArrayTable) -> bool
+    ensures { IsTrue result ↔ IsArrayTableClosed checked.now.client table.now }
 {
     let client = &checked.client;
     let arrays = client.arrays.len();
@@ -78,4 +79,16 @@ pub fn is_closed(checked: &Checked, table: &Table) -> bool
         client.pop.instructions.as_slice(),
         table.pop.as_slice(),
     )
+}
+
+/// Whether the table is closed for the client: it has an item for each instruction, with what the instruction itself reads and
+/// writes and with the items of its successors inside the procedure. One of arrays has no array but the client's; one of
+/// intervals is inductive, as `is_inductive` says. It takes no memory.
+pub fn is_closed(checked: &Checked, table: &Table) -> bool
+    ensures { IsTrue result ↔ IsClosed checked.now.client table.now }
+{
+    match table {
+        Table::Arrays(table) => is_array_table_closed(checked, table),
+        Table::Intervals(table) => is_inductive(checked, table),
+    }
 }

@@ -1,4 +1,4 @@
-//! What a thread of a state may still read and write.
+//! Which arrays a thread of a state may still read and write.
 
 ghost use Rattle.std.specs.Prelude.{◌≡◌, ◌≤◌, length};
 ghost use Rattle.std.proofs.Common.{drop};
@@ -8,7 +8,7 @@ ghost use Rattle.tso_foot.specs.Masks.{masks_at};
 ghost use Rattle.tso_machine.specs.Programs.{calls_in};
 
 use crate::masks::{Masks, place_mask};
-use crate::table::Table;
+use crate::table::ArrayTable;
 use tso_compact::{begun_calls, running_procedure};
 use tso_flow::{Checked, ProcedureKind};
 use tso_line::CallKind;
@@ -16,7 +16,7 @@ use tso_machine::{Entry, calls_of};
 use tso_prog::{Array, Client};
 use tso_state::{Core, Thread, Viewed};
 
-impl Table {
+impl ArrayTable {
     /// The items of a procedure.
     pub fn items(&self, procedure: ProcedureKind) -> &[Masks]
         ensures { result.now ≡ items_of self.now procedure }
@@ -41,7 +41,7 @@ impl Table {
 }
 
 // What these calls may read and write from their first instructions on.
-fn calls_masks(table: &Table, calls: &[CallKind]) -> Masks
+fn calls_masks(table: &ArrayTable, calls: &[CallKind]) -> Masks
     ensures { result ≡ calls_masks table.now calls.now }
 {
     calls.iter().fold(Masks::NONE, |masks, call| {
@@ -60,7 +60,12 @@ fn buffer_mask(arrays: &[Array], buffer: &[Entry]) -> u16
 }
 
 // What a core may still read and write, which runs this procedure and has these calls still to begin.
-fn core_masks(table: &Table, procedure: ProcedureKind, calls: &[CallKind], core: &Core) -> Masks
+fn core_masks(
+    table: &ArrayTable,
+    procedure: ProcedureKind,
+    calls: &[CallKind],
+    core: &Core,
+) -> Masks
     ensures { result ≡ core_masks table.now procedure calls.now core.now }
 {
     match core {
@@ -73,7 +78,7 @@ fn core_masks(table: &Table, procedure: ProcedureKind, calls: &[CallKind], core:
 }
 
 // The client's calls of a thread that have not begun, where so many have.
-fn calls_left(client: &Client, thread: usize, begun: usize) -> &[CallKind]
+pub(crate) fn calls_left(client: &Client, thread: usize, begun: usize) -> &[CallKind]
     ensures { result.now ≡ drop begun (calls_in client.now.threads client.now.prologue thread) }
 {
     let calls = calls_of(client, thread);
@@ -84,10 +89,15 @@ fn calls_left(client: &Client, thread: usize, begun: usize) -> &[CallKind]
     }
 }
 
-/// The arrays that a thread of the state may still read, and those that it may still write to memory: from the position of
-/// its running call on, in its calls to come, and to the writes those in its buffer; of a stopped or finished thread those
-/// in its buffer alone. It takes no memory.
-pub fn future<S: Viewed>(checked: &Checked, table: &Table, state: &S, thread: usize) -> Masks
+// The arrays that a thread of the state may still read, and those that it may still write to memory: from the position of
+// its running call on, in its calls to come, and to the writes those in its buffer; of a stopped or finished thread those
+// in its buffer alone.
+pub(crate) fn array_future<S: Viewed>(
+    checked: &Checked,
+    table: &ArrayTable,
+    state: &S,
+    thread: usize,
+) -> Masks
     ensures { result ≡ future_masks checked.now.client table.now (S.state state.now) thread }
 {
     let client = &checked.client;

@@ -5,11 +5,10 @@ ghost use Rattle.tso_foot.specs.Closed.{IsBelowClosed, IsClosed, IsLeastClosed, 
 ghost use Rattle.tso_foot.specs.Least.{AreJoined, IsGrowing, joined, masks_if, room};
 ghost use Rattle.tso_foot.specs.Masks.{masks_at};
 ghost use Rattle.tso_foot.specs.declared.masks.Masks.{Masks as AMasks};
-ghost use Rattle.tso_foot.specs.declared.table.Table.{Table as ATable};
 ghost use Rattle.tso_prog.specs.Limits.{are_arrays_below, has_array_below};
 
 use crate::masks::{Masks, own_masks};
-use crate::table::Table;
+use crate::table::{ArrayTable, Table};
 use std::alloc::{AllocError, Global};
 use tso_flow::{Checked, jump_target, next_position};
 use tso_list::Seq;
@@ -89,8 +88,8 @@ fn least_items(alloc: Global, arrays: usize, steps: &[Step]) -> Result<Seq<Masks
     Ok(Seq::from_vec(items))
 }
 
-/// The least closed table of a client: each item has what its instruction itself reads and writes and the items of its
-/// successors, and no closed table has less.
+/// The least closed table of a client by arrays: each item has what its instruction itself reads and writes and the items of
+/// its successors, and no closed table of arrays has less.
 pub fn build(alloc: Global, checked: &Checked) -> Result<Table, AllocError>
     ensures closed { IfOk result (IsClosed checked.now.client) }
     ensures least { IfOk result (IsLeastClosed checked.now.client) }
@@ -99,5 +98,5 @@ pub fn build(alloc: Global, checked: &Checked) -> Result<Table, AllocError>
     let arrays = client.arrays.len();
     let push = least_items(alloc, arrays, client.push.instructions.as_slice())?;
     let pop = least_items(alloc, arrays, client.pop.instructions.as_slice())?;
-    Ok(Table { push, pop })
+    Ok(Table::Arrays(ArrayTable { push, pop }))
 }

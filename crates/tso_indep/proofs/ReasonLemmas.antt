@@ -5,23 +5,20 @@ use Rattle.std.specs.Option.{option_map}
 use Rattle.std.proofs.lemmas.Bool.{and_parts, eq-eqb}
 use Rattle.std.proofs.lemmas.Option.{option_and_then_some, same_Some, get_or_from_slice_get}
 use Rattle.tso_compact.specs.Plans.{kind_by, kind_of_move, procedure_in, thread_in}
-use Rattle.tso_foot.proofs.FutureLemmas.{futures_hold}
-use Rattle.tso_foot.proofs.TableLemmas.{closed_is_the_models}
-use Rattle.tso_foot.specs.Futures.{future_masks}
+use Rattle.tso_foot.proofs.WithinLemmas.{closed_is_ranked, closed_is_the_models, futures_hold, within_is_sound}
+use Rattle.tso_foot.specs.Ahead.{future_reads, future_writes}
 use Rattle.tso_foot.specs.Laws.{table_view}
-use Rattle.tso_foot.specs.Masks.{has_place}
-use Rattle.tso_foot.specs.declared.masks.Masks.{Masks}
+use Rattle.tso_foot.specs.Within.{is_within}
 use Rattle.tso_foot.specs.declared.table.Table.{Table}
 use Rattle.tso_indep.specs.Laws.{TrueReasonsAreTheModels, ValidChoicesArePersistent, reason_view}
 use Rattle.tso_indep.specs.Reasons.{has_entry, is_among, is_cut, is_done, is_free, is_held, is_reason, is_reason_if, kind_in, place_of}
 use Rattle.tso_indep.specs.declared.reason.Reason.{Reason}
 use Rattle.tso_indep.specs.declared.reason.Reason.TheVariants as reasons
-use Rattle.tso_machine.proofs.Ranked.{ranked}
 use Rattle.tso_machine.specs.Activations.{Activation, activation}
 use Rattle.tso_machine.specs.Instructions.{next_action}
 use Rattle.tso_machine.specs.Machines.{entry_view}
 use Rattle.tso_machine.specs.Programs.{program_of}
-use Rattle.tso_machine.specs.Soundness.{is_sound_or_past_end, rank}
+use Rattle.tso_machine.specs.Soundness.{rank}
 use Rattle.tso_machine.specs.declared.buffer.Entry.{Entry}
 use Rattle.tso_model.proofs.Theorems.{valid_is_persistent}
 use Rattle.tso_model.specs.Accesses.{Reads, Writes}
@@ -33,7 +30,6 @@ use Rattle.tso_model.specs.States.{Answered, Began, Buffer, CompactCore, Compact
 use Rattle.tso_model.specs.Steps as steps
 use Rattle.tso_model.specs.Table.{table_future}
 use Rattle.tso_prog.specs.declared.client.Client.{Client}
-use Rattle.tso_state.proofs.ModelLemmas.{may_be_past_end}
 use Rattle.tso_state.proofs.ViewLemmas.{length-threads_view, slice_get-threads_view}
 use Rattle.tso_state.specs.ActorExactness.{actor_exact}
 use Rattle.tso_state.specs.Actors.{actor_of, thread_of}
@@ -171,14 +167,11 @@ same_log not (inl is) = absurd (not is)
 same_log not (inr is) = is
 
 module _ (c : Client) (t : Table) (s : State) (chosen : List Actor) (j : ℕ) (w : IsWellFormed c s) where
-  abbrev fut : Masks
-  fut = future_masks c t s j
+  avoids_writes : (place q : ℕ) → not (future_writes c t s j place) ≡ true → place ≡ q → IsTrue ((table_future (program_of c) (table_view c t)).writes (state_of s) j q) → ⊥
+  avoids_writes place q h is e = not_both (future_writes c t s j place) h (ap (future_writes c t s j) is ∙ (futures_hold c t s j q w).writes e)
 
-  avoids_writes : (place q : ℕ) → not (has_place c.arrays fut.writes place) ≡ true → place ≡ q → IsTrue ((table_future (program_of c) (table_view c t)).writes (state_of s) j q) → ⊥
-  avoids_writes place q h is e = not_both (has_place c.arrays fut.writes place) h (ap (has_place c.arrays fut.writes) is ∙ (futures_hold c t s j q w).writes e)
-
-  avoids_reads : (place q : ℕ) → not (has_place c.arrays fut.reads place) ≡ true → place ≡ q → IsTrue ((table_future (program_of c) (table_view c t)).reads (state_of s) j q) → ⊥
-  avoids_reads place q h is e = not_both (has_place c.arrays fut.reads place) h (ap (has_place c.arrays fut.reads) is ∙ (futures_hold c t s j q w).reads e)
+  avoids_reads : (place q : ℕ) → not (future_reads c t s j place) ≡ true → place ≡ q → IsTrue ((table_future (program_of c) (table_view c t)).reads (state_of s) j q) → ⊥
+  avoids_reads place q h is e = not_both (future_reads c t s j place) h (ap (future_reads c t s j) is ∙ (futures_hold c t s j q w).reads e)
 
   own : (access : steps.Access) (log : Log) → is_reason c t s chosen (kind_by access log) j reasons.Own ≡ true → IsReasonFor c t s chosen access log j reasons.Own
   own steps.Nothing Same h = (refl, refl)
@@ -262,9 +255,9 @@ moves f None h = absurd cc
 moves f (Some m) h = (m, refl)
 
 pub valid_choices_are_persistent : (c : Client) → ValidChoicesArePersistent c
-valid_choices_are_persistent c t s chosen closed w valid =
-    valid_is_persistent Activation (program_of c) (word_count c) (is_sound_or_past_end c) (rank c) (table_view c t) (ranked c) (closed_is_the_models c t closed) (state_of s) (map actor_of chosen)
-    (may_be_past_end c s w) each_valid
+valid_choices_are_persistent c t s chosen closed w within valid =
+    valid_is_persistent Activation (program_of c) (word_count c) (is_within c t) (rank c) (table_view c t) (closed_is_ranked c t closed) (closed_is_the_models c t closed) (state_of s) (map actor_of chosen)
+    (within_is_sound c t s w within) each_valid
   where
     one : (a : Actor) → Has chosen a → model.Valid (program_of c) (table_future (program_of c) (table_view c t)) (state_of s) (map actor_of chosen) (actor_of a)
     one a there =

@@ -2,6 +2,7 @@
 use Rattle.std.specs.Prelude.{◌≡◌, ◌≢◌, ℕ, ◌<◌, IsTrue, List, Some, length, map}
 use Rattle.tso_foot.specs.Closed.{IsClosed}
 use Rattle.tso_foot.specs.Laws.{table_view}
+use Rattle.tso_foot.specs.Within.{IsWithin}
 use Rattle.tso_foot.specs.declared.table.Table.{Table}
 use Rattle.tso_indep.specs.Reasons.{holds}
 use Rattle.tso_indep.specs.declared.reason.Reason.{Reason}
@@ -43,8 +44,8 @@ pub record IsValid (c : Client) (t : Table) (s : State) (chosen : List Actor) (a
   pub enabled : HasStep c s a
   pub reasons : (j : ℕ) → j < length s.threads → j ≢ thread_of a → (reason : Reason) × IsTrue (holds c t s chosen a j reason)
 
--- where each chosen actor of a well-formed state is so, over a closed table, the choice is persistent: after any steps of
--- actors that are not chosen, each chosen one could have gone first, and the end is at least as strict
+-- where each chosen actor of a well-formed state, whose running registers lie where the table says, is so over a closed table, the choice is
+-- persistent: after any steps of actors that are not chosen, each chosen one could have gone first, and the end is at least as strict
 abbrev pub ValidChoicesArePersistent : Client → Type 0
-ValidChoicesArePersistent c = (t : Table) (s : State) (chosen : List Actor) → IsClosed c t → IsWellFormed c s → ((a : Actor) → Has chosen a → IsValid c t s chosen a)
+ValidChoicesArePersistent c = (t : Table) (s : State) (chosen : List Actor) → IsClosed c t → IsWellFormed c s → IsWithin t s → ((a : Actor) → Has chosen a → IsValid c t s chosen a)
     → Persistent (step (program_of c)) AtLeast (state_of s) (map actor_of chosen)

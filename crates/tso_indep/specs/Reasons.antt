@@ -5,9 +5,7 @@ use Rattle.std.specs.Option.{option_map}
 use Rattle.tso_compact.specs.Plans.{kind_of_move, procedure_in, thread_in}
 use Rattle.tso_compact.specs.declared.sort.StepKind.{StepKind}
 use Rattle.tso_compact.specs.declared.sort.StepKind.TheVariants as kinds
-use Rattle.tso_foot.specs.Futures.{future_masks}
-use Rattle.tso_foot.specs.Masks.{has_place}
-use Rattle.tso_foot.specs.declared.masks.Masks.{Masks}
+use Rattle.tso_foot.specs.Ahead.{future_reads, future_writes}
 use Rattle.tso_foot.specs.declared.table.Table.{Table}
 use Rattle.tso_indep.specs.declared.reason.Reason.{Reason}
 use Rattle.tso_indep.specs.declared.reason.Reason.TheVariants as reasons
@@ -18,7 +16,6 @@ use Rattle.tso_machine.specs.declared.buffer.Entry.{Entry}
 use Rattle.tso_model.specs.Programs as model
 use Rattle.tso_model.specs.States.{begun_by}
 use Rattle.tso_model.specs.Steps.{move}
-use Rattle.tso_prog.specs.declared.client.Array.{Array}
 use Rattle.tso_prog.specs.declared.client.Client.{Client}
 use Rattle.tso_state.specs.Actors.{actor_of, is_drain, thread_of}
 use Rattle.tso_state.specs.Views.{state_of}
@@ -66,11 +63,11 @@ place_of _ = None
 -- ---- what the other thread is at
 
 -- its future writes avoid what a load reads; its future reads and writes avoid what a drain or a locked instruction writes
-abbrev pub is_far : List Array → Masks → StepKind → Bool
-is_far arrays future (kinds.Load place) = not (has_place arrays future.writes place)
-is_far arrays future (kinds.Drain place) = not (has_place arrays future.reads place) && not (has_place arrays future.writes place)
-is_far arrays future (kinds.Locked place) = not (has_place arrays future.reads place) && not (has_place arrays future.writes place)
-is_far arrays future _ = false
+abbrev pub is_far : (reads writes : ℕ → Bool) → StepKind → Bool
+is_far reads writes (kinds.Load place) = not (writes place)
+is_far reads writes (kinds.Drain place) = not (reads place) && not (writes place)
+is_far reads writes (kinds.Locked place) = not (reads place) && not (writes place)
+is_far reads writes _ = false
 
 -- the actor is chosen, or has no step
 abbrev pub is_held : Client → State → List Actor → Actor → Bool
@@ -101,7 +98,7 @@ is_done c s j Stopped = true
 -- the reason holds at the state for a chosen actor whose step is of this kind, and thread j
 abbrev pub is_reason : Client → Table → State → List Actor → StepKind → ℕ → Reason → Bool
 is_reason c t s chosen kind j reasons.Own = is_local kind
-is_reason c t s chosen kind j reasons.Far = is_far c.arrays (future_masks c t s j) kind
+is_reason c t s chosen kind j reasons.Far = is_far (future_reads c t s j) (future_writes c t s j) kind
 is_reason c t s chosen kind j reasons.Inside = is_held c s chosen (Exec j) && is_held c s chosen (Drain j)
 is_reason c t s chosen kind j reasons.Buffer = is_among chosen (Exec j) && is_free (thread_in s j).buffer (place_of kind)
 is_reason c t s chosen kind j reasons.Return = is_return kind

@@ -1,45 +1,34 @@
 //! Accesses that do not meet.
 
-ghost use Rattle.std.specs.Prelude.{◌≡◌, ◌<◌, ◌≤◌, IfSome, length};
-ghost use Rattle.tso_foot.specs.Masks.{has_some};
-ghost use Rattle.tso_compact.specs.declared.sort.StepKind.TheVariants as kinds;
+ghost use Rattle.std.specs.Prelude.{◌≡◌};
+ghost use Rattle.tso_foot.specs.Ahead.{future_reads, future_writes};
 ghost use Rattle.tso_indep.specs.Reasons.{has_entry, is_far, is_free, place_of};
 
 use tso_compact::StepKind;
-use tso_foot::{Masks, array_of};
+use tso_flow::Checked;
+use tso_foot::{Table, future};
 use tso_machine::Entry;
-use tso_prog::Array;
+use tso_state::Viewed;
 
-// Whether a mask has this array, if there is one.
-fn has_some(mask: u16, array: Option<usize>) -> bool
-    requires { IfSome array (λ k. k < 16) }
-    ensures { result ≡ has_some mask array }
-{
-    match array {
-        Some(k) => mask >> k & 1 == 1,
-        None => false,
-    }
-}
-
-// Whether another thread's future reads and writes avoid the array that has this place.
-fn is_clear(arrays: &[Array], future: Masks, place: usize) -> bool
-    requires { length arrays.now ≤ 16 }
-    ensures { result ≡ is_far arrays.now future (kinds.Drain place) }
-{
-    let array = array_of(arrays, place);
-    !has_some(future.reads, array) && !has_some(future.writes, array)
-}
-
-/// Whether what another thread may still read and write avoids the array of the step's place.
-pub fn is_far(arrays: &[Array], future: Masks, kind: StepKind) -> bool
-    requires { length arrays.now ≤ 16 }
-    ensures { result ≡ is_far arrays.now future kind }
+/// Whether the other thread's future avoids the step's place: its writes, of a load; reads and writes, of a drain and a locked
+/// instruction. A table of arrays has a place with its whole array, and one of intervals by cells. A step without a place is far
+/// from no thread, and then no future is asked for.
+pub fn is_far_from<S: Viewed>(
+    checked: &Checked,
+    table: &Table,
+    state: &S,
+    kind: StepKind,
+    other: usize,
+) -> bool
+    ensures { result ≡ is_far (future_reads checked.now.client table.now (S.state state.now) other) (future_writes checked.now.client table.now (S.state state.now) other) kind }
 {
     match kind {
-        StepKind::Load(place) => !has_some(future.writes, array_of(arrays, place)),
-        StepKind::Drain(place) => is_clear(arrays, future, place),
-        StepKind::Locked(place) => is_clear(arrays, future, place),
-        _ => false,
+        StepKind::Load(place) => !future(checked, table, state, other).writes(place),
+        StepKind::Drain(place) | StepKind::Locked(place) => {
+            let future = future(checked, table, state, other);
+            !future.reads(place) && !future.writes(place)
+        }
+        StepKind::Local | StepKind::Call | StepKind::Return => false,
     }
 }
 

@@ -2,15 +2,14 @@
 
 ghost use Rattle.std.specs.Prelude.{◌≡◌};
 ghost use Rattle.tso_compact.specs.Plans.{thread_in};
-ghost use Rattle.tso_foot.specs.Futures.{future_masks};
-ghost use Rattle.tso_indep.specs.Reasons.{holds, is_done, is_far, is_reason};
+ghost use Rattle.tso_indep.specs.Reasons.{holds, is_done, is_reason};
 
-use crate::far::{is_far, is_free, place_of};
+use crate::far::{is_far_from, is_free, place_of};
 use crate::reason::Reason;
 use crate::still::{is_among, is_done, is_held};
 use tso_compact::{StepKind, kind};
 use tso_flow::Checked;
-use tso_foot::{Table, future};
+use tso_foot::Table;
 use tso_machine::Entry;
 use tso_state::{Actor, Core, Viewed};
 
@@ -31,26 +30,6 @@ pub fn is_done_in<S: Viewed>(checked: &Checked, state: &S, number: usize) -> boo
     match state.thread(number) {
         Some(thread) => is_done(checked, state, number, &thread.core),
         None => is_done(checked, state, number, &Core::Idle),
-    }
-}
-
-/// Whether the other thread's future avoids the array of the step's place; a step without a place is far from no thread, and
-/// then no future is asked for.
-pub fn is_far_from<S: Viewed>(
-    checked: &Checked,
-    table: &Table,
-    state: &S,
-    kind: StepKind,
-    other: usize,
-) -> bool
-    ensures { result ≡ is_far checked.now.client.arrays (future_masks checked.now.client table.now (S.state state.now) other) kind }
-{
-    match kind {
-        StepKind::Load(_) | StepKind::Drain(_) | StepKind::Locked(_) => {
-            let future = future(checked, table, state, other);
-            is_far(checked.client.arrays.as_slice(), future, kind)
-        }
-        StepKind::Local | StepKind::Call | StepKind::Return => false,
     }
 }
 
@@ -85,8 +64,8 @@ pub fn is_reason<S: Viewed>(
 /// Whether the reason holds at the state, where these actors are chosen, for one of them and for another thread; where the
 /// actor has no step, none does. It takes no memory.
 ///
-/// `Own`: its step is local. `Far`: it is a load and the other thread's future writes avoid its array, or a drain or a locked
-/// instruction and future reads and writes avoid it. `Inside`: each of the other thread's two actors is chosen or has no step.
+/// `Own`: its step is local. `Far`: it is a load and the other thread's future writes avoid its place, or a drain or a locked
+/// instruction and future reads and writes avoid it, by arrays or by cells as the table says. `Inside`: each of the other thread's two actors is chosen or has no step.
 /// `Buffer`: the other thread's core is chosen, and its buffer has no entry for the step's place, if it has one. `Return`: the
 /// step is a return. `NoReturn`: it begins a call, and the other thread has finished its calls, is stopped or is cut.
 pub fn holds<S: Viewed>(

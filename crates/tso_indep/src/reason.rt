@@ -10,7 +10,7 @@ use tso_list::Exact;
 pub enum Reason {
     /// The step touches no memory, and begins and ends no call.
     Own,
-    /// The other thread's future accesses avoid the array of the step's place.
+    /// The other thread's future accesses avoid the step's place.
     Far,
     /// Each actor of the other thread is chosen, or has no step.
     Inside,

@@ -7,4 +7,4 @@ mod moving;
 
 pub use interval::{ALL_WORDS, Interval};
 pub use laws::{first_registers_lie, registers_stay_within};
-pub use moving::moved;
+pub use moving::{moved, register_number};

@@ -8,8 +8,8 @@ use crate::interval::{ALL_WORDS, Interval};
 use tso_line::{Instruction, LockedOperation, Operation, Register, Source};
 use tso_word::BitOperation;
 
-// The place of a register in the order of registers.
-fn register_number(register: Register) -> usize
+/// The place of a register in the order of registers, from 0.
+pub fn register_number(register: Register) -> usize
     ensures is { result ≡ register_number register }
     ensures below { result < 15 }
 {

@@ -24,7 +24,8 @@ code_at (suc (suc (suc (suc (suc (suc (suc zero))))))) = faults.K07
 code_at (suc (suc (suc (suc (suc (suc (suc (suc zero)))))))) = faults.K08
 code_at (suc (suc (suc (suc (suc (suc (suc (suc (suc zero))))))))) = faults.K09
 code_at (suc (suc (suc (suc (suc (suc (suc (suc (suc (suc zero)))))))))) = faults.K10
-code_at (suc (suc (suc (suc (suc (suc (suc (suc (suc (suc (suc rest))))))))))) = faults.K11
+code_at (suc (suc (suc (suc (suc (suc (suc (suc (suc (suc (suc zero))))))))))) = faults.K11
+code_at (suc (suc (suc (suc (suc (suc (suc (suc (suc (suc (suc (suc rest)))))))))))) = faults.K12
 
 code_is : (k : Code) → code_at (code_number k) ≡ k
 code_is faults.K01 = refl
@@ -38,14 +39,15 @@ code_is faults.K08 = refl
 code_is faults.K09 = refl
 code_is faults.K10 = refl
 code_is faults.K11 = refl
+code_is faults.K12 = refl
 
 same_code : (j k : Code) → code_number j ≡ code_number k → j ≡ k
 same_code j k e = sym (code_is j) ∙ ap code_at e ∙ code_is k
 
 -- ---- one record
 
-module _ (c : Client) (t : Table) (Kept : Type 0) (s : State) (e : End) where
-  met : AreMet c t Kept s e → (k : Code) → Meets c t Kept s e k
+module _ (c : Client) (t : Table) (Kept Within : Type 0) (s : State) (e : End) where
+  met : AreMet c t Kept Within s e → (k : Code) → Meets c t Kept Within s e k
   met m faults.K01 = tt
   met m faults.K02 = tt
   met m faults.K03 = tt
@@ -57,13 +59,14 @@ module _ (c : Client) (t : Table) (Kept : Type 0) (s : State) (e : End) where
   met m faults.K09 = tt
   met m faults.K10 = m.unstopped
   met m faults.K11 = m.explained
+  met m faults.K12 = m.within
 
   -- what meets all conditions has no fault
-  pub not_both : (k : Code) → AreMet c t Kept s e → IsFirstFault c t Kept s e k → ⊥
+  pub not_both : (k : Code) → AreMet c t Kept Within s e → IsFirstFault c t Kept Within s e k → ⊥
   not_both k m f = f.broken (met m k)
 
   -- there is one first fault
-  pub one_fault : (j k : Code) → IsFirstFault c t Kept s e j → IsFirstFault c t Kept s e k → j ≡ k
+  pub one_fault : (j k : Code) → IsFirstFault c t Kept Within s e j → IsFirstFault c t Kept Within s e k → j ≡ k
   one_fault j k f g = elim (cases_lt (code_number j) (code_number k)) [
     | inl less ↦ absurd (f.broken (g.before j less))
     | inr ge ↦ elim (cases_lt (code_number k) (code_number j)) [

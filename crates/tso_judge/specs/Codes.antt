@@ -15,6 +15,7 @@ code_number faults.K08 = 8
 code_number faults.K09 = 9
 code_number faults.K10 = 10
 code_number faults.K11 = 11
+code_number faults.K12 = 12
 
 -- K and the number in two digits
 abbrev pub code_text : Code → List ℕ

@@ -5,6 +5,7 @@ use Rattle.tso_cert.specs.Lookup.{IsOrdered, tree_states}
 use Rattle.tso_cert.specs.Trees.{IsWithinLimits, Tree, records_of}
 use Rattle.tso_compact.specs.Laws.{initial_of}
 use Rattle.tso_foot.specs.Closed.{IsClosed}
+use Rattle.tso_foot.specs.Within.{IsWithin}
 use Rattle.tso_foot.specs.declared.table.Table.{Table}
 use Rattle.tso_judge.specs.Conditions.{SuccessorsAreKept}
 use Rattle.tso_judge.specs.Judging.{AreMet}
@@ -21,7 +22,7 @@ pub record HasInitial (c : Client) (states : List State) : Type 0 where
 
 -- a record meets all conditions, where these are the states of the records
 abbrev pub IsValidRecord : Client → Table → List State → Record → Type 0
-IsValidRecord c t states r = AreMet c t (SuccessorsAreKept c states r.state r.end) r.state r.end
+IsValidRecord c t states r = AreMet c t (SuccessorsAreKept c states r.state r.end) (IsWithin t r.state) r.state r.end
 
 -- each of these records is so
 abbrev pub AreValidRecords : Client → Table → List State → List Record → Type 0

@@ -5,7 +5,7 @@ ghost use Rattle.tso_judge.specs.Codes.{code_number, code_text};
 
 use std::fmt;
 
-/// The conditions of a certificate that fail. K05 to K08, K10 and K11 are those of one record.
+/// The conditions of a certificate that fail. K05 to K08 and K10 to K12 are those of one record.
 #[derive(Clone, Copy, Debug, PartialEq, Eq, PartialOrd, Ord, Hash)]
 pub enum Code {
     /// The bytes stop being the beginning of a certificate, or end too soon, or go on after its end.
@@ -14,7 +14,7 @@ pub enum Code {
     K02,
     /// States do not rise strictly, or a fork's state is not above all of its left half and at most all of its right half.
     K03,
-    /// The table is not closed for the client.
+    /// The table is not closed for the client; one of intervals is not inductive.
     K04,
     /// The state is not well-formed.
     K05,
@@ -31,6 +31,8 @@ pub enum Code {
     K10,
     /// The order does not explain the calls.
     K11,
+    /// A register of a running thread lies outside of the table's interval at its position.
+    K12,
 }
 
 impl Code {

@@ -1,8 +1,10 @@
 //! Which condition of a record fails first.
 
-ghost use Rattle.std.specs.Prelude.{◌≡◌, IfOk, None};
+ghost use Rattle.std.specs.Prelude.{◌≡◌, ◌↔◌, IfOk, IsTrue, None};
 ghost use Rattle.tso_cert.specs.Lookup.{IsOrdered, tree_states};
 ghost use Rattle.tso_cert.specs.Trees.{tree_of};
+ghost use Rattle.tso_compact.specs.Plans.{HasHistories};
+ghost use Rattle.tso_judge.specs.Conditions.{SuccessorsAreKept};
 ghost use Rattle.tso_judge.specs.Judging.{IsJudgedAlone, IsJudgedAmong};
 ghost use Rattle.tso_rec.specs.declared.record.End.TheVariants as ends;
 ghost use Rattle.tso_state.specs.WellFormed.{IsWellFormed};
@@ -16,7 +18,7 @@ use tso_cert::Cert;
 use tso_choose::Choices;
 use tso_fifo::{Order, is_linearization};
 use tso_flow::Checked;
-use tso_foot::Table;
+use tso_foot::{Table, is_within};
 use tso_hist::History;
 use tso_rec::{End, Record};
 use tso_state::{State, Viewed, is_well_formed};
@@ -67,8 +69,8 @@ fn judge_order<S: Viewed>(
     None
 }
 
-/// The code of the first condition that a record fails, of those that need no other record: all but K08. `history` is that of
-/// the state.
+/// The code of the first condition that a record fails, of those that come before K12 and need no other record: K05 to K07, K10
+/// and K11. `history` is that of the state.
 ///
 /// Errors: where a growth was refused.
 pub fn judge_alone<S: Viewed>(
@@ -91,8 +93,26 @@ pub fn judge_alone<S: Viewed>(
     }
 }
 
-// Where a record meets all conditions by itself, K08 is left.
-fn judge_successors(
+// Whether records have the states after the steps of the chosen actors, if there are some.
+fn are_successors_kept(
+    alloc: Global,
+    checked: &Checked,
+    cert: &Cert,
+    state: &State,
+    end: &End,
+) -> Result<bool, AllocError>
+    requires ordered { IsOrdered (tree_of cert.now) }
+    requires histories { HasHistories state.now }
+    ensures { IfOk result (λ r. IsTrue r ↔ SuccessorsAreKept checked.now.client (tree_states (tree_of cert.now)) state.now end.now) }
+{
+    match end {
+        End::Choices(choices) => are_kept_after(alloc, checked, cert, state, choices.as_slice()),
+        End::Order(_) => Ok(true),
+    }
+}
+
+// Where a record meets those conditions by itself, K08 and K12 are left.
+fn judge_rest(
     alloc: Global,
     checked: &Checked,
     table: &Table,
@@ -104,15 +124,13 @@ fn judge_successors(
     requires alone { IsJudgedAlone checked.now.client table.now state.now end.now None }
     ensures { IfOk result (IsJudgedAmong checked.now.client table.now (tree_states (tree_of cert.now)) state.now end.now) }
 {
-    match end {
-        End::Order(_) => Ok(None),
-        End::Choices(choices) => {
-            if are_kept_after(alloc, checked, cert, state, choices.as_slice())? {
-                return Ok(None);
-            }
-            Ok(Some(Code::K08))
-        }
+    if !are_successors_kept(alloc, checked, cert, state, end)? {
+        return Ok(Some(Code::K08));
     }
+    if !is_within(table, state) {
+        return Ok(Some(Code::K12));
+    }
+    Ok(None)
 }
 
 /// The code of the first condition that a state with its end fails against the records of a tree, as `judge` does.
@@ -131,14 +149,14 @@ pub fn judge_state(
 {
     match judge_alone(alloc, checked, table, state, &state.history, end)? {
         Some(code) => Ok(Some(code)),
-        None => judge_successors(alloc, checked, table, cert, state, end),
+        None => judge_rest(alloc, checked, table, cert, state, end),
     }
 }
 
-/// The code of the first condition that a record fails against the records of a tree, K05 to K08, K10 and K11 in their order,
+/// The code of the first condition that a record fails against the records of a tree, K05 to K08 and K10 to K12 in their order,
 /// or none: the state is well-formed; the record has chosen actors that each have a step, or an order where none has; each
 /// chosen actor has reasons that hold; records have the states after their steps; no thread is stopped where there is an order,
-/// and the order explains the calls.
+/// and the order explains the calls; running registers lie in the table's intervals, if it has some.
 ///
 /// Errors: where a growth was refused.
 pub fn judge(

@@ -57,7 +57,7 @@ none_over c t s choices w chosen none a = by_case (is_enabled c s a) refl
 all_of : {X : Type 0} (P : X → Type 0) (xs : List X) → ((k : ℕ) (x : X) → slice_get xs k ≡ Some x → P x) → All P xs
 all_of P xs each k d lt = each k (get_or xs k d) (slice_get-get_or xs k d lt)
 
-chosen_met : (c : Client) (t : Table) (s : State) (choices : List Choice) → IsWellFormed c s → AreChosen c t s choices → 0 < length choices → AreMet c t (Unit {0}) s (Choices choices)
+chosen_met : (c : Client) (t : Table) (s : State) (choices : List Choice) → IsWellFormed c s → AreChosen c t s choices → 0 < length choices → AreMet c t (Unit {0}) (Unit {0}) s (Choices choices)
 chosen_met c t s choices w chosen some =
     let valid = chosen_are_valid c t s choices w chosen in
     record {
@@ -67,6 +67,7 @@ chosen_met c t s choices w chosen some =
       successors = tt;
       unstopped = tt;
       explained = tt;
+      within = tt;
     }
 
 -- chosen actors with the numbers of the states after their steps are an end
@@ -83,7 +84,7 @@ pub order_end : (c : Client) (t : Table) (s : State) (order : List Placed) (f : 
 order_end c t s order f w over (unstopped, explained) is =
     let P : Filed → Type 0 = λ g. IsEnd c t s g in
     subst P (sym is) (record {
-      met = record { well_formed = w; fits = over; reasons = tt; successors = tt; unstopped = unstopped; explained = explained };
+      met = record { well_formed = w; fits = over; reasons = tt; successors = tt; unstopped = unstopped; explained = explained; within = tt };
       named = tt;
     })
 

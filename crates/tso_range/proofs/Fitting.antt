@@ -54,7 +54,7 @@ use Rattle.tso_state.specs.declared.state.Thread.{Thread}
 
 -- ---- lists
 
-all_of : {X : Type 0} (P : X → Type 0) (xs : List X) → Each P xs → AllByRecursion P xs
+pub all_of : {X : Type 0} (P : X → Type 0) (xs : List X) → Each P xs → AllByRecursion P xs
 all_of P [] h = tt
 all_of P (x ∷ xs) h = (h zero x refl, all_of P xs (each_rest P x xs h))
 

@@ -4,4 +4,5 @@ pub mod Stepping
 pub mod Buffers
 pub mod Fitting
 pub mod Ends
+pub mod Tables
 pub mod Trees

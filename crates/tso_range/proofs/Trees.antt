@@ -7,10 +7,6 @@ use Rattle.tso_cert.specs.Lookup.{tree_states}
 use Rattle.tso_cert.specs.Trees.{IsWithin, Tree, TreeFits, fork, leaf, records_of}
 use Rattle.tso_code.specs.Fields.{ListFits}
 use Rattle.tso_code.specs.States.{StateFits}
-use Rattle.tso_code.specs.Tables.{MasksFit, TableFits}
-use Rattle.tso_flow.specs.declared.location.ProcedureKind.TheVariants as procedures
-use Rattle.tso_foot.specs.Closed.{IsClosed, IsListClosed}
-use Rattle.tso_foot.specs.declared.masks.Masks.{Masks}
 use Rattle.tso_foot.specs.declared.table.Table.{Table}
 use Rattle.tso_judge.specs.Conditions.{EndFits as HasEnd, HaveReasons, IsExplained}
 use Rattle.tso_line.specs.declared.instruction.Instruction.{Instruction}
@@ -21,6 +17,7 @@ use Rattle.tso_range.proofs.Ends.{choices_fit, order_fits}
 use Rattle.tso_range.proofs.Fitting.{few_instructions, fits}
 use Rattle.tso_range.proofs.Lists.{Each, each_rest}
 use Rattle.tso_range.proofs.Stepping.{words_stay}
+use Rattle.tso_range.proofs.Tables.{table_fits}
 use Rattle.tso_range.specs.Certified.{CertificatesFit, ForksAreFirsts, IsReachedRecord}
 use Rattle.tso_range.specs.Fitting.{StatesFit}
 use Rattle.tso_range.specs.Words.{HasWords}
@@ -31,27 +28,6 @@ use Rattle.tso_rec.specs.declared.record.Record.{Record}
 use Rattle.tso_state.specs.Views.{state_of}
 use Rattle.tso_state.specs.WellFormed.{IsWellFormed}
 use Rattle.tso_state.specs.declared.state.State.{State}
-
--- ---- tables
-
-wider : (n x : ℕ) → n ≤ 16 → x < 2 ^ n → x < 2 ^ 16
-wider n x le lt = let m : 2 ^ n ≤ 2 ^ 16 = pow_mono le in omega (arith, lt, m)
-
-items_fit : (c : Client) (steps : List (Instruction ℕ ℕ)) (items : List Masks) → length steps ≤ 256 → IsListClosed (length c.arrays) steps items → ListFits MasksFit items
-items_fit c steps items few closed = fits MasksFit items 256 (omega (arith, closed.lengths, few)) (omega arith)
-    (λ i item at.
-    let within = slice_get_within items i item at in
-    let there = known steps i (omega (arith, within, closed.lengths)) in
-    let is = closed.each i there.0 item there.1 at in
-    (wider (length c.arrays) item.reads c.few_arrays is.reads, wider (length c.arrays) item.writes c.few_arrays is.writes))
-  where
-    known : (xs : List (Instruction ℕ ℕ)) (n : ℕ) → n < length xs → (x : Instruction ℕ ℕ) × (slice_get xs n ≡ Some x)
-    known [] n lt = absurd (omega (arith, lt))
-    known (x ∷ xs) zero lt = (x, refl)
-    known (x ∷ xs) (suc n) lt = known xs n (omega (arith, lt))
-
-table_fits : (c : Client) (t : Table) → IsClosed c t → TableFits t
-table_fits c t closed = (items_fit c c.push.instructions t.push (few_instructions c procedures.Push) closed.push, items_fit c c.pop.instructions t.pop (few_instructions c procedures.Pop) closed.pop)
 
 -- ---- records
 

@@ -31,6 +31,7 @@ own_word topics.K08 = refl
 own_word topics.K09 = refl
 own_word topics.K10 = refl
 own_word topics.K11 = refl
+own_word topics.K12 = refl
 own_word topics.T01 = refl
 own_word topics.T02 = refl
 own_word topics.T03 = refl

@@ -31,6 +31,7 @@ topic_word topics.K08 = codes "K08"
 topic_word topics.K09 = codes "K09"
 topic_word topics.K10 = codes "K10"
 topic_word topics.K11 = codes "K11"
+topic_word topics.K12 = codes "K12"
 topic_word topics.T01 = codes "T01"
 topic_word topics.T02 = codes "T02"
 topic_word topics.T03 = codes "T03"
@@ -38,7 +39,7 @@ topic_word topics.T03 = codes "T03"
 abbrev pub all_topics : List Topic
 all_topics =
     topics.E01 ∷ topics.E02 ∷ topics.E03 ∷ topics.E04 ∷ topics.E05 ∷ topics.E06 ∷ topics.E07 ∷ topics.E08 ∷ topics.E09 ∷ topics.E10 ∷ topics.E11 ∷ topics.E12 ∷ topics.E13 ∷ topics.E14
-    ∷ topics.K01 ∷ topics.K02 ∷ topics.K03 ∷ topics.K04 ∷ topics.K05 ∷ topics.K06 ∷ topics.K07 ∷ topics.K08 ∷ topics.K09 ∷ topics.K10 ∷ topics.K11
+    ∷ topics.K01 ∷ topics.K02 ∷ topics.K03 ∷ topics.K04 ∷ topics.K05 ∷ topics.K06 ∷ topics.K07 ∷ topics.K08 ∷ topics.K09 ∷ topics.K10 ∷ topics.K11 ∷ topics.K12
     ∷ topics.T01 ∷ topics.T02 ∷ topics.T03 ∷ []
 
 -- the first code whose word is this text

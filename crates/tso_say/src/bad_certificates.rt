@@ -77,3 +77,12 @@ pub const K11: &str =
 
 pub const K11_MENDED: &str = "  byte 44 is 01
 ";
+
+pub const K12: &str =
+    "  the example as `tsoq upgrade` writes it, in version 2: byte 168 is 05, and behind byte 260 stands a record of a push
+  before its second instruction with 1 in rbx, where the table has 0 alone:
+  00 01 01 01 00 01 00 00 00 07 00 00 00 00 00 00 00 00 00 00 00 00 01 01 00 07 01 00 00 00 01 00 00
+";
+
+pub const K12_MENDED: &str = "  the four records that runs of the program reach
+";

@@ -70,8 +70,9 @@ pub const K03: &str =
 two halves, so that a look-up could miss a record.";
 
 pub const K04: &str =
-    "The table of arrays that may still be read or written is not closed for this program: an instruction's entry
-lacks what it, or one that control can go on to, reads or writes. The certificate is of another program, or damaged.";
+    "The table of what may still be read or written is not closed for this program: an instruction's entry
+lacks what it, or one that control can go on to, reads or writes; or, in version 2, an interval lacks a word that a
+register may hold there. The certificate is of another program, or damaged.";
 
 pub const K05: &str =
     "The state of the record is not well-formed: it has a part that no state of this program has, as another count of
@@ -97,6 +98,11 @@ pub const K11: &str =
     "A run ends in this state, and the order that the record gives does not explain the answers of its calls:
 it lacks a call that returned, puts a call before one that had returned when it was called, or gives an answer that the queue
 would not.";
+
+pub const K12: &str =
+    "A register of a running thread holds a word outside of the interval that the table gives it at the thread's
+position, so what the table says of the cells that may still be read or written does not hold for this state. Only
+certificates of version 2 have intervals.";
 
 // ---- traces
 

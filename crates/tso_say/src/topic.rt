@@ -32,13 +32,14 @@ pub enum Topic {
     K09,
     K10,
     K11,
+    K12,
     T01,
     T02,
     T03,
 }
 
 /// All codes, by letter and number.
-pub const ALL: [Topic; 28] = [
+pub const ALL: [Topic; 29] = [
     Topic::E01,
     Topic::E02,
     Topic::E03,
@@ -64,6 +65,7 @@ pub const ALL: [Topic; 28] = [
     Topic::K09,
     Topic::K10,
     Topic::K11,
+    Topic::K12,
     Topic::T01,
     Topic::T02,
     Topic::T03,
@@ -99,6 +101,7 @@ pub fn word(topic: Topic) -> &'static str
         Topic::K09 => "K09",
         Topic::K10 => "K10",
         Topic::K11 => "K11",
+        Topic::K12 => "K12",
         Topic::T01 => "T01",
         Topic::T02 => "T02",
         Topic::T03 => "T03",

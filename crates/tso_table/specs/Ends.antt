@@ -26,9 +26,10 @@ pub record IsNamed (c : Client) (s : State) (x : Choice) (n : Number) : Type 0 w
   pub step : IsStep c s x.actor after
   pub shard : n.shard ≡ shard_of after
 
--- the end meets all conditions of a record but that the states after its steps are kept; each of these has a number
+-- the end meets all conditions of a record but that the states after its steps are kept, and that registers lie where the table says; each of
+-- these states has a number
 pub record IsEnd (c : Client) (t : Table) (s : State) (f : Filed) : Type 0 where
-  pub met : AreMet c t (Unit {0}) s f.end
+  pub met : AreMet c t (Unit {0}) (Unit {0}) s f.end
   pub named : AllZip (IsNamed c s) (moves_of f.end) f.numbers
 
 -- choice i of the end, and the number of its successor, which is of shard k

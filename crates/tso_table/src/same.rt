@@ -3,7 +3,7 @@
 ghost use Rattle.std.specs.Prelude.{◌≡◌, ◌↔◌, IsTrue, Some, slice_get};
 
 use crate::steps::is_same_step;
-use tso_foot::{Masks, Table};
+use tso_foot::Table;
 use tso_line::CallKind;
 use tso_list::{Seq, is_same};
 use tso_prog::{Array, Client, Procedure, Step};
@@ -137,33 +137,9 @@ pub fn is_same_client(a: &Client, b: &Client) -> bool
     are_same_procedures(a, b)
 }
 
-fn is_same_mask(a: Masks, b: Masks) -> bool
-    ensures { IsTrue result ↔ (a ≡ b) }
-{
-    if a.reads != b.reads {
-        return false;
-    }
-    a.writes == b.writes
-}
-
-fn are_same_masks(a: &[Masks], b: &[Masks]) -> bool
-    ensures { IsTrue result ↔ (a.now ≡ b.now) }
-{
-    match (a, b) {
-        ([], []) => true,
-        ([first, rest @ ..], [other, others @ ..]) => {
-            is_same_mask(*first, *other) && are_same_masks(rest, others)
-        }
-        _ => false,
-    }
-}
-
 /// Whether two tables of footprints are the same.
 pub fn are_same_footprints(a: &Table, b: &Table) -> bool
     ensures { IsTrue result ↔ (a.now ≡ b.now) }
 {
-    if !are_same_masks(a.push.as_slice(), b.push.as_slice()) {
-        return false;
-    }
-    are_same_masks(a.pop.as_slice(), b.pop.as_slice())
+    is_same(a, b)
 }

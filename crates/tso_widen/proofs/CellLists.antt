@@ -1,11 +1,10 @@
 -- Lists of cells that columns make at a position.
 use Rattle.std.proofs.Common.{◌≡◌, ◌∙◌, ℕ, zero, suc, ◌+◌, ◌≤◌, ◌<◌, Bool, true, false, nat_le, if◌then◌else◌, List, [], ◌∷◌, ◌++◌, length, append_assoc, append-nil, drop, drop-cons, add-one, get_or, Some, slice_get, refl, sym, ap, subst, arith}
-use Rattle.std.proofs.lemmas.Bool.{and_from, eq-eqb, false≢true, le-leb, leb-true, lt-leb}
+use Rattle.std.proofs.lemmas.Bool.{and_from, eq-eqb, false≢true, le-leb, leb-true, lt-leb, or_left, or_right}
 use Rattle.std.proofs.lemmas.Option.{none-some, same_Some}
 use Rattle.tso_cells.specs.Cells.{holds, holds_all}
 use Rattle.tso_cells.specs.declared.table.Cells.{Cells}
 use Rattle.tso_interval.specs.declared.interval.Interval.{Interval}
-use Rattle.tso_widen.proofs.Lists.{or_left, or_right}
 use Rattle.tso_widen.specs.Columns.{cells_from, cells_of}
 use Rattle.tso_widen.specs.Growing.{interval_at}
 

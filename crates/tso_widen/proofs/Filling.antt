@@ -3,13 +3,12 @@ use Rattle.std.proofs.Common.{◌≡◌, ◌∙◌, ℕ, ◌+◌, ◌≤◌, ◌
 use Rattle.std.specs.Prelude.{slice_set}
 use Rattle.std.proofs.lemmas.Bool.{cases_lt}
 use Rattle.std.proofs.lemmas.Option.{get_or_from_slice_get, slice_get_within}
-use Rattle.tso_cells.specs.Inductive.{AreInside}
+use Rattle.tso_cells.specs.Inductive.{AreInside, IsInterval}
 use Rattle.tso_interval.specs.Intervals.{IsInside}
 use Rattle.tso_interval.specs.declared.interval.Interval.{Interval}
 use Rattle.tso_widen.proofs.Growth.{insides_refl}
 use Rattle.tso_widen.proofs.Lists.{set_cases}
 use Rattle.tso_widen.proofs.RowLemmas.{rows_refl, rows_trans, set_rows_inside}
-use Rattle.tso_widen.proofs.TakingUp.{IsProper}
 use Rattle.tso_widen.specs.Rows.{AreRows, AreRowsInside, IsRow, IsRowInside}
 
 below : (n k : ℕ) → n < k + 1 → (n ≡ k → ⊥) → n < k
@@ -19,12 +18,12 @@ below n k lt other = elim (cases_lt n k) [ inl less ↦ less | inr ge ↦ absurd
 pub record IsFillingRow (row after : List Interval) (k : ℕ) : Type 0 where
   pub count : length after ≡ length row
   pub keeps : AreInside row after
-  pub proper : (n : ℕ) (i : Interval) → n < k → slice_get after n ≡ Some i → IsProper i
+  pub proper : (n : ℕ) (i : Interval) → n < k → slice_get after n ≡ Some i → IsInterval i
 
 pub filling_row_first : (row : List Interval) → IsFillingRow row row 0
 filling_row_first row = record { count = refl; keeps = insides_refl row; proper = λ n i lt. absurd (omega (arith, lt)) }
 
-pub filling_row_on : (row after : List Interval) (k : ℕ) (d i : Interval) → IsInside (get_or row k d) i → IsProper i → IsFillingRow row after k → IsFillingRow row (slice_set after k i) (k + 1)
+pub filling_row_on : (row after : List Interval) (k : ℕ) (d i : Interval) → IsInside (get_or row k d) i → IsInterval i → IsFillingRow row after k → IsFillingRow row (slice_set after k i) (k + 1)
 filling_row_on row after k d i inside p known = record {
   count = length-set after k i ∙ known.count;
   keeps = λ n x y at is. elim (set_cases after k n i y is) [
@@ -34,7 +33,7 @@ filling_row_on row after k d i inside p known = record {
     | inr was ↦ known.keeps n x y at was.1
   ];
   proper = λ n y lt is. elim (set_cases after k n i y is) [
-    | inl same ↦ subst (λ (z : Interval). IsProper z) (sym same.1) p
+    | inl same ↦ subst (λ (z : Interval). IsInterval z) (sym same.1) p
     | inr was ↦ known.proper n y (below n k lt was.0) was.1
   ];
 }

@@ -1,15 +1,9 @@
--- Lists with one element set or one more, and flags that a loop collects.
-use Rattle.std.proofs.Common.{◌≡◌, ℕ, zero, suc, ◌<◌, ◌⊎◌, inl, inr, Bool, true, ◌||◌, List, [], ◌∷◌, ◌++◌, length, take, drop, None, Some, slice_get, refl, sym, arith, false}
+-- Lists with one element set or one more, and what holds of the first of them.
+use Rattle.std.proofs.Common.{◌≡◌, ℕ, zero, suc, ◌+◌, ◌<◌, ◌⊎◌, inl, inr, List, [], ◌∷◌, ◌++◌, length, take, drop, get_or, Some, slice_get, refl, sym, subst, arith}
 use Rattle.std.specs.Prelude.{slice_set}
-use Rattle.std.proofs.lemmas.Bool.{false≢true}
+use Rattle.std.proofs.lemmas.Bool.{cases_lt}
 use Rattle.std.proofs.lemmas.Grind.{common_steps}
-use Rattle.std.proofs.lemmas.Option.{none-some, same_Some}
-
--- inside a list there is an element
-pub missing : {X : Type 0} (xs : List X) (n : ℕ) → slice_get xs n ≡ None → n < length xs → ⊥
-missing [] n e small = omega (arith, small)
-missing (x ∷ xs) zero e small = none-some x (sym e)
-missing (x ∷ xs) (suc n) e small = missing xs n e (omega (arith, small))
+use Rattle.std.proofs.lemmas.Option.{get_or_from_slice_get, none-some, same_Some}
 
 -- an element of a list in which one was set is that one, or as it was
 pub set_cases : {X : Type 0} (xs : List X) (i n : ℕ) (a y : X) → slice_get (slice_set xs i a) n ≡ Some y → ((n ≡ i) × (y ≡ a) × (i < length xs)) ⊎ ((n ≡ i → ⊥) × (slice_get xs n ≡ Some y))
@@ -36,16 +30,13 @@ push_cases (x ∷ xs) (suc n) a y e = elim (push_cases xs n a y e) [
 pub written : {X : Type 0} (new items : List X) (len : ℕ) → length new ≡ length items → len ≡ length items → take len (new ++ drop (length new) items) ≡ new
 written new items len e f = grind (arith, common_steps)
 
--- where neither of two flags is set
-pub or_none : (f r : Bool) → (f || r) ≡ false → (f ≡ false) × (r ≡ false)
-or_none false r e = (refl, e)
-or_none true r e = absurd (false≢true (sym e))
-
--- either test
-pub or_left : (x y : Bool) → x ≡ true → (x || y) ≡ true
-or_left true y e = refl
-or_left false y e = absurd (false≢true e)
-
-pub or_right : (x y : Bool) → y ≡ true → (x || y) ≡ true
-or_right true y e = refl
-or_right false y e = e
+-- what holds of the first elements, one of them more
+pub further : {X : Type 0} (P : ℕ → X → Type 0) (xs : List X) (i : ℕ) (d : X) → ((k : ℕ) (x : X) → k < i → slice_get xs k ≡ Some x → P k x) → P i (get_or xs i d)
+    → (k : ℕ) (x : X) → k < i + 1 → slice_get xs k ≡ Some x → P k x
+further P xs i d before here k x lt at = elim (cases_lt k i) [
+  | inl less ↦ before k x less at
+  | inr ge ↦
+      let same : i ≡ k = omega (arith, lt, ge) in
+      let is : get_or xs i d ≡ x = get_or_from_slice_get xs i x d (subst (λ m. slice_get xs m ≡ Some x) (sym same) at) in
+      subst (λ m. P m x) same (subst (P i) is here)
+]

@@ -11,7 +11,8 @@ use Rattle.tso_line.specs.declared.instruction.Address.{Address}
 use Rattle.tso_line.specs.declared.instruction.Instruction.{Instruction}
 use Rattle.tso_line.specs.declared.instruction.Instruction.TheVariants as the
 use Rattle.tso_prog.specs.declared.client.Array.{Array}
-use Rattle.tso_widen.proofs.Lists.{missing, push_cases}
+use Rattle.tso_machine.proofs.CallLists.{none_past}
+use Rattle.tso_widen.proofs.Lists.{push_cases}
 use Rattle.tso_widen.specs.Columns.{AreOwnSpans, IsColumn, own_array, own_cells, own_span, whole_of, whole_of_size}
 use Rattle.tso_widen.specs.Growing.{empty}
 use Rattle.tso_widen.specs.Spans.{AllHandBack, AreSpans, AreTaken, IsSpan}
@@ -134,8 +135,8 @@ own_spans_are access arrays steps rows array spans needs same own names n s is =
     here (slice_get steps n) refl (slice_get rows n) refl inside
   where
     here : (o : Option (Instruction ℕ ℕ)) → slice_get steps n ≡ o → (p : Option (List Interval)) → slice_get rows n ≡ p → n < length steps → IsSpan (whole_of arrays array) (needs n) s
-    here None at p there inside = absurd (missing steps n at inside)
-    here (Some step) at None there inside = absurd (missing rows n there (omega (arith, same, inside)))
+    here None at p there inside = let past = none_past steps n at in absurd (omega (arith, past, inside))
+    here (Some step) at None there inside = let past = none_past rows n there in absurd (omega (arith, past, same, inside))
     here (Some step) at (Some row) there inside =
         subst (λ (x : Interval). IsSpan (whole_of arrays array) (needs n) x) (sym (own.each n step row s at there is)) (own_is_span access arrays row step array (needs n) (names n step at))
 

@@ -2,11 +2,12 @@
 use Rattle.std.proofs.Common.{◌≡◌, ◌∙◌, ℕ, zero, suc, ◌+◌, ◌^◌, ◌≤◌, ◌<◌, ◌⊎◌, inl, inr, Bool, true, false, ◌||◌, ◌&&◌, nat_le, nat_lt, if◌then◌else◌, List, [], ◌∷◌, ◌++◌, length, length-append, length-set, get_or, Option, Some, slice_get, refl, sym, ap, subst, arith}
 use Rattle.std.specs.Prelude.{slice_set}
 use Rattle.std.specs.List.{list_all}
-use Rattle.std.proofs.lemmas.Bool.{and_parts, cases_lt, eq-eqb, eqb-true, false≢true, leb-false, ltb-true, or_cases}
+use Rattle.std.proofs.lemmas.Bool.{and_parts, cases_lt, eq-eqb, eqb-true, false≢true, leb-false, ltb-true, or_cases, or_left, or_right}
 use Rattle.std.proofs.lemmas.List.{get_or_past, set-get_or}
 use Rattle.std.proofs.lemmas.List.Sums.{sum_by-set}
 use Rattle.std.proofs.lemmas.Option.{get_or_from_slice_get, same_Some, slice_get-get_or, slice_get_within}
-use Rattle.tso_cells.specs.Inductive.{AreInside, AreIntervals}
+use Rattle.tso_cells.proofs.TableLemmas.{moved_length}
+use Rattle.tso_cells.specs.Inductive.{AreInside, AreIntervals, IsInterval}
 use Rattle.tso_flow.specs.Accesses.{register_number}
 use Rattle.tso_flow.specs.Paths.{goes_on, is_at, next_of, target_of}
 use Rattle.tso_interval.specs.Intervals.{all_words, raised}
@@ -22,8 +23,8 @@ use Rattle.tso_line.specs.declared.instruction.Source.{Source}
 use Rattle.tso_line.specs.declared.instruction.Source.TheVariants as sources
 use Rattle.tso_word.specs.declared.BitOperation.TheVariants.{And, Or, Xor}
 use Rattle.tso_widen.proofs.Growth.{insides_refl, insides_trans}
-use Rattle.tso_widen.proofs.Lists.{or_left, or_right, push_cases, set_cases}
-use Rattle.tso_widen.proofs.TakingUp.{IsProper, set_proper}
+use Rattle.tso_widen.proofs.Lists.{further, push_cases, set_cases}
+use Rattle.tso_widen.proofs.TakingUp.{set_proper}
 use Rattle.tso_widen.specs.Growing.{AreGrown, room}
 use Rattle.tso_widen.specs.Rows.{ArePassed, AreRows, AreRowsGrown, AreRowsInside, AreSettled, HasPassed, IsRow, IsRowInside, rows_room}
 use Rattle.tso_widen.specs.declared.growing.Growth.{Growth}
@@ -98,45 +99,45 @@ then_rows_grown g a b c f r p q = record {
 
 -- ---- what an instruction makes of a row
 
-raised_proper : (i : Interval) (n : ℕ) → IsProper i → IsProper (raised i n)
+raised_proper : (i : Interval) (n : ℕ) → IsInterval i → IsInterval (raised i n)
 raised_proper i n p = go (nat_lt (i.lo + n) (2 ^ 64) && nat_lt (i.hi + n) (2 ^ 64)) refl
   where
-    go : (b : Bool) → (nat_lt (i.lo + n) (2 ^ 64) && nat_lt (i.hi + n) (2 ^ 64)) ≡ b → IsProper (if b then record { lo = i.lo + n; hi = i.hi + n } else all_words)
+    go : (b : Bool) → (nat_lt (i.lo + n) (2 ^ 64) && nat_lt (i.hi + n) (2 ^ 64)) ≡ b → IsInterval (if b then record { lo = i.lo + n; hi = i.hi + n } else all_words)
     go true e =
         let le = p.0 in
         let lt = ltb-true (i.hi + n) (2 ^ 64) (and_parts (nat_lt (i.lo + n) (2 ^ 64)) (nat_lt (i.hi + n) (2 ^ 64)) e).1 in
         (omega (arith, le), lt)
     go false e = (omega arith, omega arith)
 
-computed_proper : (operation : Operation) (i : Interval) (s : Source) (j : Interval) → IsProper i → IsProper (computed operation i s j)
+computed_proper : (operation : Operation) (i : Interval) (s : Source) (j : Interval) → IsInterval i → IsInterval (computed operation i s j)
 computed_proper Add i (sources.Register r) j p = (omega arith, omega arith)
 computed_proper Add i (sources.Word w) j p = go (nat_lt w (2 ^ 63))
   where
-    go : (b : Bool) → IsProper (if b then raised i w else all_words)
+    go : (b : Bool) → IsInterval (if b then raised i w else all_words)
     go true = raised_proper i w p
     go false = (omega arith, omega arith)
 computed_proper Sub i s j p = (omega arith, omega arith)
 computed_proper (Logic And) i s j p = go (nat_le i.hi j.hi) refl
   where
-    go : (b : Bool) → nat_le i.hi j.hi ≡ b → IsProper (record { lo = 0; hi = if b then i.hi else j.hi })
+    go : (b : Bool) → nat_le i.hi j.hi ≡ b → IsInterval (record { lo = 0; hi = if b then i.hi else j.hi })
     go true e = (omega arith, p.1)
     go false e = let lt = leb-false i.hi j.hi e in let small = p.1 in (omega arith, omega (arith, lt, small))
 computed_proper (Logic Or) i s j p = (omega arith, omega arith)
 computed_proper (Logic Xor) i s j p = (omega arith, omega arith)
 
-of_proper : (xs : List Interval) (r : Register) → AreIntervals xs → IsProper (interval_of xs r)
+of_proper : (xs : List Interval) (r : Register) → AreIntervals xs → IsInterval (interval_of xs r)
 of_proper xs r all = elim (cases_lt (register_number r) (length xs)) [
   | inl lt ↦ all (register_number r) (interval_of xs r) (slice_get-get_or xs (register_number r) all_words lt)
-  | inr ge ↦ subst (λ (i : Interval). IsProper i) (sym (get_or_past xs (register_number r) all_words ge)) (omega arith, omega arith)
+  | inr ge ↦ subst (λ (i : Interval). IsInterval i) (sym (get_or_past xs (register_number r) all_words ge)) (omega arith, omega arith)
 ]
 
-put_proper : (xs : List Interval) (r : Register) (i : Interval) → AreIntervals xs → IsProper i → AreIntervals (put xs r i)
+put_proper : (xs : List Interval) (r : Register) (i : Interval) → AreIntervals xs → IsInterval i → AreIntervals (put xs r i)
 put_proper xs r i all p = set_proper xs (register_number r) i all p
 
 put_words : (xs : List Interval) (r : Register) → AreIntervals xs → AreIntervals (put xs r all_words)
 put_words xs r all = put_proper xs r all_words all (omega arith, omega arith)
 
-source_proper : (xs : List Interval) (from : Source) → is_word_source from ≡ true → AreIntervals xs → IsProper (source_interval xs from)
+source_proper : (xs : List Interval) (from : Source) → is_word_source from ≡ true → AreIntervals xs → IsInterval (source_interval xs from)
 source_proper xs (sources.Register r) ok all = of_proper xs r all
 source_proper xs (sources.Word w) ok all = let small = ltb-true w (2 ^ 64) ok in (omega arith, omega (arith, small))
 
@@ -156,22 +157,6 @@ moved_proper xs the.Fence ok all = all
 moved_proper xs the.Nop ok all = all
 moved_proper xs the.Pause ok all = all
 moved_proper xs the.Return ok all = all
-
-moved_length : (xs : List Interval) (step : Instruction ℕ ℕ) → length (moved xs step) ≡ length xs
-moved_length xs (the.Move to from) = length-set xs _ _
-moved_length xs (the.Load to from) = length-set xs _ _
-moved_length xs (the.Store to from) = refl
-moved_length xs (the.Compute operation to from) = length-set xs _ _
-moved_length xs (the.Compare comparison left right) = refl
-moved_length xs (the.Increment r) = length-set xs _ _
-moved_length xs (the.Decrement r) = length-set xs _ _
-moved_length xs (the.Jump when target bound) = refl
-moved_length xs (the.Assert condition) = refl
-moved_length xs (the.Locked operation cell r) = length-set xs _ _
-moved_length xs the.Fence = refl
-moved_length xs the.Nop = refl
-moved_length xs the.Pause = refl
-moved_length xs the.Return = refl
 
 pub moved_row : (xs : List Interval) (step : Instruction ℕ ℕ) → is_in_range step ≡ true → IsRow xs → IsRow (moved xs step)
 moved_row xs step ok p = (moved_length xs step ∙ p.0, moved_proper xs step ok p.1)
@@ -221,14 +206,7 @@ passed_still step i d old mid new p q next target j xs ys goes at is =
 
 -- one instruction further
 pub passed_on : (steps : List (Instruction ℕ ℕ)) (rows : List (List Interval)) (i : ℕ) (d : Instruction ℕ ℕ) → ArePassed steps rows i → HasPassed (get_or steps i d) i rows → ArePassed steps rows (i + 1)
-passed_on steps rows i d before own k step lt at = elim (cases_lt k i) [
-  | inl less ↦ before k step less at
-  | inr ge ↦
-      let same : i ≡ k = omega (arith, lt, ge) in
-      let is : get_or steps i d ≡ step = get_or_from_slice_get steps i step d (subst (λ m. slice_get steps m ≡ Some step) (sym same) at) in
-      let Q : Instruction ℕ ℕ → Type 0 = λ s. HasPassed s k rows in
-      subst Q is (subst (λ m. HasPassed (get_or steps i d) m rows) same own)
-]
+passed_on steps rows i d = further (λ k step. HasPassed step k rows) steps i d
 
 -- each instruction of a list is in range
 pub range_at : (steps : List (Instruction ℕ ℕ)) (i : ℕ) (d : Instruction ℕ ℕ) → i < length steps → list_all is_in_range steps ≡ true → is_in_range (get_or steps i d) ≡ true

@@ -9,7 +9,7 @@ use Rattle.tso_interval.specs.Intervals.{IsInside}
 use Rattle.tso_interval.specs.declared.interval.Interval.{Interval}
 use Rattle.tso_line.specs.declared.instruction.Instruction.{Instruction}
 use Rattle.tso_widen.proofs.Growth.{inside_by, inside_is, joined_inside, joined_right, set_grown, then_grown}
-use Rattle.tso_widen.proofs.Lists.{set_cases}
+use Rattle.tso_widen.proofs.Lists.{further, set_cases}
 use Rattle.tso_widen.proofs.RowLemmas.{goes_at}
 use Rattle.tso_widen.specs.Growing.{AreGrown, empty, grown, interval_at, is_inside, joined, taken}
 use Rattle.tso_widen.specs.Spans.{AllHandBack, AreSpans, AreTaken, HandsBack, HasTaken, IsSmall, IsSpan, span_if}
@@ -130,14 +130,7 @@ kept g w spans new i other r lt inside set flag none = set ∙ (set_grown g w sp
 
 -- one instruction further
 pub taken_on : (steps : List (Instruction ℕ ℕ)) (spans : List Interval) (i : ℕ) (d : Instruction ℕ ℕ) → AreTaken steps spans i → HasTaken (get_or steps i d) i spans → AreTaken steps spans (i + 1)
-taken_on steps spans i d before own k step lt at = elim (cases_lt k i) [
-  | inl less ↦ before k step less at
-  | inr ge ↦
-      let same : i ≡ k = omega (arith, lt, ge) in
-      let is : get_or steps i d ≡ step = get_or_from_slice_get steps i step d (subst (λ m. slice_get steps m ≡ Some step) (sym same) at) in
-      let Q : Instruction ℕ ℕ → Type 0 = λ s. HasTaken s k spans in
-      subst Q is (subst (λ m. HasTaken (get_or steps i d) m spans) same own)
-]
+taken_on steps spans i d = further (λ k step. HasTaken step k spans) steps i d
 
 -- what every instruction hands back
 pub hands_at : (steps : List (Instruction ℕ ℕ)) (i : ℕ) (d : Instruction ℕ ℕ) (count : ℕ) (needs : ℕ → Bool) → i < length steps → count ≡ length steps → AllHandBack steps needs → HandsBack (get_or steps i d) i count needs

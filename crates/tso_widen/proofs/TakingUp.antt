@@ -3,7 +3,7 @@ use Rattle.std.proofs.Common.{◌≡◌, ℕ, ◌+◌, ◌^◌, ◌≤◌, ◌<�
 use Rattle.std.specs.Prelude.{slice_set}
 use Rattle.std.proofs.lemmas.Bool.{cases_lt}
 use Rattle.std.proofs.lemmas.Option.{get_or_from_slice_get, slice_get-get_or, slice_get_within}
-use Rattle.tso_cells.specs.Inductive.{AreInside, AreIntervals}
+use Rattle.tso_cells.specs.Inductive.{AreInside, AreIntervals, IsInterval}
 use Rattle.tso_interval.specs.Intervals.{IsInside, all_words}
 use Rattle.tso_interval.specs.declared.interval.Interval.{Interval}
 use Rattle.tso_widen.proofs.Growth.{greatest_below, joined_left, none_grown, set_grown, set_holds, then_grown}
@@ -14,17 +14,14 @@ use Rattle.tso_widen.specs.declared.growing.Growth.TheVariants.{Least, Whole}
 
 -- ---- intervals with a word each
 
-abbrev pub IsProper : Interval → Type 0
-IsProper i = (i.lo ≤ i.hi) × (i.hi < 2 ^ 64)
-
 pub inside_words : (i : Interval) → i.hi < 2 ^ 64 → IsInside i all_words
 inside_words i small = (omega arith, omega (arith, small))
 
-taken_proper : (g : Growth) (j : Interval) → IsProper j → IsProper (taken g all_words j)
+taken_proper : (g : Growth) (j : Interval) → IsInterval j → IsInterval (taken g all_words j)
 taken_proper Least j p = p
 taken_proper Whole j p = (omega arith, omega arith)
 
-joined_proper : (i j : Interval) → IsProper i → IsProper j → IsProper (joined i j)
+joined_proper : (i j : Interval) → IsInterval i → IsInterval j → IsInterval (joined i j)
 joined_proper i j p q =
     let inside = joined_left i j in
     let low = inside.0 in
@@ -32,20 +29,20 @@ joined_proper i j p q =
     let le = p.0 in
     (omega (arith, low, high, le), greatest_below i.hi j.hi (2 ^ 64) p.1 q.1)
 
-grown_proper : (g : Growth) (i j : Interval) → IsProper i → IsProper j → IsProper (grown g all_words i j)
+grown_proper : (g : Growth) (i j : Interval) → IsInterval i → IsInterval j → IsInterval (grown g all_words i j)
 grown_proper g i j p q = go (is_inside j i)
   where
-    go : (b : Bool) → IsProper (if b then i else joined i (taken g all_words j))
+    go : (b : Bool) → IsInterval (if b then i else joined i (taken g all_words j))
     go true = p
     go false = joined_proper i (taken g all_words j) p (taken_proper g j q)
 
 -- an interval of a list that has some
-pub proper_at : (xs : List Interval) (k : ℕ) (d : Interval) → AreIntervals xs → k < length xs → IsProper (get_or xs k d)
+pub proper_at : (xs : List Interval) (k : ℕ) (d : Interval) → AreIntervals xs → k < length xs → IsInterval (get_or xs k d)
 proper_at xs k d all lt = all k (get_or xs k d) (slice_get-get_or xs k d lt)
 
-pub set_proper : (xs : List Interval) (k : ℕ) (i : Interval) → AreIntervals xs → IsProper i → AreIntervals (slice_set xs k i)
+pub set_proper : (xs : List Interval) (k : ℕ) (i : Interval) → AreIntervals xs → IsInterval i → AreIntervals (slice_set xs k i)
 set_proper xs k i all p n j at = elim (set_cases xs k n i j at) [
-  | inl same ↦ subst (λ x. IsProper x) (sym same.1) p
+  | inl same ↦ subst (λ x. IsInterval x) (sym same.1) p
   | inr was ↦ all n j was.1
 ]
 

@@ -32,8 +32,8 @@ pub fn joined(i: Interval, j: Interval) -> Interval
     ensures { result ≡ joined i j }
 {
     Interval {
-        lo: if i.lo <= j.lo { i.lo } else { j.lo },
-        hi: if i.hi <= j.hi { j.hi } else { i.hi },
+        lo: i.lo.min(j.lo),
+        hi: i.hi.max(j.hi),
     }
 }
 

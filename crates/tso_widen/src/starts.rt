@@ -9,7 +9,7 @@ ghost use Rattle.tso_widen.specs.Starts.{HasArguments, entry_row};
 
 use crate::growing::with_word;
 use crate::rows::Row;
-use tso_interval::Interval;
+use tso_interval::{Interval, register_number};
 use tso_line::{CallKind, Register};
 use tso_list::Seq;
 use tso_prog::Client;
@@ -63,6 +63,6 @@ pub fn entry_row(argument: Interval) -> Row
     ensures { result ≡ entry_row argument }
 {
     let mut row = [Interval::alone(0); 15];
-    row[Register::Rdi as usize] = argument;
+    row[register_number(Register::Rdi)] = argument;
     row
 }

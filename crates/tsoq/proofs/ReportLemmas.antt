@@ -1,12 +1,19 @@
 -- What reports say, from what the search found.
 use Rattle.std.proofs.Common.{◌≡◌, ℕ, Bool, List, Option, Some, None, refl, sym, subst}
 use Rattle.std.specs.Prelude.{length}
+use Rattle.tso_cells.specs.Inductive.{IsInductive}
+use Rattle.tso_cells.specs.declared.table.IntervalTable.{IntervalTable}
+use Rattle.tso_cert.specs.Lookup.{tree_states}
+use Rattle.tso_cert.specs.Seen.{AreWithin}
 use Rattle.tso_cert.specs.Trees.{Tree, record_count}
 use Rattle.tso_cert.specs.Certificates.{certificate}
 use Rattle.tso_check.proofs.Goodness.{each_run_is_good}
+use Rattle.tso_check.proofs.UpgradeLemmas.{new_spelled, new_tree}
 use Rattle.tso_client.specs.Headline.{DenotesChecked}
 use Rattle.tso_explore.specs.Outcomes.{IsCertificate}
+use Rattle.tso_foot.specs.Narrower.{IsNarrowerThanClosed}
 use Rattle.tso_foot.specs.declared.table.Table.{Table}
+use Rattle.tso_foot.specs.declared.table.Table.TheVariants as tables
 use Rattle.tso_front.specs.declared.failure.Failure.{Failure}
 use Rattle.tso_judge.specs.Valid.{IsValidCertificate}
 use Rattle.tso_machine.specs.declared.label.Label.{Label}
@@ -16,8 +23,10 @@ use Rattle.tso_trace.specs.Runs.{IsErrorTrace, first_fault, violation_of}
 use Rattle.tso_trace.specs.declared.trace.Trace.{Trace}
 use Rattle.tso_trace.specs.declared.trace.Violation.{Violation}
 use Rattle.tsoq.specs.Reports.{IsOfLabels, IsOfRecords, IsReport, IsTold}
-use Rattle.tsoq.specs.Written.{HasTaken, IsAsked, IsAskedFor, IsCertificateOf, IsFiled}
+use Rattle.tsoq.specs.Written.{HasTaken, HasTakenTree, IsAsked, IsAskedFor, IsCertificateOf, IsFiled, IsWritable}
 use Rattle.tsoq.specs.declared.counted.Taken.{Taken}
+use Rattle.tsoq.specs.declared.form.Form.{Form}
+use Rattle.tsoq.specs.declared.form.Form.TheVariants as forms
 use Rattle.tsoq.specs.declared.report.Report.{Report}
 use Rattle.tsoq.specs.declared.report.Report.TheVariants.{Certified, Violated}
 
@@ -44,32 +53,59 @@ told_violated (Violated violation labels bytes) t is = is
 pub told_of : (r : Report) (t : Trace) (o : Option Trace) → o ≡ Some t → IsOfLabels (violation_of (first_fault t.labels)) (length t.labels) r → IsTold r o
 told_of r t o e is = subst (IsTold r) (sym e) (told_violated r t is)
 
+-- ---- tables
+
+-- what a search finds is written with its own table, one of arrays
+pub as_searched : (c : Client) (limit : ℕ) (t : Table) (tree : Tree) → IsCertificate c limit t tree → IsWritable forms.Arrays c t tree
+as_searched c limit (tables.Arrays a) tree v = record { formed = tt; valid = v.valid; fits = v.fits; within = v.within }
+as_searched c limit (tables.Intervals u) tree v = absurd v.least
+
+-- and as well with one of intervals that holds its states, and names no more arrays than a closed one
+pub with_intervals : (c : Client) (t : Table) (u : IntervalTable) (tree : Tree) → IsWritable forms.Arrays c t tree → IsInductive c u → AreWithin (tables.Intervals u) (tree_states tree)
+    → IsNarrowerThanClosed c u → IsWritable forms.Intervals c (tables.Intervals u) tree
+with_intervals c (tables.Arrays a) u tree is inductive within narrow =
+    let bytes = certificate (tables.Arrays a) tree in
+    let old : IsValidCertificate c bytes = record { table = tables.Arrays a; tree = tree; spelled = (is.fits, refl); within = is.within; valid = is.valid } in
+    let anew = certificate (tables.Intervals u) tree in
+    let spelled = new_spelled c bytes a u tree old (is.fits, refl) is.within inductive within (narrow a is.valid.closed) anew refl in
+    record {
+      formed = tt;
+      valid = new_tree c bytes a u tree old (is.fits, refl) is.within inductive within (narrow a is.valid.closed) anew refl;
+      fits = spelled.0;
+      within = is.within;
+    }
+with_intervals c (tables.Intervals a) u tree is inductive within narrow = absurd is.formed
+
 -- ---- files
 
-certificate_taken : (text : List ℕ) (c : Client) (limit : ℕ) (t : Table) (tree : Tree) (o : Option Taken) → DenotesChecked text c → IsCertificate c limit t tree
-    → HasTaken (certificate t tree) o → IsCertificateOf text o
-certificate_taken text c limit t tree None d v is = tt
-certificate_taken text c limit t tree (Some taken) d v is = record { searched = c; denotes = d; valid = subst (IsValidCertificate c) (sym is) v.bytes }
+certificate_taken : (form : Form) (text : List ℕ) (c : Client) (tree : Tree) (o : Option Taken) → DenotesChecked text c → HasTakenTree form c tree o → IsCertificateOf form text o
+certificate_taken form text c tree None d is = tt
+certificate_taken form text c tree (Some taken) d is = record {
+  searched = c;
+  denotes = d;
+  valid = record { table = is.table; tree = tree; spelled = (is.writable.fits, is.spelled); within = is.writable.within; valid = is.writable.valid };
+  formed = is.writable.formed;
+}
 
 -- where the file of a certificate has taken its spelling
-pub filed_certificate : (text : List ℕ) (c : Client) (limit count : ℕ) (t : Table) (tree : Tree) (r : Report) (o : Option Taken) → DenotesChecked text c
-    → IsCertificate c limit t tree → IsOfRecords count r → HasTaken (certificate t tree) o → IsFiled text r None o
-filed_certificate text c limit count t tree (Certified records bytes) o d v of is = certificate_taken text c limit t tree o d v is
-filed_certificate text c limit count t tree (Violated violation labels bytes) o d v of is = absurd of
+pub filed_certificate : (form : Form) (text : List ℕ) (c : Client) (count : ℕ) (tree : Tree) (r : Report) (o : Option Taken) → DenotesChecked text c
+    → IsOfRecords count r → HasTakenTree form c tree o → IsFiled form text r None o
+filed_certificate form text c count tree (Certified records bytes) o d of is = certificate_taken form text c tree o d is
+filed_certificate form text c count tree (Violated violation labels bytes) o d of is = absurd of
 
-filed_text : (text : List ℕ) (wrong : Violation) (count : ℕ) (r : Report) (t : Trace) (o : Option Taken) → IsOfLabels wrong count r
-    → HasTaken (trace_text t.checked.client.arrays t.labels) o → IsFiled text r (Some t) o
-filed_text text wrong count (Certified records bytes) t o of is = absurd of
-filed_text text wrong count (Violated violation labels bytes) t o of is = is
+filed_text : (form : Form) (text : List ℕ) (wrong : Violation) (count : ℕ) (r : Report) (t : Trace) (o : Option Taken) → IsOfLabels wrong count r
+    → HasTaken (trace_text t.checked.client.arrays t.labels) o → IsFiled form text r (Some t) o
+filed_text form text wrong count (Certified records bytes) t o of is = absurd of
+filed_text form text wrong count (Violated violation labels bytes) t o of is = is
 
 -- where that of a trace has taken its text
-pub filed_trace : (text : List ℕ) (wrong : Violation) (count : ℕ) (r : Report) (t : Trace) (u : Option Trace) (o : Option Taken) → u ≡ Some t → IsOfLabels wrong count r
-    → HasTaken (trace_text t.checked.client.arrays t.labels) o → IsFiled text r u o
-filed_trace text wrong count r t u o e of is = subst (λ x. IsFiled text r x o) (sym e) (filed_text text wrong count r t o of is)
+pub filed_trace : (form : Form) (text : List ℕ) (wrong : Violation) (count : ℕ) (r : Report) (t : Trace) (u : Option Trace) (o : Option Taken) → u ≡ Some t → IsOfLabels wrong count r
+    → HasTaken (trace_text t.checked.client.arrays t.labels) o → IsFiled form text r u o
+filed_trace form text wrong count r t u o e of is = subst (λ x. IsFiled form text r x o) (sym e) (filed_text form text wrong count r t o of is)
 
-pub asked_certified : (cert trace : Bool) (count : ℕ) (r : Report) (o : Option Taken) (f : Option Failure) → IsOfRecords count r → IsAsked cert o f → IsAskedFor cert trace r o f
-asked_certified cert trace count (Certified records bytes) o f of is = is
-asked_certified cert trace count (Violated violation labels bytes) o f of is = absurd of
+pub asked_certified : (cert trace : Bool) (count : ℕ) (r : Report) (o : Option Taken) → IsOfRecords count r → IsAsked cert o None → IsAskedFor cert trace r o None
+asked_certified cert trace count (Certified records bytes) o of is = (is, refl)
+asked_certified cert trace count (Violated violation labels bytes) o of is = absurd of
 
 pub asked_violated : (cert trace : Bool) (wrong : Violation) (count : ℕ) (r : Report) (o : Option Taken) (f : Option Failure) → IsOfLabels wrong count r → IsAsked trace o f
     → IsAskedFor cert trace r o f

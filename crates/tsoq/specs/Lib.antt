@@ -2,4 +2,5 @@ pub mod Lengths
 pub mod Parsed
 pub mod Reports
 pub mod Statuses
+pub mod Upgraded
 pub mod Written

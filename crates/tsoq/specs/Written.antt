@@ -1,12 +1,18 @@
 -- What the files of a search have taken.
 use Rattle.std.specs.Prelude.{◌≡◌, ◌-◌, ◌^◌, ℕ, Bool, true, false, List, Option, Some, None, length, min}
+use Rattle.tso_cert.specs.Certificates.{Fits, certificate}
+use Rattle.tso_cert.specs.Trees.{IsWithinLimits, Tree}
 use Rattle.tso_client.specs.Headline.{DenotesChecked}
+use Rattle.tso_foot.specs.declared.table.Table.{Table}
+use Rattle.tso_foot.specs.declared.table.Table.TheVariants as tables
 use Rattle.tso_front.specs.declared.failure.Failure.{Failure}
-use Rattle.tso_judge.specs.Valid.{IsValidCertificate}
+use Rattle.tso_judge.specs.Valid.{IsValidCertificate, IsValidTree}
 use Rattle.tso_prog.specs.declared.client.Client.{Client}
 use Rattle.tso_trace.specs.Grammar.{trace_text}
 use Rattle.tso_trace.specs.declared.trace.Trace.{Trace}
 use Rattle.tsoq.specs.declared.counted.Taken.{Taken}
+use Rattle.tsoq.specs.declared.form.Form.{Form}
+use Rattle.tsoq.specs.declared.form.Form.TheVariants.{Arrays, Intervals}
 use Rattle.tsoq.specs.declared.report.Report.{Report}
 use Rattle.tsoq.specs.declared.report.Report.TheVariants.{Certified, Violated}
 
@@ -32,24 +38,55 @@ abbrev pub bytes_of : Report → Option ℕ
 bytes_of (Certified records bytes) = bytes
 bytes_of (Violated violation labels bytes) = bytes
 
--- the text denotes a client of which these bytes are a valid certificate
-pub record AreCertificate (text bytes : List ℕ) : Type 0 where
+-- ---- certificates
+
+-- the table is one of this form
+abbrev pub IsTableOf : Form → Table → Type 0
+IsTableOf Arrays (tables.Arrays t) = Unit {0}
+IsTableOf Arrays (tables.Intervals t) = ⊥
+IsTableOf Intervals (tables.Arrays t) = ⊥
+IsTableOf Intervals (tables.Intervals t) = Unit {0}
+
+-- a table of this form and a tree that are valid for the client, within the limits, with each number in its range: their spelling is a valid
+-- certificate of it
+pub record IsWritable (form : Form) (c : Client) (t : Table) (tree : Tree) : Type 0 where
+  pub formed : IsTableOf form t
+  pub valid : IsValidTree c t tree
+  pub fits : Fits t tree
+  pub within : IsWithinLimits tree
+
+-- the bytes spell the tree with such a table
+pub record IsSpelledWith (form : Form) (c : Client) (tree : Tree) (bytes : List ℕ) : Type 0 where
+  pub table : Table
+  pub writable : IsWritable form c table tree
+  pub spelled : bytes ≡ certificate table tree
+
+-- a file, if there is one, has taken such bytes, and no others
+abbrev pub HasTakenTree : Form → Client → Tree → Option Taken → Type 0
+HasTakenTree form c tree None = Unit {0}
+HasTakenTree form c tree (Some taken) = IsSpelledWith form c tree taken.which.numbers
+
+-- the text denotes a client of which these bytes are a valid certificate, with a table of this form
+pub record AreCertificate (form : Form) (text bytes : List ℕ) : Type 0 where
   pub searched : Client
   pub denotes : DenotesChecked text searched
   pub valid : IsValidCertificate searched bytes
+  pub formed : IsTableOf form valid.table
 
-abbrev pub IsCertificateOf : List ℕ → Option Taken → Type 0
-IsCertificateOf text None = Unit {0}
-IsCertificateOf text (Some taken) = AreCertificate text taken.which.numbers
+abbrev pub IsCertificateOf : Form → List ℕ → Option Taken → Type 0
+IsCertificateOf form text None = Unit {0}
+IsCertificateOf form text (Some taken) = AreCertificate form text taken.which.numbers
 
--- the file of a certificate has taken a valid certificate of the client of the text, and that of a trace the text of the trace that is handed
--- out
-abbrev pub IsFiled : List ℕ → Report → Option Trace → Option Taken → Type 0
-IsFiled text (Certified records bytes) trace taken = IsCertificateOf text taken
-IsFiled text (Violated violation labels bytes) None taken = ⊥
-IsFiled text (Violated violation labels bytes) (Some trace) taken = HasTaken (trace_text trace.checked.client.arrays trace.labels) taken
+-- ---- what was asked for
 
--- which file was asked for: that of a certificate, or that of a trace
+-- the file of a certificate has taken a valid certificate of the client of the text, with a table of the form that is asked for, and that of a
+-- trace the text of the trace that is handed out
+abbrev pub IsFiled : Form → List ℕ → Report → Option Trace → Option Taken → Type 0
+IsFiled form text (Certified records bytes) trace taken = IsCertificateOf form text taken
+IsFiled form text (Violated violation labels bytes) None taken = ⊥
+IsFiled form text (Violated violation labels bytes) (Some trace) taken = HasTaken (trace_text trace.checked.client.arrays trace.labels) taken
+
+-- which file was asked for: that of a certificate, which is reported only where its file did not fail, or that of a trace
 abbrev pub IsAskedFor : Bool → Bool → Report → Option Taken → Option Failure → Type 0
-IsAskedFor cert trace (Certified records bytes) taken failure = IsAsked cert taken failure
+IsAskedFor cert trace (Certified records bytes) taken failure = IsAsked cert taken None × (failure ≡ None)
 IsAskedFor cert trace (Violated violation labels bytes) taken failure = IsAsked trace taken failure

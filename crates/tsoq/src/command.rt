@@ -3,10 +3,12 @@
 use crate::asked::{Replay, replay_of, with_flags};
 use crate::coverage::{Covering, coverage_command, covering_of};
 use crate::fences::{FenceSearch, fence_search_of, fences_command};
+use crate::form::{Form, form_argument, form_of};
 use crate::help;
 use crate::limit::StateLimit;
 use crate::parse::{Parsing, parse_command, parsing_of};
 use crate::survey::{Survey, survey_command, survey_of};
+use crate::upgrade::{Upgrading, upgrade_command, upgrading_of};
 use clap::{Arg, ArgAction, ArgMatches, Command, value_parser};
 use std::alloc::{AllocError, Global};
 use tso_cert::Workers;
@@ -26,6 +28,8 @@ pub struct Search<'a> {
     pub cert: Option<&'a str>,
     /// Where the trace is written, if it is.
     pub trace: Option<&'a str>,
+    /// Which table the certificate is written with.
+    pub form: Form,
     pub workers: Workers,
     pub limit: StateLimit,
     /// Whether it is to be said how much was met and written.
@@ -52,6 +56,8 @@ pub enum Asked<'a> {
     Verify(Search<'a>),
     /// The verdict on a certificate.
     Check(Check<'a>),
+    /// An accepted certificate in version 2.
+    Upgrade(Upgrading<'a>),
     /// What the records of a certificate show.
     Coverage(Covering<'a>),
     /// The replay of a trace.
@@ -89,6 +95,7 @@ fn with_results<'a>(alloc: Global, command: Command<'a>) -> Result<Command<'a>, 
     let command = with_option(alloc, command, "out", "CERT", help)?;
     let help = "where the trace is written, if it is to be";
     let command = with_option(alloc, command, "trace", "TRACE", help)?;
+    let command = command.arg(form_argument(alloc))?;
     let command = command.arg(workers_argument(alloc, "how many workers search, 1 to 64"))?;
     command.arg(states(alloc))
 }
@@ -117,7 +124,7 @@ fn check_command<'a>(alloc: Global) -> Result<Command<'a>, AllocError> {
 fn explain_command<'a>(alloc: Global) -> Result<Command<'a>, AllocError> {
     let code = Arg::new(alloc, "CODE")
         .required(true)
-        .help("E01 to E14, K01 to K11 or T01 to T03");
+        .help("E01 to E14, K01 to K12 or T01 to T03");
     Command::new(alloc, "explain")
         .about(
             "says what a code means, with a small text that is refused with it and the mended text",
@@ -164,14 +171,23 @@ fn with_command<'a>(
     program.subcommand(with_flag(alloc, command, "verbose", help)?)
 }
 
+// The commands on a certificate.
+fn with_certificate_commands<'a>(
+    alloc: Global,
+    program: Command<'a>,
+) -> Result<Command<'a>, AllocError> {
+    let program = with_command(alloc, program, check_command(alloc)?)?;
+    let program = with_command(alloc, program, upgrade_command(alloc)?)?;
+    with_command(alloc, program, coverage_command(alloc)?)
+}
+
 // The commands on one client.
 fn with_client_commands<'a>(
     alloc: Global,
     program: Command<'a>,
 ) -> Result<Command<'a>, AllocError> {
     let program = with_command(alloc, program, verify_command(alloc)?)?;
-    let program = with_command(alloc, program, check_command(alloc)?)?;
-    let program = with_command(alloc, program, coverage_command(alloc)?)?;
+    let program = with_certificate_commands(alloc, program)?;
     with_command(alloc, program, replay_command(alloc)?)
 }
 
@@ -215,6 +231,7 @@ fn search_of<'a>(alloc: Global, verify: &ArgMatches<'a>) -> Result<Search<'a>, F
         variant: variant_of(verify),
         cert,
         trace,
+        form: form_of(verify),
         workers,
         limit,
         stats: verify.get_flag("stats"),
@@ -229,7 +246,7 @@ fn topic_of(alloc: Global, code: &str) -> Result<Topic, Failure> {
         Some(topic) => Ok(topic),
         None => Err(misused(
             alloc,
-            "the codes are E01 to E14, K01 to K11 and T01 to T03\n",
+            "the codes are E01 to E14, K01 to K12 and T01 to T03\n",
         )),
     }
 }
@@ -239,6 +256,7 @@ fn asked_of<'a>(alloc: Global, name: &str, found: &ArgMatches<'a>) -> Result<Ask
     match name {
         "verify" => Ok(Asked::Verify(search_of(alloc, found)?)),
         "check" => Ok(Asked::Check(check_of(alloc, found)?)),
+        "upgrade" => Ok(Asked::Upgrade(upgrading_of(alloc, found)?)),
         "coverage" => Ok(Asked::Coverage(covering_of(alloc, found)?)),
         "replay" => Ok(Asked::Replay(replay_of(alloc, found)?)),
         "survey" => {

@@ -5,6 +5,7 @@ ghost use Rattle.tso_client.specs.Headline.{IsVerified};
 ghost use Rattle.tso_check.specs.declared.verdict.Verdict.TheVariants as verdicts;
 
 use crate::coverage::Covering;
+use crate::people::tell_outside;
 use std::alloc::Global;
 use std::sync::Wait;
 use std::thread::Threads;
@@ -86,7 +87,7 @@ fn tell<S: Session>(session: &mut S, program: &[u8], cert: &[u8]) {
 }
 
 /// Decides a certificate for a program text as `tso_survey::check_bytes` does, prints the verdict and gives it. Where it is accepted, it
-/// says on standard error what its records show.
+/// says on standard error what its records show, and where a register lies outside of its interval, which one.
 ///
 /// Errors: those of `check_bytes`.
 pub fn check_told<R: Threads + Wait + Sync, S: Session>(
@@ -100,8 +101,9 @@ pub fn check_told<R: Threads + Wait + Sync, S: Session>(
     let cert = session.read(asked.cert, usize::MAX)?;
     let verdict = verdict_on(rt, session.alloc(), program, &cert, asked.workers)?;
     put_verdict(session, verdict, asked.json)?;
-    if let Verdict::Accepted = verdict {
-        tell(session, program, &cert);
+    match verdict {
+        Verdict::Accepted => tell(session, program, &cert),
+        Verdict::Rejected { .. } => tell_outside(session, verdict, &cert),
     }
     Ok(verdict)
 }

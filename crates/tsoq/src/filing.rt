@@ -13,6 +13,7 @@ use std::io::{BufWriter, Write};
 use tso_cert::{Cert, WriteError};
 use tso_foot::Table;
 use tso_front::{Draft, Failure, Files, cannot_write};
+use tso_list::write_bytes;
 use tso_trace::Trace;
 
 // Writes out what waits before a writer, and says what the writer has taken.
@@ -51,6 +52,18 @@ fn put_text<W: Write + Drop>(alloc: Global, trace: &Trace, out: W) -> io::Result
     let mut out = BufWriter::new(alloc, Counted::new(out))?;
     trace.print(&mut out)?;
     taken_by(out)
+}
+
+// Writes these bytes, and says what the writer has taken.
+fn put_whole<W: Write + Drop>(bytes: &[u8], out: W) -> io::Result<Taken>
+    ensures { IfOk result (λ taken. taken.which.numbers ≡ bytes.now) }
+{
+    let mut out = Counted::new(out);
+    write_bytes(&mut out, bytes)?;
+    match out.flush() {
+        Ok(()) => Ok(out.taken()),
+        Err(error) => Err(error),
+    }
 }
 
 // Writes a certificate to the draft of a file, and says what the file has taken.
@@ -93,6 +106,25 @@ fn put_trace<F: Files>(
     }
 }
 
+// Writes these bytes to the draft of a file, and says what the file has taken.
+fn put_draft<F: Files>(
+    alloc: Global,
+    files: &mut F,
+    draft: &Draft<'_>,
+    bytes: &[u8],
+) -> Result<Taken, Failure>
+    ensures { IfOk result (λ taken. taken.which.numbers ≡ bytes.now) }
+{
+    let file = match files.create(draft.path()) {
+        Ok(file) => file,
+        Err(error) => return Err(cannot_write(alloc, draft.name(), error.kind())),
+    };
+    match put_whole(bytes, file) {
+        Ok(taken) => Ok(taken),
+        Err(error) => Err(cannot_write(alloc, draft.name(), error.kind())),
+    }
+}
+
 /// Writes a certificate to this path, and says what the file there has taken: the one spelling of the certificate.
 ///
 /// Errors: `CannotWrite`, and then what was there is as it was; `Memory`.
@@ -123,5 +155,21 @@ pub fn file_trace<F: Files>(
 {
     let draft = Draft::of(alloc, files, path)?;
     let written = put_trace(alloc, files, &draft, trace);
+    draft.settle(alloc, files, written)
+}
+
+/// Writes these bytes to this path, and says what the file there has taken: the same.
+///
+/// Errors: `CannotWrite`, and then what was there is as it was; `Memory`.
+pub fn file_bytes<F: Files>(
+    alloc: Global,
+    files: &mut F,
+    path: &str,
+    bytes: &[u8],
+) -> Result<Taken, Failure>
+    ensures { IfOk result (λ taken. taken.which.numbers ≡ bytes.now) }
+{
+    let draft = Draft::of(alloc, files, path)?;
+    let written = put_draft(alloc, files, &draft, bytes);
     draft.settle(alloc, files, written)
 }

@@ -17,7 +17,8 @@ pub const VERIFY: &str =
     "Reads FILE, a program text: the push and the pop of a ring queue in Intel syntax, and the calls of a few
 threads. Writes CERT where all runs are good, or TRACE where one is not, and never both; without --out or --trace
 that one is not written. CERT is decided by `tsoq check`, TRACE is shown by `tsoq replay`; where --client, --before
-or --mode put other calls in place of those of FILE, both want the same words.
+or --mode put other calls in place of those of FILE, both want the same words. With --form 2 the table of CERT says
+cells where that of --form 1 says whole arrays.
 
 Example:
   tsoq verify queues/vyukov.tso --out vyukov.cert --trace vyukov.trace
@@ -46,6 +47,23 @@ Status:
   3   CERT is refused              rejected K01, or rejected K08 at record 2
   5   out of memory
   6   a file failed                cannot read PATH
+  64  the words are none of these";
+
+/// Help for `upgrade`.
+pub const UPGRADE: &str =
+    "Reads FILE, a program text, and CERT, a certificate, and trusts neither: it is checked first, as `tsoq check`
+does. Of an accepted one it writes NEW, a certificate of version 2 with the same records, of which the table says cells
+where that of version 1 says whole arrays. A certificate that has version 2 comes back as it is.
+
+Example:
+  tsoq upgrade queues/vyukov_weak.tso vyukov_weak.cert --out vyukov_weak_2.cert
+
+Status:
+  0   NEW is written               upgraded: R records
+  2   FILE is refused              E04 line 7
+  3   CERT is refused              rejected K01, or rejected K08 at record 2
+  5   out of memory
+  6   a file failed                cannot read PATH, or cannot write PATH
   64  the words are none of these";
 
 /// Help for `replay`.
@@ -129,7 +147,7 @@ Status:
 
 /// Help for `explain`.
 pub const EXPLAIN: &str =
-    "CODE is what the program answers: E01 to E14 of a program, K01 to K11 of a certificate, T01 to T03 of a trace.
+    "CODE is what the program answers: E01 to E14 of a program, K01 to K12 of a certificate, T01 to T03 of a trace.
 Reads no file.
 
 Example:

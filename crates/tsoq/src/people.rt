@@ -3,18 +3,17 @@
 
 use crate::command::Asked;
 use crate::limit::{MOST_STATES, StateLimit};
+use crate::outside::outside_at;
 use crate::running::Texts;
 use std::alloc::{AllocError, Global};
 use tso_check::Verdict;
 use tso_client::checked_of;
 use tso_front::{Failure, Session};
+use tso_judge::Code;
 use tso_prog::Fault;
 use tso_say::{Page, put_hidden, put_meaning, put_program, put_trace};
 use tso_show::{ShowError, Walk, print_cause};
 use tso_trace::{Trace, TraceFault};
-
-// The last code of what is wrong with a certificate whatever its client is.
-const LAST_OF_SHAPE: u8 = 3;
 
 // What may be wrong where a certificate or a trace does not fit the client.
 const OTHER_CLIENT: &str =
@@ -33,6 +32,10 @@ fn paths_of<'a>(asked: &Asked<'a>) -> Option<Paths<'a>> {
         Asked::Check(check) => Some(Paths {
             program: check.program,
             other: check.cert,
+        }),
+        Asked::Upgrade(upgrading) => Some(Paths {
+            program: upgrading.program,
+            other: upgrading.cert,
         }),
         Asked::Coverage(covering) => Some(Paths {
             program: covering.check.program,
@@ -194,10 +197,34 @@ fn put_verdict(alloc: Global, page: &mut Page, verdict: Verdict) -> Result<(), A
         page.say("Records count from 0.\n")?;
     }
     put_meaning(alloc, page, format!(in alloc; "{code}")?.as_str())?;
-    if code.number() > LAST_OF_SHAPE {
+    // What K01 to K03 say of a certificate holds whatever its client is.
+    if code > Code::K03 {
         page.say(OTHER_CLIENT)?;
     }
     Ok(())
+}
+
+// Which register of a record's state lies outside of its interval.
+fn put_outside(alloc: Global, page: &mut Page, cert: &[u8], number: u64) -> Result<(), AllocError> {
+    match outside_at(alloc, cert, number)? {
+        Some(outside) => page.say(outside.to_string(alloc)?.as_str()),
+        None => Ok(()),
+    }
+}
+
+/// Says in words which register of a record's state lies outside of its interval, where these bytes are refused for that.
+pub fn tell_outside<S: Session>(session: &mut S, verdict: Verdict, cert: &[u8]) {
+    let Verdict::Rejected {
+        code: Code::K12,
+        place: Some(number),
+    } = verdict
+    else {
+        return;
+    };
+    let mut page = Page::new(session.alloc());
+    if put_outside(session.alloc(), &mut page, cert, number).is_ok() {
+        session.note(&page.bytes);
+    }
 }
 
 /// Says in words why a certificate is refused.
@@ -213,6 +240,7 @@ fn makes_calls(asked: &Asked<'_>) -> bool {
     match asked {
         Asked::Verify(_)
         | Asked::Check(_)
+        | Asked::Upgrade(_)
         | Asked::Coverage(_)
         | Asked::Replay(_)
         | Asked::Fences(_)

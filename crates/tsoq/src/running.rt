@@ -8,11 +8,12 @@ use crate::fences::{FenceSearch, run_fences};
 use crate::objects::print_objects;
 use crate::page::write_page;
 use crate::parse::{Parsing, parse};
-use crate::people::{tell, tell_cause, tell_hidden, tell_limit, tell_verdict};
+use crate::people::{tell, tell_cause, tell_hidden, tell_limit, tell_outside, tell_verdict};
 use crate::progress::{Listener, Progress};
 use crate::report::{Sizes, limit_object};
 use crate::show::{print_run, run_of};
 use crate::survey::{Survey, run_survey};
+use crate::upgrade::{Upgraded, Upgrading, upgrade_to};
 use crate::verify::{Found, verify};
 use std::alloc::{Alloc, Global};
 use std::env::Env;
@@ -25,7 +26,7 @@ use tso_flow::Checked;
 use tso_front::{Failure, Files, STREAM, Session, Streams, json_line, reported, started};
 use tso_say::{Topic, explanation};
 use tso_show::Replayed;
-use tso_survey::{Check, check_bytes, verdict_status};
+use tso_survey::{Check, check_bytes, put_verdict, verdict_status};
 
 /// A trace text has at most 64 MiB, so one byte more shows that it is too long.
 pub const TRACE_BYTES: usize = 64 * 1024 * 1024;
@@ -96,6 +97,40 @@ fn check<R: Threads + Wait + Sync, S: Session>(
     let verdict = check_told(rt, session, &texts.program, asked)?;
     tell_verdict(session, verdict);
     Ok(verdict_status(verdict))
+}
+
+// Says that a certificate was upgraded: on standard error where the new one is on standard output.
+fn put_upgraded<S: Session>(session: &mut S, records: u64, out: &str) -> Result<(), Failure> {
+    let text = format!(in session.alloc(); "upgraded: {records} records\n")?;
+    if out == STREAM {
+        session.note(text.as_bytes());
+        return Ok(());
+    }
+    session.print(text.as_str())
+}
+
+fn upgrade_file<S: Session + Files>(
+    session: &mut S,
+    texts: &mut Texts,
+    asked: &Upgrading<'_>,
+    verbose: bool,
+) -> Result<u8, Failure> {
+    texts.program = session.read_variant(asked.program, &asked.variant)?;
+    let cert = session.read(asked.cert, usize::MAX)?;
+    match upgrade_to(session.alloc(), session, &texts.program, &cert, asked.out)? {
+        Upgraded::Written { records, .. } => {
+            put_upgraded(session, records, asked.out)?;
+            Ok(0)
+        }
+        Upgraded::Refused(verdict) => {
+            put_verdict(session, verdict, false)?;
+            if verbose {
+                tell_outside(session, verdict, &cert);
+                tell_verdict(session, verdict);
+            }
+            Ok(verdict_status(verdict))
+        }
+    }
 }
 
 fn cover_program<R: Threads + Wait + Sync, S: Session>(
@@ -284,6 +319,7 @@ fn perform<R: Threads + Wait + Sync, S: Session + Files, L: Listener + Sync>(
         }
         Asked::Verify(asked) => search(rt, session, texts, listener, asked, request.verbose),
         Asked::Check(asked) => check(rt, session, texts, asked, request.verbose),
+        Asked::Upgrade(asked) => upgrade_file(session, texts, asked, request.verbose),
         Asked::Coverage(asked) => cover_program(rt, session, texts, asked, request.verbose),
         Asked::Replay(asked) => replay(session, texts, asked, request.verbose),
         Asked::Survey(asked) => survey_queue(rt, session, texts, asked),

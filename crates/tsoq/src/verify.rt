@@ -1,23 +1,23 @@
 //! The search of a program's runs, and the file that says what it found.
 
 ghost use Rattle.std.specs.Prelude.{◌≡◌, ◌≤◌, IfOk, None, Some, is_some, length};
-ghost use Rattle.tso_cert.specs.Certificates.{certificate};
 ghost use Rattle.tso_cert.specs.Trees.{record_count, tree_of};
 ghost use Rattle.tso_trace.specs.Grammar.{trace_text};
 ghost use Rattle.tso_trace.specs.Runs.{first_fault, violation_of};
 ghost use Rattle.tsoq.specs.Reports.{IsOfLabels, IsOfRecords, IsReport, IsTold};
-ghost use Rattle.tsoq.specs.Written.{HasTaken, IsAsked, IsAskedFor, IsFiled, bytes_of, count_of};
+ghost use Rattle.tsoq.specs.Written.{HasTaken, HasTakenTree, IsAsked, IsAskedFor, IsFiled, IsSpelledWith, IsWritable, bytes_of, count_of};
 
 use crate::command::Search;
 use crate::counted::Taken;
 use crate::filing::{file_certificate, file_trace};
+use crate::form::Form;
 use crate::progress::{Listener, Progress};
 use crate::report::Report;
-use std::alloc::Global;
+use std::alloc::{AllocError, Global};
 use std::mem;
 use std::sync::Wait;
 use std::thread::Threads;
-use tso_cert::Cert;
+use tso_cert::{Cert, build_intervals};
 use tso_client::checked_of;
 use tso_coverage::{Facts, told};
 use tso_explore::{Outcome, explore};
@@ -73,21 +73,91 @@ fn count_of(taken: &Option<Taken>) -> Option<u64>
     }
 }
 
+// A table of intervals for the tree of a certificate: the tree is as valid with it as with the certificate's own table, which is
+// named for the contract alone.
+fn with_intervals(
+    alloc: Global,
+    checked: &Checked,
+    table: &Table,
+    cert: &Cert,
+) -> Result<Table, AllocError>
+    requires { IsWritable Form.Arrays checked.now.client table.now (tree_of cert.now) }
+    ensures { IfOk result (λ anew. IsWritable Form.Intervals checked.now.client anew (tree_of cert.now)) }
+{
+    let intervals = build_intervals(alloc, checked, cert)?;
+    Ok(Table::Intervals(intervals))
+}
+
+// Writes a certificate to this path with the table of its search.
+fn file_searched<F: Files>(
+    alloc: Global,
+    files: &mut F,
+    path: &str,
+    checked: &Checked,
+    table: &Table,
+    cert: &Cert,
+) -> Result<Taken, Failure>
+    requires { IsWritable Form.Arrays checked.now.client table.now (tree_of cert.now) }
+    ensures { IfOk result (λ taken. IsSpelledWith Form.Arrays checked.now.client (tree_of cert.now) taken.which.numbers) }
+{
+    let taken = file_certificate(alloc, files, path, table, cert)?;
+    Ok(taken)
+}
+
+// Writes it with a table of intervals.
+fn file_anew<F: Files>(
+    alloc: Global,
+    files: &mut F,
+    path: &str,
+    checked: &Checked,
+    table: &Table,
+    cert: &Cert,
+) -> Result<Taken, Failure>
+    requires { IsWritable Form.Arrays checked.now.client table.now (tree_of cert.now) }
+    ensures { IfOk result (λ taken. IsSpelledWith Form.Intervals checked.now.client (tree_of cert.now) taken.which.numbers) }
+{
+    let anew = with_intervals(alloc, checked, table, cert)?;
+    let taken = file_certificate(alloc, files, path, &anew, cert)?;
+    Ok(taken)
+}
+
+// Writes it with the table that is asked for.
+fn file_in_form<F: Files>(
+    alloc: Global,
+    files: &mut F,
+    path: &str,
+    form: Form,
+    checked: &Checked,
+    table: &Table,
+    cert: &Cert,
+) -> Result<Taken, Failure>
+    requires { IsWritable Form.Arrays checked.now.client table.now (tree_of cert.now) }
+    ensures { IfOk result (λ taken. IsSpelledWith form checked.now.client (tree_of cert.now) taken.which.numbers) }
+{
+    match form {
+        Form::Arrays => file_searched(alloc, files, path, checked, table, cert),
+        Form::Intervals => file_anew(alloc, files, path, checked, table, cert),
+    }
+}
+
 // Writes a certificate to this path, if there is one, and says what the file has taken.
 fn write_certificate<F: Files>(
     alloc: Global,
     files: &mut F,
     path: Option<&str>,
+    form: Form,
+    checked: &Checked,
     table: &Table,
     cert: &Cert,
 ) -> Result<Option<Taken>, Failure>
-    ensures taken { IfOk result (HasTaken (certificate table.now (tree_of cert.now))) }
+    requires { IsWritable Form.Arrays checked.now.client table.now (tree_of cert.now) }
+    ensures taken { IfOk result (HasTakenTree form checked.now.client (tree_of cert.now)) }
     ensures asked { IfOk result (λ taken. IsAsked (is_some path.entry) taken None) }
 {
     let Some(path) = path else {
         return Ok(None);
     };
-    let taken = file_certificate(alloc, files, path, table, cert)?;
+    let taken = file_in_form(alloc, files, path, form, checked, table, cert)?;
     Ok(Some(taken))
 }
 
@@ -96,16 +166,19 @@ fn certified<F: Files>(
     alloc: Global,
     files: &mut F,
     path: Option<&str>,
+    form: Form,
+    checked: &Checked,
     table: &Table,
     cert: &Cert,
 ) -> Result<Certification, Failure>
-    requires { record_count (tree_of cert.now) ≤ 4194304 }
+    requires writable { IsWritable Form.Arrays checked.now.client table.now (tree_of cert.now) }
+    requires few { record_count (tree_of cert.now) ≤ 4194304 }
     ensures records { IfOk result (λ made. IsOfRecords (record_count (tree_of cert.now)) made.report) }
-    ensures taken { IfOk result (λ made. HasTaken (certificate table.now (tree_of cert.now)) made.taken) }
+    ensures taken { IfOk result (λ made. HasTakenTree form checked.now.client (tree_of cert.now) made.taken) }
     ensures asked { IfOk result (λ made. IsAsked (is_some path.entry) made.taken None) }
     ensures counted { IfOk result (λ made. bytes_of made.report ≡ count_of made.taken) }
 {
-    let taken = write_certificate(alloc, files, path, table, cert)?;
+    let taken = write_certificate(alloc, files, path, form, checked, table, cert)?;
     let report = Report::Certified {
         records: cert.len(),
         bytes: count_of(&taken),
@@ -176,16 +249,19 @@ fn certified_last<F: Files>(
     alloc: Global,
     files: &mut F,
     path: Option<&str>,
+    form: Form,
+    checked: &Checked,
     table: &Table,
     cert: Cert,
 ) -> Result<Certification, Failure>
-    requires { record_count (tree_of cert) ≤ 4194304 }
+    requires writable { IsWritable Form.Arrays checked.now.client table.now (tree_of cert) }
+    requires few { record_count (tree_of cert) ≤ 4194304 }
     ensures records { IfOk result (λ made. IsOfRecords (record_count (tree_of cert)) made.report) }
-    ensures taken { IfOk result (λ made. HasTaken (certificate table.now (tree_of cert)) made.taken) }
+    ensures taken { IfOk result (λ made. HasTakenTree form checked.now.client (tree_of cert) made.taken) }
     ensures asked { IfOk result (λ made. IsAsked (is_some path.entry) made.taken None) }
     ensures counted { IfOk result (λ made. bytes_of made.report ≡ count_of made.taken) }
 {
-    let made = certified(alloc, files, path, table, &cert);
+    let made = certified(alloc, files, path, form, checked, table, &cert);
     mem::forget(cert);
     made
 }
@@ -215,7 +291,7 @@ pub fn verify<R: Threads + Wait + Sync, F: Files, L: Listener + Sync>(
 ) -> Result<Found, Failure>
     ensures report { IfOk result (λ found. IsReport program.now found.report) }
     ensures trace { IfOk result (λ found. IsTold found.report found.trace) }
-    ensures file { IfOk result (λ found. IsFiled program.now found.report found.trace found.taken) }
+    ensures file { IfOk result (λ found. IsFiled search.now.form program.now found.report found.trace found.taken) }
     ensures asked { IfOk result (λ found. IsAskedFor (is_some search.now.cert) (is_some search.now.trace) found.report found.taken found.unwritten) }
     ensures counted { IfOk result (λ found. bytes_of found.report ≡ count_of found.taken) }
 {
@@ -232,7 +308,15 @@ pub fn verify<R: Threads + Wait + Sync, F: Files, L: Listener + Sync>(
     match outcome {
         Outcome::Certificate(table, cert) => {
             let said = said_of(alloc, &checked, &cert, verbose);
-            let made = certified_last(alloc, files, search.cert, &table, cert)?;
+            let made = certified_last(
+                alloc,
+                files,
+                search.cert,
+                search.form,
+                &checked,
+                &table,
+                cert,
+            )?;
             let Certification { report, taken } = made;
             Ok(Found {
                 report,

@@ -12,10 +12,13 @@ tree_of-requires t c =
       (
         c.requires.searched,
         (
-          c.requires.same,
+          c.requires.closed,
           (
-            numbers_low states ns low (length ns / 2) c.split_at.ensures.front c.requires.numbers,
-            rising_low states ns low (length ns / 2) c.split_at.ensures.front c.requires.rising,
+            c.requires.same,
+            (
+              numbers_low states ns low (length ns / 2) c.split_at.ensures.front c.requires.numbers,
+              rising_low states ns low (length ns / 2) c.split_at.ensures.front c.requires.rising,
+            ),
           ),
         ),
       ),
@@ -34,10 +37,13 @@ tree_of-requires-2 t c =
       (
         c.requires.searched,
         (
-          c.requires.same,
+          c.requires.closed,
           (
-            numbers_high states ns high (length ns / 2) c.split_at.ensures.back c.requires.numbers,
-            rising_high states ns high (length ns / 2) c.split_at.ensures.back c.requires.rising,
+            c.requires.same,
+            (
+              numbers_high states ns high (length ns / 2) c.split_at.ensures.back c.requires.numbers,
+              rising_high states ns high (length ns / 2) c.split_at.ensures.back c.requires.rising,
+            ),
           ),
         ),
       ),

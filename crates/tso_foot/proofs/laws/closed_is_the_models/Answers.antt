@@ -1,4 +1,4 @@
-use Rattle.tso_foot.proofs.TableLemmas.{closed_is_the_models}
+use Rattle.tso_foot.proofs.WithinLemmas.{closed_is_the_models}
 use Rattle.tso_foot.proofs.laws.closed_is_the_models.Goals as goal
 
 pub returns : goal.returns

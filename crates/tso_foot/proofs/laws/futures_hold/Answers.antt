@@ -1,4 +1,4 @@
-use Rattle.tso_foot.proofs.FutureLemmas.{futures_hold}
+use Rattle.tso_foot.proofs.WithinLemmas.{futures_hold}
 use Rattle.tso_foot.proofs.laws.futures_hold.Goals as goal
 
 pub returns : goal.returns

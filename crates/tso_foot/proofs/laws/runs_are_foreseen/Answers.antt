@@ -1,4 +1,4 @@
-use Rattle.tso_foot.proofs.FutureLemmas.{runs_are_foreseen}
+use Rattle.tso_foot.proofs.WithinLemmas.{runs_are_foreseen}
 use Rattle.tso_foot.proofs.laws.runs_are_foreseen.Goals as goal
 
 pub returns : goal.returns

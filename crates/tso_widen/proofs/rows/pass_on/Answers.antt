@@ -2,7 +2,7 @@ use Rattle.std.proofs.Common.{List, ℕ, Option, get_or, sym, subst}
 use Rattle.std.proofs.lemmas.Option.{slice_get-get_or}
 use Rattle.tso_flow.specs.Paths.{next_of, target_of}
 use Rattle.tso_interval.specs.declared.interval.Interval.{Interval}
-use Rattle.tso_widen.proofs.Lists.{or_none}
+use Rattle.std.proofs.lemmas.Bool.{or_parts}
 use Rattle.tso_widen.proofs.RowLemmas.{HoldsAt, moved_row, passed_still, then_rows_grown}
 use Rattle.tso_widen.specs.Rows.{IsRow}
 use Rattle.tso_widen.proofs.rows.pass_on.Goals as goal
@@ -21,7 +21,7 @@ returns c =
           let row = subst (λ (x : List Interval). IsRow x) (sym c.moved-other.ensures) (moved_row (get_or rows c.args.i _) c.args.step c.requires.range own) in
           other.proper row (one.proper row all);
       passed = λ none.
-          let both = or_none c.take_at-is_grown.result c.take_at-is_grown-2.result none in
+          let both = or_parts c.take_at-is_grown.result c.take_at-is_grown-2.result none in
           let next = subst (λ (o : Option ℕ). HoldsAt o c.moved-other.result mid) c.next_position.ensures one.holds in
           let target = subst (λ (o : Option ℕ). HoldsAt o c.moved-other.result new) c.jump_target.ensures other.holds in
           passed_still c.args.step c.args.i _ rows mid new (one.grown.same both.0) (other.grown.same both.1) (subst (λ (x : List Interval). HoldsAt (next_of c.args.step c.args.i) x mid) c.moved-other.ensures next)

@@ -1,7 +1,7 @@
 use Rattle.std.proofs.Common.{List, arith, sym, subst}
 use Rattle.std.proofs.lemmas.Option.{slice_get_within}
 use Rattle.tso_interval.specs.declared.interval.Interval.{Interval}
-use Rattle.tso_widen.proofs.Lists.{or_none}
+use Rattle.std.proofs.lemmas.Bool.{or_parts}
 use Rattle.tso_widen.proofs.RowLemmas.{none_rows_grown, passed_on, range_at, then_rows_grown}
 use Rattle.tso_widen.specs.Rows.{ArePassed}
 use Rattle.tso_widen.specs.declared.growing.Growth.TheVariants.{Whole}
@@ -21,7 +21,7 @@ loop-i-preserved c =
       grown = then_rows_grown Whole c.args.rows.now c.loop-i.rows c.pass_on-is_grown.new.rows c.loop-i.is_grown c.pass_on-is_grown.result known.grown more.grown;
       proper = λ all. more.proper (known.proper all);
       passed = λ none.
-          let both = or_none c.loop-i.is_grown c.pass_on-is_grown.result none in
+          let both = or_parts c.loop-i.is_grown c.pass_on-is_grown.result none in
           let same = more.grown.same both.1 in
           passed_on c.args.steps.now c.pass_on-is_grown.new.rows c.loop-i.i _ (subst (λ (rows : List (List Interval)). ArePassed c.args.steps.now rows c.loop-i.i) (sym same) (known.passed both.0)) (more.passed both.1);
     }

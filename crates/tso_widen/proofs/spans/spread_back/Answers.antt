@@ -2,7 +2,7 @@ use Rattle.std.proofs.Common.{◌∙◌, true, List, length, refl, arith, sym, s
 use Rattle.std.proofs.lemmas.Option.{slice_get_within}
 use Rattle.tso_interval.specs.declared.interval.Interval.{Interval}
 use Rattle.tso_widen.proofs.Growth.{none_grown, then_grown}
-use Rattle.tso_widen.proofs.Lists.{or_none}
+use Rattle.std.proofs.lemmas.Bool.{or_parts}
 use Rattle.tso_widen.proofs.SpanLemmas.{hands_at, taken_on}
 use Rattle.tso_widen.specs.Spans.{AreTaken}
 use Rattle.tso_widen.proofs.spans.spread_back.Goals as goal
@@ -21,7 +21,7 @@ loop-i-preserved c =
     record {
       grown = then_grown c.args.growth c.args.whole c.args.spans.now c.loop-i.spans c.take_back-is_grown.new.spans c.loop-i.is_grown c.take_back-is_grown.result known.grown more.grown;
       taken = λ none.
-          let both = or_none c.loop-i.is_grown c.take_back-is_grown.result none in
+          let both = or_parts c.loop-i.is_grown c.take_back-is_grown.result none in
           let same = more.grown.same both.1 in
           taken_on steps c.take_back-is_grown.new.spans c.loop-i.i _ (subst (λ (spans : List Interval). AreTaken steps spans c.loop-i.i) (sym same) (known.taken both.0)) (more.taken both.1);
       spans = λ needs hands all. more.spans needs (hands_at steps c.loop-i.i _ (length c.loop-i.spans) needs c.loop-i-test.true (known.grown.count ∙ c.requires.same) hands) (known.spans needs hands all);

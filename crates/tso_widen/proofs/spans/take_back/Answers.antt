@@ -2,7 +2,7 @@ use Rattle.std.proofs.Common.{◌≡◌, ◌∙◌, List, ℕ, Option, length, a
 use Rattle.tso_flow.specs.Paths.{next_of, target_of}
 use Rattle.tso_interval.specs.Intervals.{IsInside}
 use Rattle.tso_interval.specs.declared.interval.Interval.{Interval}
-use Rattle.tso_widen.proofs.Lists.{or_none}
+use Rattle.std.proofs.lemmas.Bool.{or_parts}
 use Rattle.tso_widen.proofs.RowLemmas.{goes_next, goes_target}
 use Rattle.tso_widen.proofs.SpanLemmas.{held_by, kept, other_span, some_inside, taken_still, two_grown, two_spans}
 use Rattle.tso_widen.specs.Growing.{interval_at}
@@ -27,7 +27,7 @@ returns c =
     record {
       grown = two_grown g w spans mid new i c.span_if-next.result c.span_if-target.result c.grow-is_grown.result c.grow-is_grown-2.result c.requires.inside next target one.set one.flag other.set other.flag;
       taken = λ none.
-          let both = or_none c.grow-is_grown.result c.grow-is_grown-2.result none in
+          let both = or_parts c.grow-is_grown.result c.grow-is_grown-2.result none in
           let first = kept g w spans mid i c.span_if-next.result c.grow-is_grown.result c.requires.inside next one.set one.flag both.0 in
           let last = kept g w mid new i c.span_if-target.result c.grow-is_grown-2.result (omega (arith, c.requires.inside, ap length first)) target other.set other.flag both.1 in
           taken_still step i spans new (last ∙ first)

@@ -1,0 +1,104 @@
+//! Tables of intervals that hold what the states of a tree have in their registers.
+
+ghost use Rattle.std.specs.Prelude.{◌≡◌, IfOk, IsTrue, List, OnOk, Some, length, slice_get};
+ghost use Rattle.tso_cells.specs.Inductive.{IsInductive};
+ghost use Rattle.tso_cert.specs.Lookup.{tree_states};
+ghost use Rattle.tso_cert.specs.Seen.{AreSeen, AreWithin, CoreIsSeen, Keeps, StateIsSeen, ThreadIsSeen};
+ghost use Rattle.tso_cert.specs.Trees.{tree_of};
+ghost use Rattle.tso_foot.specs.Narrower.{IsNarrowerThanClosed};
+ghost use Rattle.tso_foot.specs.declared.table.Table.TheVariants.{Intervals};
+ghost use Rattle.tso_interval.specs.Intervals.{lie_in};
+ghost use Rattle.tso_interval.specs.declared.interval.Interval.{Interval as AnInterval};
+ghost use Rattle.tso_rec.specs.Records.{states_of};
+ghost use Rattle.tso_widen.specs.Hulls.{rows_of};
+
+use crate::cert::Cert;
+use std::alloc::{AllocError, Global};
+use tso_cells::IntervalTable;
+use tso_compact::{begun_calls, running_procedure};
+use tso_flow::{Checked, ProcedureKind};
+use tso_rec::Packed;
+use tso_state::{Core, State, Viewed};
+use tso_widen::{Hull, widened};
+
+// Fifteen registers at a position of a procedure.
+fn take_registers(hull: &mut Hull, procedure: ProcedureKind, position: usize, registers: &[u64; 15])
+    ensures keeps { Keeps hull.old hull.new }
+    ensures count { length registers.now ≡ 15 }
+    ensures lie { (row : List AnInterval) → slice_get (rows_of hull.new procedure) position ≡ Some row → IsTrue (lie_in row registers.now) }
+{
+    hull.take_in(procedure, position, registers);
+}
+
+// The registers of a core that runs this procedure, if it runs one.
+fn take_core(hull: &mut Hull, procedure: ProcedureKind, core: &Core)
+    ensures keeps { Keeps hull.old hull.new }
+    ensures seen { CoreIsSeen hull.new procedure core.now }
+{
+    if let Core::Running(frame) = core {
+        take_registers(hull, procedure, frame.pc, &frame.registers);
+    }
+}
+
+fn take_thread(hull: &mut Hull, state: &State, number: usize)
+    ensures keeps { Keeps hull.old hull.new }
+    ensures seen { ThreadIsSeen hull.new state.now number }
+{
+    if let Some(thread) = state.thread(number) {
+        let procedure = running_procedure(begun_calls(state, number));
+        take_core(hull, procedure, &thread.core);
+    }
+}
+
+fn take_state(hull: &mut Hull, state: &State)
+    ensures keeps { Keeps hull.old hull.new }
+    ensures seen { StateIsSeen hull.new state.now }
+{
+    for number in 0..state.thread_count() {
+        take_thread(hull, state, number);
+    }
+}
+
+fn take_leaf(hull: &mut Hull, records: &Packed) -> Result<(), AllocError>
+    ensures keeps { OnOk result (Keeps hull.old hull.new) }
+    ensures seen { OnOk result (AreSeen hull.new (states_of records.now)) }
+{
+    for k in 0..records.len() {
+        let state = records.state(k)?;
+        take_state(hull, &state);
+    }
+    Ok(())
+}
+
+fn take_tree(hull: &mut Hull, cert: &Cert) -> Result<(), AllocError>
+    ensures keeps { OnOk result (Keeps hull.old hull.new) }
+    ensures seen { OnOk result (AreSeen hull.new (tree_states (tree_of cert.now))) }
+{
+    match cert {
+        Cert::Leaf(records) => take_leaf(hull, records),
+        Cert::Fork(left, _, right) => {
+            take_tree(hull, left)?;
+            take_tree(hull, right)
+        }
+    }
+}
+
+/// An inductive table of intervals for the states of a tree: the running registers of each record's state lie in their intervals
+/// at its position, and the lists name only arrays that every closed table of arrays has there. It need not be the least such
+/// table: an interval that still grows after some rounds has all words, and one from the least to the greatest cell stands for
+/// all cells of an array. It takes memory for the table, and for one state at a time.
+///
+/// Errors: where a growth was refused.
+pub fn build_intervals(
+    alloc: Global,
+    checked: &Checked,
+    cert: &Cert,
+) -> Result<IntervalTable, AllocError>
+    ensures inductive { IfOk result (IsInductive checked.now.client) }
+    ensures held { IfOk result (λ t. AreWithin (Intervals t) (tree_states (tree_of cert.now))) }
+    ensures narrow { IfOk result (IsNarrowerThanClosed checked.now.client) }
+{
+    let mut hull = Hull::empty(alloc, checked)?;
+    take_tree(&mut hull, cert)?;
+    widened(alloc, checked, &hull)
+}

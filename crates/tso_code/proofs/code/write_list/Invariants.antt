@@ -1,7 +1,0 @@
-use Rattle.std.proofs.Common.{◌≡◌, ◌++◌, length, take}
-use Rattle.std.specs.List.{flat_map}
-use Rattle.tso_code.specs.Numbers.{number}
-use Rattle.tso_code.proofs.code.write_list.Given as goal
-
-abbrev pub invariant-loop-item : goal.invariant-loop-item
-invariant-loop-item g l = l.out.items ≡ l.fn.out.items ++ (number (length l.items) ++ flat_map g.T.Code.spell (take l.item-index l.items))

@@ -1,0 +1,35 @@
+-- What comes of an upgrade.
+use Rattle.std.specs.Prelude.{◌≡◌, ℕ, List, Ok}
+use Rattle.tso_cert.specs.Certificates.{Spells}
+use Rattle.tso_cert.specs.Trees.{IsWithinLimits, Tree, record_count}
+use Rattle.tso_check.specs.Upgrades.{IsNoAcceptance, IsUpgraded}
+use Rattle.tso_check.specs.Verdicts.{IsAnswer}
+use Rattle.tso_check.specs.declared.upgrading.UpgradeError.{UpgradeError}
+use Rattle.tso_check.specs.declared.upgrading.UpgradeError.TheVariants.{NotAccepted}
+use Rattle.tso_foot.specs.declared.table.Table.{Table}
+use Rattle.tsoq.specs.declared.upgrade.Upgraded.{Upgraded}
+use Rattle.tsoq.specs.declared.upgrade.Upgraded.TheVariants.{Refused, Written}
+
+-- the bytes spell a certificate, within the limits, of so many records
+pub record HasRecords (bytes : List ℕ) (count : ℕ) : Type 0 where
+  pub table : Table
+  pub tree : Tree
+  pub spelled : Spells bytes table tree
+  pub within : IsWithinLimits tree
+  pub counted : count ≡ record_count tree
+
+-- a file has taken these bytes, and it is said how many records they have
+abbrev pub IsWritten : List ℕ → Upgraded → Type 0
+IsWritten bytes (Written records taken) = (taken.which.numbers ≡ bytes) × HasRecords bytes records
+IsWritten bytes (Refused verdict) = ⊥
+
+-- it is not upgraded, and this is the verdict
+abbrev pub IsRefusal : UpgradeError → Upgraded → Type 0
+IsRefusal error (Written records taken) = ⊥
+IsRefusal error (Refused verdict) = error ≡ NotAccepted (Ok verdict)
+
+-- a file has taken the certificate with a table of intervals, the check accepts both for the client of the text, and they have so many records; or
+-- the check gives this verdict, which accepts nothing
+abbrev pub IsUpgrade : List ℕ → List ℕ → Upgraded → Type 0
+IsUpgrade text bytes (Written records taken) = IsUpgraded text bytes taken.which.numbers × HasRecords taken.which.numbers records
+IsUpgrade text bytes (Refused verdict) = IsAnswer text bytes (Ok verdict) × IsNoAcceptance (Ok verdict)

@@ -1,0 +1,131 @@
+//! Certificates that are written anew with a table of intervals.
+
+ghost use Rattle.std.specs.Prelude.{IfOk};
+ghost use Rattle.tsoq.specs.Upgraded.{HasRecords, IsRefusal, IsUpgrade, IsWritten};
+
+use crate::counted::Taken;
+use crate::filing::file_bytes;
+use crate::help;
+use clap::{Arg, ArgAction, ArgMatches, Command};
+use std::alloc::{AllocError, Global};
+use tso_cert::decode;
+use tso_check::{UpgradeError, Verdict, upgrade};
+use tso_front::{
+    Failure, Files, Variant, program_argument, read_apart, variant_arguments, variant_of,
+    written_apart,
+};
+use tso_survey::cert_argument;
+
+/// Which certificate is upgraded, for which program, and where the new one is written.
+#[derive(Clone, Copy, Debug)]
+pub struct Upgrading<'a> {
+    pub program: &'a str,
+    pub variant: Variant<'a>,
+    pub cert: &'a str,
+    pub out: &'a str,
+}
+
+/// What came of an upgrade.
+#[derive(Drop)]
+pub enum Upgraded {
+    /// A certificate of so many records was written, and this is what its file has taken.
+    Written { records: u64, taken: Taken },
+    /// The certificate is not accepted, and this is the verdict on it.
+    Refused(Verdict),
+}
+
+// How many records a certificate has. Its bytes were spelled, so nothing but memory can be wanting.
+fn count_records(alloc: Global, bytes: &[u8]) -> Result<u64, Failure>
+    ensures { IfOk result (HasRecords bytes.now) }
+{
+    match decode(alloc, bytes) {
+        Ok((_, cert)) => Ok(cert.len()),
+        Err(_) => Err(Failure::Memory),
+    }
+}
+
+// Writes the bytes of a certificate to this path. The records are counted first: where memory is wanting nothing was written.
+fn write_upgraded<F: Files>(
+    alloc: Global,
+    files: &mut F,
+    path: &str,
+    bytes: &[u8],
+) -> Result<Upgraded, Failure>
+    ensures { IfOk result (IsWritten bytes.now) }
+{
+    let records = count_records(alloc, bytes)?;
+    let taken = file_bytes(alloc, files, path, bytes)?;
+    Ok(Upgraded::Written { records, taken })
+}
+
+// Why a certificate is not upgraded: the verdict on it, if there is one.
+fn refusal_of(error: UpgradeError) -> Result<Upgraded, Failure>
+    ensures { IfOk result (IsRefusal error) }
+{
+    match error {
+        UpgradeError::NotAccepted(Ok(verdict)) => Ok(Upgraded::Refused(verdict)),
+        UpgradeError::NotAccepted(Err(error)) => Err(Failure::from(error)),
+        UpgradeError::Memory => Err(Failure::Memory),
+    }
+}
+
+/// Writes a certificate with a table of intervals to this path, where the one for a program text is accepted: the tree's bytes are
+/// the same, and the new one is accepted too. One that has such a table already is written as it is. Else nothing is written, and it
+/// gives the verdict.
+///
+/// Errors: `Program` with the first fault of the text; `CannotWrite`, and then what was there is as it was; `Memory`.
+pub fn upgrade_to<F: Files>(
+    alloc: Global,
+    files: &mut F,
+    program: &[u8],
+    cert: &[u8],
+    path: &str,
+) -> Result<Upgraded, Failure>
+    ensures { IfOk result (IsUpgrade program.now cert.now) }
+{
+    match upgrade(alloc, program, cert) {
+        Ok(bytes) => write_upgraded(alloc, files, path, bytes.as_slice()),
+        Err(error) => refusal_of(error),
+    }
+}
+
+// The option that says where the new certificate is written.
+fn new_argument<'a>(alloc: Global) -> Arg<'a> {
+    Arg::new(alloc, "out")
+        .long("out")
+        .value_name("NEW")
+        .action(ArgAction::Set)
+        .required(true)
+        .help("where the new certificate is written")
+}
+
+/// The words of `upgrade`.
+///
+/// Errors: where a growth was refused.
+pub fn upgrade_command<'a>(alloc: Global) -> Result<Command<'a>, AllocError> {
+    let command = Command::new(alloc, "upgrade")
+        .about("writes an accepted certificate anew, in version 2, without a search")
+        .after_help(help::UPGRADE)
+        .arg(program_argument(alloc))?;
+    let command = command.arg(cert_argument(alloc).required(true))?;
+    let command = command.arg(new_argument(alloc))?;
+    variant_arguments(alloc, command)
+}
+
+/// What the words of `upgrade` ask for.
+///
+/// Errors: `Usage` where a file would be read twice, or be read and written; `Memory`.
+pub fn upgrading_of<'a>(alloc: Global, matches: &ArgMatches<'a>) -> Result<Upgrading<'a>, Failure> {
+    let program = matches.get_str("FILE").unwrap_or("");
+    let cert = matches.get_str("CERT").unwrap_or("");
+    let out = matches.get_str("out").unwrap_or("");
+    read_apart(alloc, program, cert)?;
+    written_apart(alloc, Some(out), program)?;
+    written_apart(alloc, Some(out), cert)?;
+    Ok(Upgrading {
+        program,
+        variant: variant_of(matches),
+        cert,
+        out,
+    })
+}
