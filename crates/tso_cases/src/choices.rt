@@ -2,6 +2,7 @@
 
 use crate::actors::{actor_of, actors_of, state_after};
 use crate::failure::Failure;
+use crate::followed::put_followed;
 use crate::input::{before, behind, index_at, word};
 use std::alloc::{AllocError, Global};
 use tso_choose::{Choice, choose, chosen};
@@ -9,6 +10,7 @@ use tso_flow::Checked;
 use tso_foot::{ArrayTable, Masks, Table, build, is_closed};
 use tso_indep::{Reason, holds};
 use tso_state::{State, is_well_formed};
+use tso_widen::{Hull, widened};
 
 const REASONS: [Reason; 6] = [
     Reason::Own,
@@ -104,12 +106,30 @@ fn ask(
         put_table(checked, table, out)?;
         return Ok(());
     }
+    if word(call, 0).starts_with("followed") {
+        return put_followed(alloc, checked, table, out);
+    }
     let text = behind(call, ":");
     let state = state_after(alloc, checked, before(text, "/"))?;
-    if word(call, 0) == "chosen" {
+    if word(call, 0).starts_with("chosen") {
         put_chosen(alloc, checked, table, &state, out)
     } else {
         put_reasons(alloc, checked, table, &state, behind(text, "/"), out)
+    }
+}
+
+// A table of intervals for no states but those that calls begin with, and all that follow from these.
+fn interval_table(alloc: Global, checked: &Checked) -> Result<Table, AllocError> {
+    let hull = Hull::empty(alloc, checked)?;
+    Ok(Table::Intervals(widened(alloc, checked, &hull)?))
+}
+
+// The table that a call is made with: one of intervals where it says so, and else the least one of arrays.
+fn table_of(alloc: Global, checked: &Checked, call: &str) -> Result<Table, AllocError> {
+    if word(call, 0).ends_with("_by_cells") {
+        interval_table(alloc, checked)
+    } else {
+        build(alloc, checked)
     }
 }
 
@@ -121,10 +141,16 @@ pub fn answer(
     out: &mut String,
 ) -> Result<bool, Failure> {
     match word(call, 0) {
-        "footprints" | "chosen" | "reasons" => {}
+        "footprints"
+        | "chosen"
+        | "chosen_by_cells"
+        | "reasons"
+        | "reasons_by_cells"
+        | "followed"
+        | "followed_by_cells" => {}
         _ => return Ok(false),
     }
-    let table = build(alloc, checked)?;
+    let table = table_of(alloc, checked, call)?;
     ask(alloc, checked, &table, call, out)?;
     Ok(true)
 }

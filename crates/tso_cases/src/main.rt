@@ -14,6 +14,7 @@ mod dispatch;
 mod events;
 mod failure;
 mod filing;
+mod followed;
 mod input;
 mod judged;
 mod label_kinds;

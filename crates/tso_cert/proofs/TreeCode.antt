@@ -17,7 +17,7 @@ use Rattle.tso_foot.specs.declared.table.Table.{Table}
 use Rattle.tso_rec.proofs.RecordCodes.{record_code}
 use Rattle.tso_rec.specs.Spelling.{a_record, record_at, RecordFits}
 use Rattle.tso_rec.specs.declared.record.Record.{Record}
-use Rattle.tso_cert.specs.Certificates.{◌>>=◌, Branch, certificate, certificate_at, Decodes, field, Fits, leaf_at, magic, magic_at, Spells, tree_at}
+use Rattle.tso_cert.specs.Certificates.{◌>>=◌, Branch, certificate, certificate_at, Decodes, field, Fits, front_at, leaf_at, magic, magic_at, Spells, tree_at}
 use Rattle.tso_cert.specs.Trees.{Tree, leaf, fork, tree_of, spelling_of, record_count, TreeFits, IsWithin, IsWithinLimits}
 use Rattle.tso_cert.specs.declared.cert.Cert.{Cert}
 use Rattle.tso_cert.specs.declared.fault.DecodeError.{DecodeError}
@@ -156,6 +156,11 @@ certificate_again t c fits within =
     ap (λ (r : Result (List ℕ) Fault). r >>= λ rest. field (table_at rest) >>= λ t. tree_at 64 4194304 t.1 >>= λ c. cond (eqb (length c.2) 0) (Ok (t.0, c.0)) (Err K01)) (magic_again (table t ++ spelling_of c))
     ∙ ap (λ (r : Option (Table × List ℕ)). field r >>= λ t. tree_at 64 4194304 t.1 >>= λ c. cond (eqb (length c.2) 0) (Ok (t.0, c.0)) (Err K01)) (table_code.again t (spelling_of c) fits.0)
     ∙ ap (λ (r : Branch). r >>= λ c. cond (eqb (length c.2) 0) (Ok (t, c.0)) (Err K01)) tree_all
+
+-- behind the table are the bytes of the tree
+pub front_of : (bytes : List ℕ) (t : Table) (c : Tree) → Spells bytes t c → front_at bytes ≡ Ok (t, spelling_of c)
+front_of bytes t c spelled =
+    ap front_at spelled.1 ∙ ap (λ (r : Result (List ℕ) Fault). r >>= λ rest. field (table_at rest)) (magic_again (table t ++ spelling_of c)) ∙ ap (λ (o : Option (Table × List ℕ)). field o) (table_code.again t (spelling_of c) spelled.0.0)
 
 pub is_found : (bytes : List ℕ) (r : Result (Table × Cert) DecodeError) → Decodes r (certificate_at bytes) → IfOk r (λ x. Spells bytes x.0 (tree_of x.1) × IsWithinLimits (tree_of x.1))
 is_found bytes (Ok x) given = certificate_take bytes (x.0, tree_of x.1) given

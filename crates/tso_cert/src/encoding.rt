@@ -2,7 +2,7 @@
 ghost use Rattle.std.specs.Io.KnownBytes.{Appends};
 ghost use Rattle.std.specs.Prelude.{◌≡◌, ◌++◌, [], IfOk, OnErr, OnOk};
 ghost use Rattle.tso_cert.specs.Certificates.{certificate};
-ghost use Rattle.tso_cert.specs.Trees.{spelling_of, tree_of};
+ghost use Rattle.tso_cert.specs.Trees.{Tree, spelling_of, tree_of};
 ghost use Rattle.tso_list.specs.Beginnings.{AppendsBeginning};
 
 use crate::cert::Cert;
@@ -41,6 +41,16 @@ pub fn encode(alloc: Global, table: &Table, cert: &Cert) -> Result<Vec<u8>, Allo
     let mut out = Vec::from_slice(alloc, &MAGIC)?;
     table.write(&mut out)?;
     write_tree(cert, &mut out)?;
+    Ok(out)
+}
+
+/// The one spelling of the table, before the bytes of a tree.
+pub fn encode_before(alloc: Global, table: &Table, tree: &[u8]) -> Result<Vec<u8>, AllocError>
+    ensures { (c : Tree) → tree.now ≡ spelling_of c → IfOk result (λ v. v.items ≡ certificate table.now c) }
+{
+    let mut out = Vec::from_slice(alloc, &MAGIC)?;
+    table.write(&mut out)?;
+    out.extend_from_slice(tree)?;
     Ok(out)
 }
 

@@ -1,4 +1,4 @@
-//! Tables of intervals that hold what the states of a tree have in their registers.
+//! Tables of intervals that hold what states have in their registers.
 
 ghost use Rattle.std.specs.Prelude.{◌≡◌, IfOk, IsTrue, List, OnOk, Some, length, slice_get};
 ghost use Rattle.tso_cells.specs.Inductive.{IsInductive};
@@ -10,7 +10,8 @@ ghost use Rattle.tso_foot.specs.declared.table.Table.TheVariants.{Intervals};
 ghost use Rattle.tso_interval.specs.Intervals.{lie_in};
 ghost use Rattle.tso_interval.specs.declared.interval.Interval.{Interval as AnInterval};
 ghost use Rattle.tso_rec.specs.Records.{states_of};
-ghost use Rattle.tso_widen.specs.Hulls.{rows_of};
+ghost use Rattle.tso_state.specs.declared.state.State.{State as AState};
+ghost use Rattle.tso_widen.specs.Hulls.{empty_hull, rows_of};
 
 use crate::cert::Cert;
 use std::alloc::{AllocError, Global};
@@ -18,7 +19,7 @@ use tso_cells::IntervalTable;
 use tso_compact::{begun_calls, running_procedure};
 use tso_flow::{Checked, ProcedureKind};
 use tso_rec::Packed;
-use tso_state::{Core, State, Viewed};
+use tso_state::{Core, Viewed};
 use tso_widen::{Hull, widened};
 
 // Fifteen registers at a position of a procedure.
@@ -40,9 +41,9 @@ fn take_core(hull: &mut Hull, procedure: ProcedureKind, core: &Core)
     }
 }
 
-fn take_thread(hull: &mut Hull, state: &State, number: usize)
+fn take_thread<S: Viewed>(hull: &mut Hull, state: &S, number: usize)
     ensures keeps { Keeps hull.old hull.new }
-    ensures seen { ThreadIsSeen hull.new state.now number }
+    ensures seen { ThreadIsSeen hull.new (S.state state.now) number }
 {
     if let Some(thread) = state.thread(number) {
         let procedure = running_procedure(begun_calls(state, number));
@@ -50,9 +51,10 @@ fn take_thread(hull: &mut Hull, state: &State, number: usize)
     }
 }
 
-fn take_state(hull: &mut Hull, state: &State)
+/// The registers of each thread of a state that runs are seen, each at the position of its thread.
+pub fn take_state<S: Viewed>(hull: &mut Hull, state: &S)
     ensures keeps { Keeps hull.old hull.new }
-    ensures seen { StateIsSeen hull.new state.now }
+    ensures seen { StateIsSeen hull.new (S.state state.now) }
 {
     for number in 0..state.thread_count() {
         take_thread(hull, state, number);
@@ -83,10 +85,27 @@ fn take_tree(hull: &mut Hull, cert: &Cert) -> Result<(), AllocError>
     }
 }
 
-/// An inductive table of intervals for the states of a tree: the running registers of each record's state lie in their intervals
-/// at its position, and the lists name only arrays that every closed table of arrays has there. It need not be the least such
-/// table: an interval that still grows after some rounds has all words, and one from the least to the greatest cell stands for
-/// all cells of an array. It takes memory for the table, and for one state at a time.
+/// An inductive table of intervals that holds what was seen: the running registers of each state that was taken into the hull lie
+/// in their intervals at its position, and the lists name only arrays that every closed table of arrays has there. It need not be
+/// the least such table: an interval that still grows after some rounds has all words, and one from the least to the greatest
+/// cell stands for all cells of an array.
+///
+/// Errors: where a growth was refused.
+pub fn intervals_of(
+    alloc: Global,
+    checked: &Checked,
+    hull: &Hull,
+) -> Result<IntervalTable, AllocError>
+    requires { Keeps (empty_hull checked.now.client) hull.now }
+    ensures inductive { IfOk result (IsInductive checked.now.client) }
+    ensures held { (states : List AState) → AreSeen hull.now states → IfOk result (λ t. AreWithin (Intervals t) states) }
+    ensures narrow { IfOk result (IsNarrowerThanClosed checked.now.client) }
+{
+    widened(alloc, checked, hull)
+}
+
+/// An inductive table of intervals for the states of a tree, as `intervals_of` makes it of a hull of them all. It takes memory for
+/// the table, and for one state at a time.
 ///
 /// Errors: where a growth was refused.
 pub fn build_intervals(
@@ -100,5 +119,5 @@ pub fn build_intervals(
 {
     let mut hull = Hull::empty(alloc, checked)?;
     take_tree(&mut hull, cert)?;
-    widened(alloc, checked, &hull)
+    intervals_of(alloc, checked, &hull)
 }

@@ -11,7 +11,7 @@ mod workers;
 
 pub use cert::Cert;
 pub use decoding::{decode, read_table, read_tree};
-pub use encoding::{encode, write};
+pub use encoding::{encode, encode_before, write};
 pub use fault::{DecodeError, Fault, WriteError};
-pub use intervals::build_intervals;
+pub use intervals::{build_intervals, intervals_of, take_state};
 pub use workers::{NoWatch, Watch, Workers};

@@ -107,7 +107,7 @@ module _ (c : Client) (s : Scanned) (stored : IsStored c s) where
 
 -- ---- what was read
 
-shape_counts : (sh : Shape) (t : Tree) → IsShapeOf sh t → shape_count sh ≡ record_count t
+pub shape_counts : (sh : Shape) (t : Tree) → IsShapeOf sh t → shape_count sh ≡ record_count t
 shape_counts (Leaf n) (leaf rs) is = is
 shape_counts (Leaf n) (fork l m r) is = absurd is
 shape_counts (Fork' p one q two) (leaf rs) is = absurd is

@@ -6,14 +6,15 @@ use Rattle.std.proofs.lemmas.Bool.{and_from, and_parts}
 use Rattle.std.proofs.lemmas.Option.{slice_get-map}
 use Rattle.tso_cells.specs.Inductive.{IsInductive}
 use Rattle.tso_cells.specs.declared.table.IntervalTable.{IntervalTable}
+use Rattle.tso_cert.proofs.TreeCode.{front_of}
 use Rattle.tso_cert.proofs.Uniqueness.{unique}
-use Rattle.tso_cert.specs.Certificates.{Spells, certificate}
+use Rattle.tso_cert.specs.Certificates.{Spells, certificate, front_at}
 use Rattle.tso_cert.specs.Lookup.{tree_states}
 use Rattle.tso_cert.specs.Seen.{AreWithin}
-use Rattle.tso_cert.specs.Trees.{IsWithinLimits, Tree, records_of}
+use Rattle.tso_cert.specs.Trees.{IsWithinLimits, Tree, records_of, spelling_of}
 use Rattle.tso_check.proofs.OneAnswer.{one_answer}
 use Rattle.tso_check.specs.Laws.{IsSameButMemory}
-use Rattle.tso_check.specs.Upgrades.{IsMadeFor, IsNoAcceptance, IsNotUpgraded, IsSpelledAnew, IsUpgraded}
+use Rattle.tso_check.specs.Upgrades.{HasRecords, IsMadeFor, IsNoAcceptance, IsNotRenewed, IsNotUpgraded, IsRenewed, IsRenewedWith, IsSpelledAnew, IsUpgraded}
 use Rattle.tso_check.specs.Verdicts.{IsAnswer, IsVerdict}
 use Rattle.tso_check.specs.declared.upgrading.UpgradeError.{UpgradeError}
 use Rattle.tso_check.specs.declared.upgrading.UpgradeError.TheVariants.{Memory, NotAccepted}
@@ -28,7 +29,7 @@ use Rattle.tso_compact.specs.declared.sort.StepKind.{StepKind}
 use Rattle.tso_compact.specs.declared.sort.StepKind.TheVariants as kinds
 use Rattle.tso_foot.proofs.NarrowerLemmas.{narrower_foresees_no_more}
 use Rattle.tso_foot.specs.Ahead.{future_reads, future_writes}
-use Rattle.tso_foot.specs.Narrower.{IsNarrower}
+use Rattle.tso_foot.specs.Narrower.{IsNarrower, IsNarrowerThanClosed}
 use Rattle.tso_foot.specs.declared.table.ArrayTable.{ArrayTable}
 use Rattle.tso_foot.specs.declared.table.Table.{Table}
 use Rattle.tso_foot.specs.declared.table.Table.TheVariants.{Arrays, Intervals}
@@ -43,6 +44,8 @@ use Rattle.tso_range.proofs.Tables.{table_fits}
 use Rattle.tso_rec.specs.declared.record.End.{End}
 use Rattle.tso_rec.specs.declared.record.End.TheVariants.{Choices, Order}
 use Rattle.tso_rec.specs.declared.record.Record.{Record}
+use Rattle.tso_scan.specs.Scanned.{IsScannedTree}
+use Rattle.tso_scan.specs.declared.scanned.Scanned.{Scanned}
 use Rattle.tso_state.specs.WellFormed.{IsWellFormed}
 use Rattle.tso_state.specs.declared.actor.Actor.{Actor}
 use Rattle.tso_state.specs.declared.state.State.{State}
@@ -138,20 +141,47 @@ module _ (c : Client) (bytes : List ℕ) (a : ArrayTable) (t : IntervalTable) (t
   new_anew = record { table = Arrays a; tree = tree; intervals = t; before = spelled; after = new_spelled; same = λ u e. absurd cc }
 
 -- bytes that are made for the tree
-pub made_valid : (c : Client) (bytes new : List ℕ) (a : ArrayTable) (tree : Tree) → IsValidCertificate c bytes → Spells bytes (Arrays a) tree → IsWithinLimits tree → IsMadeFor c tree new
-    → IsSpelledAnew bytes new × IsValidCertificate c new
+pub made_valid : (c : Client) (bytes new : List ℕ) (a : ArrayTable) (tree : Tree) → IsValidCertificate c bytes → Spells bytes (Arrays a) tree → IsWithinLimits tree → IsMadeFor c tree new → IsRenewed c tree bytes new
+unfolding new_anew
 made_valid c bytes new a tree v spelled limits made =
     let closed = (valid_of c bytes (Arrays a) tree v spelled limits).closed in
-    let narrow = made.narrow a closed in (
-      new_anew c bytes a made.intervals tree v spelled limits made.inductive made.within narrow new made.written,
-      new_valid c bytes a made.intervals tree v spelled limits made.inductive made.within narrow new made.written,
-    )
+    let narrow = made.narrow a closed in
+    record {
+      before = v;
+      after = new_valid c bytes a made.intervals tree v spelled limits made.inductive made.within narrow new made.written;
+      spelled = new_anew c bytes a made.intervals tree v spelled limits made.inductive made.within narrow new made.written;
+      same = refl;
+    }
+
+-- a table of intervals for the states in a store, before the bytes of the tree that they were read from
+pub made_for : (c : Client) (tree : Tree) (s : Scanned) (t : IntervalTable) (new : List ℕ) → IsScannedTree c tree s → IsInductive c t → AreWithin (Intervals t) s.store.states → IsNarrowerThanClosed c t → new ≡ certificate (Intervals t) tree
+    → IsMadeFor c tree new
+made_for c tree s t new is inductive within narrow written = record { intervals = t; inductive = inductive; within = subst (AreWithin (Intervals t)) is.states within; narrow = narrow; written = written }
+
+same_front : (bytes : List ℕ) (x y : Table × List ℕ) → front_at bytes ≡ Ok x → front_at bytes ≡ Ok y → x ≡ y
+same_front bytes x y e f = cc
+
+-- the bytes behind the table are those of the tree
+pub tree_behind : (bytes rest : List ℕ) (t u : Table) (tree : Tree) → Spells bytes t tree → front_at bytes ≡ Ok (u, rest) → rest ≡ spelling_of tree
+tree_behind bytes rest t u tree spelled e = ap (λ (x : Table × List ℕ). x.1) (same_front bytes (u, rest) (t, spelling_of tree) e (front_of bytes t tree spelled))
 
 -- bytes that have such a table
-pub same_anew : (bytes : List ℕ) (t : IntervalTable) (tree : Tree) → Spells bytes (Intervals t) tree → IsSpelledAnew bytes bytes
-same_anew bytes t tree spelled = record { table = Intervals t; tree = tree; intervals = t; before = spelled; after = spelled; same = λ u e. refl }
+pub same_anew : (c : Client) (bytes new : List ℕ) (t : IntervalTable) (tree : Tree) → IsValidCertificate c bytes → Spells bytes (Intervals t) tree → new ≡ bytes → IsRenewed c tree bytes new
+same_anew c bytes new t tree v spelled is =
+    let spelled_too : Spells new (Intervals t) tree = (spelled.0, is ∙ spelled.1) in
+    record {
+      before = v;
+      after = subst (IsValidCertificate c) (sym is) v;
+      spelled = record { table = Intervals t; tree = tree; intervals = t; before = spelled; after = spelled_too; same = λ u e. is };
+      same = refl;
+    }
 
 -- ---- what is answered
+
+-- of an error
+pub on_error : {A E : Type 0} {P Q : E → Type 0} (r : Result A E) → ((e : E) → P e → Q e) → IfErr r P → IfErr r Q
+on_error (Ok x) f h = tt
+on_error (Err e) f h = f e h
 
 module _ (text bytes : List ℕ) where
   refused_with : (given answer : Result Verdict CheckError) → IsNoAcceptance given → IsNoAcceptance answer → IsSameButMemory given answer → given ≡ answer
@@ -175,11 +205,19 @@ module _ (text bytes : List ℕ) where
   memory_alone (NotAccepted given) (is, apart) accepted = absurd (accepted_only given accepted is apart)
   memory_alone Memory is accepted = refl
 
-  pub as_upgraded : (c : Client) (new : List ℕ) → DenotesChecked text c → IsValidCertificate c bytes → IsSpelledAnew bytes new × IsValidCertificate c new → IsUpgraded text bytes new
-  as_upgraded c new denotes valid made = record { before = (c, denotes, valid); after = (c, denotes, made.1); spelled = made.0 }
+  pub as_upgraded : (c : Client) (new : List ℕ) (count : ℕ) → DenotesChecked text c → IsRenewedWith c bytes new count → IsUpgraded text bytes new
+  as_upgraded c new count denotes with = let r = with.renewed in record { before = (c, denotes, r.before); after = (c, denotes, r.after); spelled = r.spelled }
 
-  pub as_rejected : (c : Client) (code : Code) (place : Option ℕ) → DenotesChecked text c → IsVerdict c bytes (Rejected code place) → IsNotUpgraded text bytes (NotAccepted (Ok (Rejected code place)))
-  as_rejected c code place denotes verdict = ((c, denotes, verdict), record { not_accepted = λ e. absurd cc; not_memory = λ e. absurd cc })
+  pub as_counted : (c : Client) (new : List ℕ) (count : ℕ) → IsRenewedWith c bytes new count → HasRecords new count
+  as_counted c new count with =
+      let r = with.renewed in
+      record { table = Intervals r.spelled.intervals; tree = with.tree; spelled = subst (Spells new (Intervals r.spelled.intervals)) r.same r.spelled.after; within = with.within; counted = with.counted }
+
+  pub as_refused : (c : Client) (e : UpgradeError) → DenotesChecked text c → IsNotRenewed c bytes e → IsNotUpgraded text bytes e
+  as_refused c (NotAccepted (Ok Accepted)) denotes not = absurd not
+  as_refused c (NotAccepted (Ok (Rejected code place))) denotes verdict = ((c, denotes, verdict), record { not_accepted = λ e. absurd cc; not_memory = λ e. absurd cc })
+  as_refused c (NotAccepted (Err e)) denotes not = absurd not
+  as_refused c Memory denotes not = tt
 
   -- the same of results
   pub exact_error : {V : Type 0} (items : V → List ℕ) (r : Result V UpgradeError) → IfErr r (λ e. IsNotUpgraded text bytes e) → IfOk r (λ new. IsUpgraded text bytes (items new)) → (answer : Result Verdict CheckError)

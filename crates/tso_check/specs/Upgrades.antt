@@ -5,17 +5,18 @@ use Rattle.tso_cells.specs.Inductive.{IsInductive}
 use Rattle.tso_cert.specs.Certificates.{Spells, certificate}
 use Rattle.tso_cert.specs.Lookup.{tree_states}
 use Rattle.tso_cert.specs.Seen.{AreWithin}
-use Rattle.tso_cert.specs.Trees.{Tree}
-use Rattle.tso_check.specs.Verdicts.{IsAnswer}
+use Rattle.tso_cert.specs.Trees.{IsWithinLimits, Tree, record_count}
+use Rattle.tso_check.specs.Verdicts.{IsAnswer, IsVerdict}
 use Rattle.tso_check.specs.declared.upgrading.UpgradeError.{UpgradeError}
 use Rattle.tso_check.specs.declared.upgrading.UpgradeError.TheVariants.{Memory, NotAccepted}
 use Rattle.tso_check.specs.declared.verdict.Verdict.{Verdict}
-use Rattle.tso_check.specs.declared.verdict.Verdict.TheVariants.{Accepted}
+use Rattle.tso_check.specs.declared.verdict.Verdict.TheVariants.{Accepted, Rejected}
 use Rattle.tso_client.specs.declared.error.CheckError.{CheckError}
 use Rattle.tso_client.specs.declared.error.CheckError.TheVariants as errors
 use Rattle.tso_foot.specs.Narrower.{IsNarrowerThanClosed}
 use Rattle.tso_foot.specs.declared.table.Table.{Table}
 use Rattle.tso_foot.specs.declared.table.Table.TheVariants.{Intervals}
+use Rattle.tso_judge.specs.Valid.{IsValidCertificate}
 use Rattle.tso_prog.specs.declared.client.Client.{Client}
 
 -- the second bytes spell the tree of the first, with a table of intervals; where the first have one too, they are the same
@@ -35,6 +36,35 @@ pub record IsMadeFor (c : Client) (tree : Tree) (bytes : List ℕ) : Type 0 wher
   pub within : AreWithin (Intervals intervals) (tree_states tree)
   pub narrow : IsNarrowerThanClosed c intervals
   pub written : bytes ≡ certificate (Intervals intervals) tree
+
+-- so it is, they spell this tree, and both are valid for the client
+pub record IsRenewed (c : Client) (tree : Tree) (bytes upgraded : List ℕ) : Type 0 where
+  pub before : IsValidCertificate c bytes
+  pub after : IsValidCertificate c upgraded
+  pub spelled : IsSpelledAnew bytes upgraded
+  pub same : spelled.tree ≡ tree
+
+-- the bytes spell a certificate, within the limits, of so many records
+pub record HasRecords (bytes : List ℕ) (count : ℕ) : Type 0 where
+  pub table : Table
+  pub tree : Tree
+  pub spelled : Spells bytes table tree
+  pub within : IsWithinLimits tree
+  pub counted : count ≡ record_count tree
+
+-- the same, and the tree has so many records
+pub record IsRenewedWith (c : Client) (bytes upgraded : List ℕ) (count : ℕ) : Type 0 where
+  pub tree : Tree
+  pub within : IsWithinLimits tree
+  pub renewed : IsRenewed c tree bytes upgraded
+  pub counted : count ≡ record_count tree
+
+-- why there are no upgraded bytes for the client: its verdict does not accept
+abbrev pub IsNotRenewed : Client → List ℕ → UpgradeError → Type 0
+IsNotRenewed c bytes (NotAccepted (Ok Accepted)) = ⊥
+IsNotRenewed c bytes (NotAccepted (Ok (Rejected code place))) = IsVerdict c bytes (Rejected code place)
+IsNotRenewed c bytes (NotAccepted (Err e)) = ⊥
+IsNotRenewed c bytes Memory = Unit {0}
 
 -- so it is, and both are accepted for the client of the text
 pub record IsUpgraded (text bytes upgraded : List ℕ) : Type 0 where

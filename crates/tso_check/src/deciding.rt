@@ -1,6 +1,6 @@
 //! The check of certificates.
 
-ghost use Rattle.std.specs.Prelude.{◌≡◌, ◌≤◌, ◌⊎◌, Err, IfOk, Ok, Result};
+ghost use Rattle.std.specs.Prelude.{◌≡◌, ◌≤◌, ◌⊎◌, Err, IfOk, IfSome, Ok, Result};
 ghost use Rattle.tso_cert.specs.Trees.{record_count, tree_of};
 ghost use Rattle.tso_client.specs.Headline.{DenotesChecked, IsVerified};
 ghost use Rattle.tso_check.specs.Laws.{IsSameButMemory};
@@ -14,6 +14,7 @@ ghost use Rattle.tso_check.specs.declared.verdict.Verdict.TheVariants as verdict
 ghost use Rattle.tso_judge.specs.Valid.{IsValidCertificate};
 ghost use Rattle.tso_prog.specs.declared.client.Client.{Client};
 ghost use Rattle.tso_prog.specs.declared.fault.Fault.{Fault as AFault};
+ghost use Rattle.tso_scan.specs.Scanned.{IsScanned};
 
 use crate::halved::{TreePart, Whole, decide_tree, tree_fault};
 use crate::judging::{Notice, verdict_of};
@@ -68,14 +69,30 @@ fn decide_bytes(alloc: Global, checked: &Checked, bytes: &[u8]) -> Result<Verdic
     }
 }
 
+/// The verdict on bytes as a certificate for a client, by what was read of them straight into a store, if they could be read so.
+///
+/// Errors: where a growth was refused.
+pub fn verdict_on(
+    alloc: Global,
+    checked: &Checked,
+    scanned: &Option<Scanned<'_>>,
+    bytes: &[u8],
+) -> Result<Verdict, AllocError>
+    requires { IfSome scanned.now (IsScanned checked.now.client bytes.now) }
+    ensures { IfOk result (IsVerdict checked.now.client bytes.now) }
+{
+    match scanned {
+        Some(scanned) => decide_stored(alloc, checked, scanned),
+        None => decide_bytes(alloc, checked, bytes),
+    }
+}
+
 // The verdict on bytes as a certificate for a client.
 fn verdict(alloc: Global, checked: &Checked, bytes: &[u8]) -> Result<Verdict, AllocError>
     ensures { IfOk result (IsVerdict checked.now.client bytes.now) }
 {
-    match scan(alloc, checked, bytes)? {
-        Some(scanned) => decide_stored(alloc, checked, &scanned),
-        None => decide_bytes(alloc, checked, bytes),
-    }
+    let scanned = scan(alloc, checked, bytes)?;
+    verdict_on(alloc, checked, &scanned, bytes)
 }
 
 /// The verdict on bytes as a certificate for a client: accepted exactly where they are a valid one; else the first condition

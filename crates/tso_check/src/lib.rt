@@ -16,5 +16,5 @@ mod verdict;
 pub use deciding::{check, check_client, check_with};
 pub use laws::{accepted_runs_are_good, answers_are_unique, verdicts_are_unique};
 pub use tso_client::CheckError;
-pub use upgrading::{UpgradeError, upgrade};
+pub use upgrading::{Renewed, UpgradeError, upgrade, upgrade_counted};
 pub use verdict::Verdict;

@@ -366,8 +366,39 @@ fn found_from<R: Wait, W: Watch>(
     }
 }
 
-// What the first states and hunts tell, where there is memory. The watch hears of them at their end alone, and only where that is the
-// answer.
+// What the first states and hunts tell, from the initial state on. The watch hears of them at their end alone, and only where that
+// is the answer.
+fn found_early<R: Wait, W: Watch>(
+    rt: &R,
+    alloc: Global,
+    checked: &Checked,
+    table: &Table,
+    store: &mut Store<'_>,
+    limit: u32,
+    watch: &W,
+) -> Result<Option<Outcome>, AllocError>
+    requires client { store.old.client ≡ checked.now.client }
+    requires started { IsStarted checked.now.client store.old.states }
+    requires few { length store.old.states ≤ limit }
+    requires limit { limit ≤ 4194304 }
+    requires room { store.old.kept ≤ 8 }
+    ensures { IfOk result (λ found. IfSome found (IsOutcome checked.now.client limit)) }
+{
+    let mut origins = Vec::new(alloc);
+    let mut judged = Judged::new(alloc)?;
+    let (marks, ways) = (&mut judged, &mut origins);
+    match first_found(
+        rt, alloc, checked, table, store, ways, marks, limit, &NoWatch,
+    )? {
+        First::Found(outcome) => {
+            watch.met(store.len() as u64, 0);
+            Ok(Some(outcome))
+        }
+        First::GoesOn(_) => Ok(None),
+    }
+}
+
+// The same, where there is memory.
 fn found_first<R: Wait, W: Watch>(
     rt: &R,
     alloc: Global,
@@ -384,25 +415,7 @@ fn found_first<R: Wait, W: Watch>(
         store.states_differ();
         return Ok(Some(Outcome::LimitReached));
     }
-    let mut origins = Vec::new(alloc);
-    let mut judged = Judged::new(alloc)?;
-    match first_found(
-        rt,
-        alloc,
-        checked,
-        &table,
-        &mut store,
-        &mut origins,
-        &mut judged,
-        limit,
-        &NoWatch,
-    )? {
-        First::Found(outcome) => {
-            watch.met(store.len() as u64, 0);
-            Ok(Some(outcome))
-        }
-        First::GoesOn(_) => Ok(None),
-    }
+    found_early(rt, alloc, checked, &table, &mut store, limit, watch)
 }
 
 // What is found, where there is memory.

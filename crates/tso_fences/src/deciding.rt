@@ -41,18 +41,6 @@ fn rule_own<R: Threads + Wait + Sync, D: Finder, S: Session>(
     Ok(rulings)
 }
 
-// What is found of one of several clients.
-fn one(alloc: Global, calls: &Calls, finding: Finding) -> Result<Ruling, AllocError> {
-    let calls = Calls {
-        before: String::from_str(alloc, calls.before.as_str())?,
-        client: String::from_str(alloc, calls.client.as_str())?,
-    };
-    Ok(Ruling::One {
-        calls,
-        decided: finding.decided,
-    })
-}
-
 // Where the first client stands of which this is found.
 fn place_of(findings: &[Finding], standing: Standing) -> Option<usize> {
     findings
@@ -69,19 +57,18 @@ fn place_of_worst(findings: &[Finding]) -> Option<usize> {
 }
 
 // What is found of that client, if there is one.
-fn worst(
-    alloc: Global,
-    calls: &[Calls],
-    mut findings: Vec<Finding>,
-) -> Result<Option<Ruling>, AllocError> {
+fn worst(calls: &[Calls], mut findings: Vec<Finding>) -> Result<Option<Ruling>, AllocError> {
     let Some(place) = place_of_worst(&findings) else {
         return Ok(None);
     };
     if place >= findings.len() || place >= calls.len() {
         return Ok(None);
     }
-    let finding = findings.swap_remove(place);
-    Ok(Some(one(alloc, &calls[place], finding)?))
+    let calls = calls[place].copied()?;
+    Ok(Some(Ruling::One {
+        calls,
+        decided: findings.swap_remove(place).decided,
+    }))
 }
 
 // What is found of these clients of a survey, if not each is accepted.
@@ -96,7 +83,7 @@ fn rule_some<R: Threads + Wait + Sync, D: Finder, S: Session>(
     let alloc = session.alloc();
     let texts = surveyed.texts(alloc, text, calls)?;
     let findings = finder.find(rt, session, calls, &texts)?;
-    Ok(worst(alloc, calls, findings)?)
+    Ok(worst(calls, findings)?)
 }
 
 // The second where a client has a run that is not good, or nothing stood against the first; else the first.

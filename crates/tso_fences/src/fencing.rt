@@ -10,13 +10,13 @@ use crate::sites::{sites_of, stores_of};
 use crate::tally::{Tally, end_fenced, end_open, end_taken_back};
 use crate::trials::Trials;
 use crate::words::Fences;
-use std::alloc::Global;
+use std::alloc::{AllocError, Global};
 use std::sync::Wait;
 use std::thread::Threads;
 use tso_client::checked_of;
 use tso_front::{Failure, Session, misused};
 use tso_prog::Client;
-use tso_survey::Finder;
+use tso_survey::{Calls, Decided, Finder};
 
 // Says what a change comes to that was tried, and counts it.
 fn put_tried<S: Session>(
@@ -168,6 +168,53 @@ fn go_on<R: Threads + Wait + Sync, D: Finder, S: Session>(
     }
 }
 
+/// Which client has a run that is not good, with the text as it stands.
+#[derive(Debug, Drop)]
+pub enum Wrong {
+    /// That of the text.
+    Own,
+    /// The one with these calls, of a survey.
+    Of(Calls),
+}
+
+/// What was said of fences.
+#[derive(Debug, Drop)]
+pub struct Fenced {
+    /// The status with which the process is to end.
+    pub status: u8,
+    /// Which client has a run that is not good, with the text as it stands, if one was found.
+    pub wrong: Option<Wrong>,
+}
+
+// Which client a ruling says has a run that is not good, if it says so.
+fn wrong_of(ruling: &Ruling) -> Result<Option<Wrong>, AllocError> {
+    match ruling {
+        Ruling::Own(Decided::Violated { .. }) => Ok(Some(Wrong::Own)),
+        Ruling::One {
+            calls,
+            decided: Decided::Violated { .. },
+        } => Ok(Some(Wrong::Of(calls.copied()?))),
+        _ => Ok(None),
+    }
+}
+
+// Asks what a ruling leaves to ask, and says which client is not right as the text stands.
+fn conclude<R: Threads + Wait + Sync, D: Finder, S: Session>(
+    rt: &R,
+    finder: &D,
+    session: &mut S,
+    clients: &Clients<'_>,
+    asked: &Fences<'_>,
+    author: &Author<'_>,
+    ruling: &Ruling,
+) -> Result<Fenced, Failure> {
+    let status = go_on(rt, finder, session, clients, asked, author, ruling)?;
+    Ok(Fenced {
+        status,
+        wrong: wrong_of(ruling)?,
+    })
+}
+
 // The same of the client of the text, once it is known which clients are asked about.
 fn ask<R: Threads + Wait + Sync, D: Finder, S: Session>(
     rt: &R,
@@ -177,14 +224,14 @@ fn ask<R: Threads + Wait + Sync, D: Finder, S: Session>(
     asked: &Fences<'_>,
     client: &Client,
     clients: &Clients<'_>,
-) -> Result<u8, Failure> {
+) -> Result<Fenced, Failure> {
     let author = Author {
         text,
         client,
         company: clients.company(client),
     };
     let ruling = rule_one(rt, finder, session, clients, text)?;
-    go_on(rt, finder, session, clients, asked, &author, &ruling)
+    conclude(rt, finder, session, clients, asked, &author, &ruling)
 }
 
 // The same of the client of the text.
@@ -195,13 +242,13 @@ fn ask_of<R: Threads + Wait + Sync, D: Finder, S: Session>(
     text: &[u8],
     asked: &Fences<'_>,
     client: &Client,
-) -> Result<u8, Failure> {
+) -> Result<Fenced, Failure> {
     let clients = clients_of(session.alloc(), &asked.survey)?;
     ask(rt, finder, session, text, asked, client, &clients)
 }
 
 /// Says of an accepted client which of its fences and locked instructions it needs, and of one that is not accepted which fences
-/// would make it right; a line for each change that is tried, and a last one that says what follows. It gives the status.
+/// would make it right; a line for each change that is tried, and a last one that says what follows.
 ///
 /// Errors: `Program` with the first fault of the text; `Usage` where there are too many sets of fences, or too many clients of a
 /// survey; `CannotPrint`; `Memory`.
@@ -211,7 +258,7 @@ pub fn fences<R: Threads + Wait + Sync, D: Finder, S: Session>(
     session: &mut S,
     text: &[u8],
     asked: &Fences<'_>,
-) -> Result<u8, Failure> {
+) -> Result<Fenced, Failure> {
     let checked = checked_of(session.alloc(), text)?;
     ask_of(rt, finder, session, text, asked, &checked.client)
 }

@@ -16,5 +16,5 @@ mod trials;
 mod unread;
 mod words;
 
-pub use fencing::fences;
+pub use fencing::{Fenced, Wrong, fences};
 pub use words::{Fences, fences_arguments, fences_of};

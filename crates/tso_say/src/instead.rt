@@ -58,11 +58,20 @@ fn lowered(alloc: Global, word: &[u8]) -> Result<Vec<u8>, AllocError> {
     Ok(small)
 }
 
-// Puts a word as it is read here: one that is known in small letters, and a jump by the name that it has here.
+// The word without the dot that begins labels of compilers.
+fn undotted(word: &[u8]) -> &[u8] {
+    match word {
+        [b'.', name @ ..] => name,
+        _ => word,
+    }
+}
+
+// Puts a word as it is read here: one that is known in small letters, a jump by the name that it has here, and a label without its
+// dot.
 fn put_word(alloc: Global, all: &mut Vec<u8>, word: &[u8]) -> Result<(), AllocError> {
     let small = lowered(alloc, word)?;
     if !is_known(&small) {
-        all.extend_from_slice(word)?;
+        all.extend_from_slice(undotted(word))?;
         return Ok(());
     }
     match read_name(&small) {
@@ -86,6 +95,30 @@ fn reworded(alloc: Global, line: &[u8]) -> Result<Vec<u8>, AllocError> {
         }
         from = token.end;
     }
+    Ok(all)
+}
+
+// The name and the `rip` of memory that is written `head[rip]`.
+fn relative(line: &[u8], tokens: &[Token]) -> Option<(Token, Token)> {
+    let at = tokens
+        .iter()
+        .position(|token| text(line, *token) == b"rip".as_slice())?;
+    let name = tokens.get(at.checked_sub(2)?).copied()?;
+    let rip = tokens.get(at).copied()?;
+    Some((name, rip))
+}
+
+// The line with the name of its array within the brackets.
+fn bracketed(alloc: Global, line: Vec<u8>) -> Result<Vec<u8>, AllocError> {
+    let tokens = tokens_of(alloc, &line);
+    let Some((name, rip)) = relative(&line, &tokens) else {
+        return Ok(line);
+    };
+    let mut all = Vec::new(alloc);
+    all.extend_from_slice(line.get(..name.start).unwrap_or(&[]))?;
+    all.push(b'[')?;
+    all.extend_from_slice(text(&line, name))?;
+    all.extend_from_slice(line.get(rip.end..).unwrap_or(&[]))?;
     Ok(all)
 }
 
@@ -134,7 +167,7 @@ fn word_line(alloc: Global, word: &[u8]) -> Result<Option<Vec<u8>>, AllocError> 
 
 // The line as it is written here, where it is one that compilers write.
 fn instead_of(alloc: Global, line: &[u8]) -> Result<Option<Vec<u8>>, AllocError> {
-    let words = reworded(alloc, line)?;
+    let words = bracketed(alloc, reworded(alloc, line)?)?;
     let tokens = tokens_of(alloc, &words);
     if is_stack_fence(&words, &tokens) {
         return word_line(alloc, b"mfence");
@@ -175,8 +208,9 @@ fn is_read_beyond(alloc: Global, text: &[u8], number: usize) -> bool {
     }
 }
 
-/// Shows the line of a fault as it is accepted, where it is one that compilers write: with capitals, with other names of jumps, an
-/// exchange with the register first, or a fence that is written as a locked instruction on the stack.
+/// Shows the line of a fault as it is accepted, where it is one that compilers write: with capitals, with other names of jumps, with
+/// labels that a dot begins, with memory as `head[rip]`, an exchange with the register first, or a fence that is written as a locked
+/// instruction on the stack.
 ///
 /// Errors: where a growth was refused.
 pub fn put_instead(

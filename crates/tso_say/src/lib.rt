@@ -10,6 +10,7 @@ mod bad_programs;
 mod bad_traces;
 mod explaining;
 mod hidden;
+mod hints;
 mod instead;
 mod lines;
 mod meanings;

@@ -4,7 +4,7 @@ use crate::instead::put_instead;
 use crate::lines::{put_fault, put_meaning, put_number, put_read};
 use crate::page::Page;
 use crate::reading::{UnwrittenRead, location_word, unwritten};
-use crate::reason::put_reason;
+use crate::reason::{is_within_procedure, put_reason};
 use std::alloc::{AllocError, Global};
 use tso_machine::procedure_of;
 use tso_prog::{Client, Code, Fault};
@@ -85,6 +85,15 @@ fn put_flow(alloc: Global, page: &mut Page, text: &[u8], fault: Fault) -> Result
     }
 }
 
+// What the code means, and how to see more of it; of an instruction without a shape the second alone.
+fn put_code(alloc: Global, page: &mut Page, text: &[u8], fault: Fault) -> Result<(), AllocError> {
+    if is_within_procedure(alloc, text, fault) {
+        return page.say("`tsoq explain E03` shows it in small.\n");
+    }
+    let code = fault.code;
+    put_meaning(alloc, page, format!(in alloc; "{code}")?.as_str())
+}
+
 /// Says why a program is refused: the line of the fault with a mark, how control comes to a read of something unwritten, and what
 /// the code means.
 ///
@@ -101,6 +110,5 @@ pub fn put_program(
     }
     put_reason(alloc, page, text, fault)?;
     put_instead(alloc, page, text, fault)?;
-    let code = fault.code;
-    put_meaning(alloc, page, format!(in alloc; "{code}")?.as_str())
+    put_code(alloc, page, text, fault)
 }

@@ -4,8 +4,9 @@ ghost use Rattle.std.specs.Prelude.{IfOk, IsTrue};
 ghost use Rattle.std.specs.List.{list_all};
 ghost use Rattle.tso_line.specs.Words.{has_name};
 
+use crate::hints::{is_step, name_of, of_name, of_shape, of_word};
 use crate::page::Page;
-use crate::source::line;
+use crate::source::{cut, line};
 use std::alloc::{AllocError, Global};
 use tso_line::{Kind, Lexeme, Line, Slip, lexeme_of, line_of};
 use tso_prog::{Code, Fault};
@@ -32,18 +33,47 @@ fn read_line<'a>(alloc: Global, line: &'a [u8]) -> Result<Line<'a>, AllocError> 
     }
 }
 
-// The first word of a line.
-fn first_word(alloc: Global, line: &[u8]) -> &[u8] {
+// The tokens of a line; none where it has a byte that may stand in no text.
+fn tokens_of(alloc: Global, line: &[u8]) -> Vec<Token> {
     match lex(alloc, line) {
-        Ok(tokens) => match tokens.first() {
-            Some(token) => line.get(token.start..token.end).unwrap_or(&[]),
-            None => &[],
-        },
-        Err(_) => &[],
+        Ok(tokens) => tokens,
+        Err(_) => Vec::new(alloc),
     }
 }
 
-// How a line is written that begins with this word.
+// The first word of a line.
+fn first_word(alloc: Global, line: &[u8]) -> &[u8] {
+    name_of(line, &tokens_of(alloc, line))
+}
+
+// Whether a line stands between .push or .pop and its .end.
+fn is_inside(alloc: Global, text: &[u8], number: usize) -> bool {
+    let mut inside = false;
+    let mut rest = text;
+    for _above in 1..number {
+        let Some((line, after)) = cut(rest) else {
+            break;
+        };
+        match first_word(alloc, line) {
+            b".push" | b".pop" => inside = true,
+            b".end" => inside = false,
+            _ => {}
+        }
+        rest = after;
+    }
+    inside
+}
+
+/// Whether a fault is that an instruction or a label is misshapen, of which its code says no more than its reason does.
+pub fn is_within_procedure(alloc: Global, text: &[u8], fault: Fault) -> bool {
+    let number = fault.line as usize;
+    let line = line(text, number).unwrap_or(&[]);
+    fault.code == Code::E03
+        && is_step(line, &tokens_of(alloc, line))
+        && is_inside(alloc, text, number)
+}
+
+// How a line is written that begins with this directive.
 fn shape(word: &[u8]) -> &'static str {
     match word {
         b".capacity" => "It is written `.capacity N`.",
@@ -55,8 +85,7 @@ fn shape(word: &[u8]) -> &'static str {
             "Calls are written `push V` and `pop`, with commas between them.",
         [b'.', ..] =>
             "No line begins so: these are .capacity, .mode, .array, .push, .pop, .end, .before and .thread.",
-        _ =>
-            "An instruction is a name and its operands, with a comma between two; a label is a name with a colon behind it.",
+        _ => "",
     }
 }
 
@@ -77,6 +106,15 @@ fn place(kind: Kind) -> &'static str {
     }
 }
 
+// Why a line has no shape.
+fn misshapen_reason(alloc: Global, line: &[u8]) -> &'static str {
+    let tokens = tokens_of(alloc, line);
+    match of_shape(line, &tokens) {
+        Some(said) => said,
+        None => shape(first_word(alloc, line)),
+    }
+}
+
 // Why a line has no place in the text.
 fn shape_reason(alloc: Global, line: &[u8]) -> Result<&'static str, AllocError> {
     let read = read_line(alloc, line)?;
@@ -85,7 +123,7 @@ fn shape_reason(alloc: Global, line: &[u8]) -> Result<&'static str, AllocError> 
     }
     match read.kind() {
         Some(kind) => Ok(place(kind)),
-        None => Ok(shape(first_word(alloc, line))),
+        None => Ok(misshapen_reason(alloc, line)),
     }
 }
 
@@ -120,9 +158,14 @@ pub fn put_reason(
     };
     let said = match fault.code {
         Code::E03 => shape_reason(alloc, line)?,
+        Code::E04 => of_word(line, &tokens_of(alloc, line)),
+        Code::E07 => of_name(line, &tokens_of(alloc, line)),
         Code::E09 => limit_reason(alloc, line)?,
         _ => return Ok(()),
     };
+    if said.is_empty() {
+        return Ok(());
+    }
     page.say(said)?;
     page.say("\n")
 }

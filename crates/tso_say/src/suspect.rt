@@ -20,8 +20,8 @@ fn is_number(token: Token) -> bool {
     matches!(token.kind, TokenKind::Number)
 }
 
-// Whether this word stands among a list with bars between.
-fn is_among(word: &[u8], list: &str) -> bool {
+/// Whether this word stands among a list with bars between.
+pub fn is_among(word: &[u8], list: &str) -> bool {
     list.as_bytes()
         .split(|byte| *byte == b'|')
         .any(|known| known == word)
@@ -54,7 +54,8 @@ pub fn is_mnemonic(word: &[u8]) -> bool {
         )
 }
 
-fn is_directive(word: &[u8]) -> bool {
+/// Whether a dot begins the word.
+pub fn is_directive(word: &[u8]) -> bool {
     word.first() == Some(&b'.')
 }
 
@@ -108,6 +109,63 @@ fn capital(line: &[u8], tokens: &[Token]) -> Option<Token> {
         (word.eq_ignore_ascii_case(b"ptr") || word.eq_ignore_ascii_case(b"qword"))
             && !is_among(word, "ptr|qword")
     })
+}
+
+// Whether a name or a number stands where the word for memory stands before a bracket.
+fn is_misplaced(line: &[u8], token: Token) -> bool {
+    let is_named = is_word(token) || is_number(token);
+    is_named && !text(line, token).eq_ignore_ascii_case(b"ptr")
+}
+
+/// Memory as compilers write it, with a name or a number before its brackets.
+pub fn outside(line: &[u8], tokens: &[Token]) -> Option<Token> {
+    let open = tokens
+        .iter()
+        .position(|token| matches!(token.kind, TokenKind::Open))?;
+    let close = tokens
+        .iter()
+        .copied()
+        .find(|token| matches!(token.kind, TokenKind::Close))?;
+    let name = tokens.get(open.checked_sub(1)?).copied()?;
+    if is_misplaced(line, name) {
+        Some(Token {
+            end: close.end,
+            ..name
+        })
+    } else {
+        None
+    }
+}
+
+/// A word behind the first that a dot begins.
+pub fn dotted(line: &[u8], tokens: &[Token]) -> Option<Token> {
+    tokens
+        .iter()
+        .skip(1)
+        .copied()
+        .find(|token| is_directive(text(line, *token)))
+}
+
+/// A register that stands where an array's name is wanted.
+pub fn register_for_array(line: &[u8], tokens: &[Token]) -> Option<Token> {
+    let token = behind(tokens, TokenKind::Open)?;
+    if is_register(text(line, token)) {
+        Some(token)
+    } else {
+        None
+    }
+}
+
+// The place of a misshapen instruction, where its name is known.
+fn misplaced(line: &[u8], tokens: &[Token]) -> Option<Token> {
+    let name = first(tokens)?;
+    if is_mnemonic(text(line, name)) {
+        dotted(line, tokens)
+            .or(outside(line, tokens))
+            .or(register_for_array(line, tokens))
+    } else {
+        None
+    }
 }
 
 // Whether a word behind the first means something where registers and memory are named.
@@ -236,6 +294,7 @@ pub fn of_code(line: &[u8], tokens: &[Token], code: Code) -> Option<Token> {
     match code {
         Code::E01 | Code::E02 | Code::E08 => None,
         Code::E03 => misspelled(line, tokens)
+            .or(misplaced(line, tokens))
             .or(capital(line, tokens))
             .or(first(tokens)),
         Code::E04 => unknown(line, tokens),

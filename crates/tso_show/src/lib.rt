@@ -20,6 +20,7 @@ mod print;
 mod replayed;
 mod site;
 mod state;
+mod stop;
 mod unordered;
 mod walk;
 mod why;

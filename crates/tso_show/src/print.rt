@@ -8,6 +8,7 @@ use crate::line::line_text;
 use crate::moment::{Moment, next_moment};
 use crate::site::Site;
 use crate::state::Show;
+use crate::stop::{before_stop, stop_of};
 use crate::unordered::{Served, ordered_part};
 use crate::walk::{Walk, WalkError};
 use crate::why::{Cause, answered, cause_of, end_of, value_of};
@@ -462,9 +463,36 @@ pub fn print_order<W: Write>(alloc: Global, out: &mut W, walk: &Walk<'_>) -> Res
     }
 }
 
-/// Prints from which label on the calls of a run have no order, if they have none, the call that returns there, and why: in a
+// Prints why a thread stops with this label behind those that a walk has taken.
+fn put_stop<W: Write>(
+    alloc: Global,
+    out: &mut W,
+    walk: &Walk<'_>,
+    label: Label,
+) -> Result<(), ShowError> {
+    match stop_of(&walk.checked().client, walk, label) {
+        Some(stop) => put_made(out, format!(in alloc; "{stop}\n")),
+        None => Ok(()),
+    }
+}
+
+// Prints why a thread stops in a run, if one does: of the first that does.
+fn put_first_stop<W: Write>(alloc: Global, out: &mut W, walk: &Walk<'_>) -> Result<(), ShowError> {
+    let labels = walk.taken();
+    match before_stop(labels) {
+        Some(before) => {
+            let part = Walk::to_end(alloc, walk.checked(), &labels[..before])?;
+            put_stop(alloc, out, &part, labels[before])
+        }
+        None => Ok(()),
+    }
+}
+
+/// Prints what is wrong with a run, if something is: where a thread stops, the call in which it does, its label and line, and
+/// why; and where its calls have no order, from which label on they have none, the call that returns there, and why: in a
 /// sentence, or by all its calls where none of the sentences holds.
 pub fn print_cause<W: Write>(alloc: Global, out: &mut W, walk: &Walk<'_>) -> Result<(), ShowError> {
+    put_first_stop(alloc, out, walk)?;
     let labels = walk.taken();
     let calls = calls_in(alloc, labels)?;
     match ordered_part(alloc, &walk.checked().client, labels)? {

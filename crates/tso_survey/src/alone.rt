@@ -64,7 +64,8 @@ fn collect<R: Threads + Wait + Sync, S: Session>(
         folder,
         workers: asked.workers,
     };
-    survey(rt, &collector, session, &base, &asking)
+    let conclusion = survey(rt, &collector, session, &base, &asking)?;
+    Ok(conclusion.status)
 }
 
 // Does what the words ask for, and gives the status.

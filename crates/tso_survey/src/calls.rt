@@ -123,6 +123,16 @@ impl Calls {
         })
     }
 
+    /// The same once more.
+    ///
+    /// Errors: where a growth was refused.
+    pub fn copied(&self) -> Result<Calls, AllocError> {
+        Ok(Calls {
+            before: self.before.clone()?,
+            client: self.client.clone()?,
+        })
+    }
+
     /// How many calls they are.
     pub fn count(&self) -> usize {
         count_of(self.before.as_str()).saturating_add(count_of(self.client.as_str()))

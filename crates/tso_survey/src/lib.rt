@@ -30,5 +30,6 @@ pub use checking::{
 pub use collecting::Collector;
 pub use decided::Decided;
 pub use finding::{Finder, Finding};
-pub use surveying::{listed, survey};
+pub use surveying::{Conclusion, listed, survey};
+pub use tally::Violated;
 pub use words::{Asking, Part, asking_arguments, asking_of};

@@ -4,6 +4,7 @@ ghost use Rattle.std.specs.Prelude.{All, IfOk, IsTrue};
 ghost use Rattle.tso_client.specs.Headline.{IsVerified};
 
 use crate::accepted::{Accepted, are_all_accepted};
+use crate::bounds::Bounds;
 use crate::calls::{Calls, Numbering};
 use crate::cases::{Cases, text_of};
 use crate::finding::{Finder, Finding};
@@ -118,7 +119,7 @@ fn smaller_than(
     Ok(smaller)
 }
 
-// Decides these clients up to one that has a run that is not good.
+// Decides these clients, each with fewer calls than these, up to one that has a run that is not good.
 fn decide_smaller<R: Threads + Wait + Sync, D: Finder, S: Session>(
     rt: &R,
     finder: &D,
@@ -128,11 +129,12 @@ fn decide_smaller<R: Threads + Wait + Sync, D: Finder, S: Session>(
     asking: &Asking<'_>,
     words: &Words,
     smaller: &[&Asked],
+    size: usize,
 ) -> Result<(), Failure> {
     for asked in smaller {
         let calls = asked.calls(session.alloc(), words, Numbering::Taken)?;
         decide_one(rt, finder, session, tally, base, asking, calls)?;
-        if tally.violated.is_some() {
+        if tally.is_violated_below(size) {
             break;
         }
     }
@@ -229,15 +231,19 @@ fn put_undecided<S: Session>(session: &mut S, tally: &mut Tally) -> Result<u8, F
     Ok(if tally.refused > 0 { 3 } else { 4 })
 }
 
-// Says which client has a run that is not good, and gives the status.
+// That the client with these calls has a run that is not good, as an object of JSON.
+fn violated_object(alloc: Global, calls: &str) -> Result<Value, AllocError> {
+    json!(in alloc; {"verdict": "violation", "smallest": calls})
+}
+
+// Says which client has a run that is not good, by its calls, and gives the status.
 fn put_violated<S: Session>(
     session: &mut S,
     tally: &mut Tally,
-    violated: &Violated,
+    calls: &str,
 ) -> Result<u8, Failure> {
-    let calls = violated.calls.as_str();
+    let object = violated_object(session.alloc(), calls)?;
     let line = format!(in session.alloc(); "violation: {calls}\n")?;
-    let object = json!(in session.alloc(); {"verdict": "violation", "smallest": calls})?;
     tally.say(session, line.as_str(), &object)?;
     Ok(1)
 }
@@ -273,8 +279,8 @@ fn end_some<S: Session>(
     texts: &[Vec<u8>],
     of: usize,
 ) -> Result<u8, Failure> {
-    if let Some(violated) = tally.violated.take() {
-        return put_violated(session, tally, &violated);
+    if let Some(calls) = tally.violated_line(session.alloc())? {
+        return put_violated(session, tally, calls.as_str());
     }
     if are_all_accepted(&tally.accepted, texts) {
         put_accepted(session, tally, of)
@@ -283,7 +289,8 @@ fn end_some<S: Session>(
     }
 }
 
-// Ends a survey of all clients within the bounds in which one has a run that is not good: the smaller clients are decided too.
+// Ends a survey of all clients within the bounds in which one with so many calls has a run that is not good: the smaller clients
+// are decided too.
 fn end_violated<R: Threads + Wait + Sync, D: Finder, S: Session>(
     rt: &R,
     finder: &D,
@@ -292,9 +299,9 @@ fn end_violated<R: Threads + Wait + Sync, D: Finder, S: Session>(
     base: &[u8],
     asking: &Asking<'_>,
     plan: &Plan,
-    violated: Violated,
+    size: usize,
 ) -> Result<u8, Failure> {
-    let smaller = smaller_than(session.alloc(), plan, tally.count, violated.size)?;
+    let smaller = smaller_than(session.alloc(), plan, tally.count, size)?;
     decide_smaller(
         rt,
         finder,
@@ -304,15 +311,32 @@ fn end_violated<R: Threads + Wait + Sync, D: Finder, S: Session>(
         asking,
         &plan.words,
         &smaller,
+        size,
     )?;
-    let smallest = match tally.violated.take() {
-        Some(smaller) => smaller,
-        None => violated,
-    };
-    put_violated(session, tally, &smallest)
+    match tally.violated_line(session.alloc())? {
+        Some(calls) => put_violated(session, tally, calls.as_str()),
+        None => put_undecided(session, tally),
+    }
 }
 
-// Ends a survey of all clients within the bounds.
+// That each client within the bounds was accepted, where so many were searched, as a line.
+fn every_line(alloc: Global, bounds: &Bounds, count: usize) -> Result<String, AllocError> {
+    format!(in alloc; "accepted: every client of {bounds}, {count} searched\n")
+}
+
+// Says that each client within the bounds was accepted, and gives the status.
+fn put_every<S: Session>(
+    session: &mut S,
+    tally: &mut Tally,
+    bounds: &Bounds,
+) -> Result<u8, Failure> {
+    let object = bounds.object(session.alloc(), tally.count)?;
+    let line = every_line(session.alloc(), bounds, tally.count)?;
+    tally.say(session, line.as_str(), &object)?;
+    Ok(0)
+}
+
+// Ends a survey of all clients within the bounds, of which these are the texts of the largest.
 fn end_whole<R: Threads + Wait + Sync, D: Finder, S: Session>(
     rt: &R,
     finder: &D,
@@ -321,23 +345,20 @@ fn end_whole<R: Threads + Wait + Sync, D: Finder, S: Session>(
     base: &[u8],
     asking: &Asking<'_>,
     plan: &Plan,
-    cases: Cases,
+    texts: &mut Vec<Vec<u8>>,
 ) -> Result<u8, Failure> {
-    let alloc = session.alloc();
-    if let Some(violated) = tally.violated.take() {
-        return end_violated(rt, finder, session, tally, base, asking, plan, violated);
+    if let Some(size) = tally.violated_size() {
+        return end_violated(rt, finder, session, tally, base, asking, plan, size);
     }
-    let mut texts = cases.texts;
-    let clean = tally.is_clean();
-    let accepted = &mut tally.accepted;
-    if !clean || !answers_for_all(alloc, base, asking, plan, &mut texts, accepted)? {
+    if !tally.is_clean() {
         return put_undecided(session, tally);
     }
-    let (bounds, count) = (asking.bounds, tally.count);
-    let line = format!(in alloc; "accepted: every client of {bounds}, {count} searched\n")?;
-    let object = bounds.object(alloc, count)?;
-    tally.say(session, line.as_str(), &object)?;
-    Ok(0)
+    let accepted = &mut tally.accepted;
+    if answers_for_all(session.alloc(), base, asking, plan, texts, accepted)? {
+        put_every(session, tally, &asking.bounds)
+    } else {
+        put_undecided(session, tally)
+    }
 }
 
 // Writes the lines of a survey into its folder, if it has one.
@@ -357,6 +378,35 @@ fn write_index<S: Session>(
     session.write(path.as_str(), &tally.lines)
 }
 
+// Some clients: those of a list, or a part of those that are searched, of which there are so many.
+fn survey_some<R: Threads + Wait + Sync, D: Finder, S: Session>(
+    rt: &R,
+    finder: &D,
+    session: &mut S,
+    tally: &mut Tally,
+    asking: &Asking<'_>,
+    cases: &Cases,
+    of: usize,
+) -> Result<u8, Failure> {
+    decide_all(rt, finder, session, tally, asking, cases)?;
+    end_some(session, tally, &cases.texts, of)
+}
+
+// The clients of the lines of a list.
+fn survey_lines<R: Threads + Wait + Sync, D: Finder, S: Session>(
+    rt: &R,
+    finder: &D,
+    session: &mut S,
+    tally: &mut Tally,
+    base: &[u8],
+    asking: &Asking<'_>,
+    list: &str,
+) -> Result<u8, Failure> {
+    let cases = Cases::listed(session.alloc(), base, asking, list)?;
+    let count = cases.texts.len();
+    survey_some(rt, finder, session, tally, asking, &cases, count)
+}
+
 // The clients of a list.
 fn survey_list<R: Threads + Wait + Sync, D: Finder, S: Session>(
     rt: &R,
@@ -367,15 +417,45 @@ fn survey_list<R: Threads + Wait + Sync, D: Finder, S: Session>(
     asking: &Asking<'_>,
     list: &str,
 ) -> Result<u8, Failure> {
-    let alloc = session.alloc();
     let bytes = session.read(list, usize::MAX)?;
-    let Ok(list) = std::str::from_utf8(&bytes) else {
-        return Err(misused(alloc, "the list of clients is not UTF-8\n"));
-    };
-    let cases = Cases::listed(alloc, base, asking, list)?;
-    decide_all(rt, finder, session, tally, asking, &cases)?;
-    let count = cases.texts.len();
-    end_some(session, tally, &cases.texts, count)
+    match std::str::from_utf8(&bytes) {
+        Ok(list) => survey_lines(rt, finder, session, tally, base, asking, list),
+        Err(_) => Err(misused(session.alloc(), "the list of clients is not UTF-8\n")),
+    }
+}
+
+// The clients within the bounds, of which these are searched.
+fn survey_cases<R: Threads + Wait + Sync, D: Finder, S: Session>(
+    rt: &R,
+    finder: &D,
+    session: &mut S,
+    tally: &mut Tally,
+    base: &[u8],
+    asking: &Asking<'_>,
+    plan: &Plan,
+    cases: &mut Cases,
+) -> Result<u8, Failure> {
+    if asking.part.is_some() {
+        let count = plan.largest.len();
+        return survey_some(rt, finder, session, tally, asking, cases, count);
+    }
+    decide_all(rt, finder, session, tally, asking, cases)?;
+    let texts = &mut cases.texts;
+    end_whole(rt, finder, session, tally, base, asking, plan, texts)
+}
+
+// The clients of a plan.
+fn survey_plan<R: Threads + Wait + Sync, D: Finder, S: Session>(
+    rt: &R,
+    finder: &D,
+    session: &mut S,
+    tally: &mut Tally,
+    base: &[u8],
+    asking: &Asking<'_>,
+    plan: &Plan,
+) -> Result<u8, Failure> {
+    let mut cases = Cases::planned(session.alloc(), base, asking, plan)?;
+    survey_cases(rt, finder, session, tally, base, asking, plan, &mut cases)
 }
 
 // The clients within the bounds.
@@ -387,15 +467,8 @@ fn survey_bounds<R: Threads + Wait + Sync, D: Finder, S: Session>(
     base: &[u8],
     asking: &Asking<'_>,
 ) -> Result<u8, Failure> {
-    let alloc = session.alloc();
-    let plan = plan_of(alloc, asking)?;
-    let cases = Cases::planned(alloc, base, asking, &plan)?;
-    decide_all(rt, finder, session, tally, asking, &cases)?;
-    if asking.part.is_some() {
-        let count = plan.largest.len();
-        return end_some(session, tally, &cases.texts, count);
-    }
-    end_whole(rt, finder, session, tally, base, asking, &plan, cases)
+    let plan = plan_of(session.alloc(), asking)?;
+    survey_plan(rt, finder, session, tally, base, asking, &plan)
 }
 
 // The clients within the bounds, if they are not too many.
@@ -424,8 +497,41 @@ pub fn listed(alloc: Global, asking: &Asking<'_>) -> Result<String, Failure> {
     Ok(lines)
 }
 
-/// Surveys the clients of a program text, prints a line for each that is decided and a last one that says what follows, writes what
-/// is asked for, and gives the status.
+// Surveys the clients of a program text, and gives the status.
+fn survey_into<R: Threads + Wait + Sync, D: Finder, S: Session>(
+    rt: &R,
+    finder: &D,
+    session: &mut S,
+    tally: &mut Tally,
+    base: &[u8],
+    asking: &Asking<'_>,
+) -> Result<u8, Failure> {
+    let status = match asking.clients {
+        Some(list) => survey_list(rt, finder, session, tally, base, asking, list)?,
+        None => survey_bounds(rt, finder, session, tally, base, asking)?,
+    };
+    session.flush()?;
+    write_index(session, tally, asking)?;
+    Ok(status)
+}
+
+// Refuses a text that is no program.
+fn check_program(alloc: Global, base: &[u8]) -> Result<(), Failure> {
+    let _checked = checked_of(alloc, base)?;
+    Ok(())
+}
+
+/// What a survey has come to.
+#[derive(Debug, Drop)]
+pub struct Conclusion {
+    /// The status with which the process is to end.
+    pub status: u8,
+    /// The smallest client that has a run that is not good, if one has.
+    pub violated: Option<Violated>,
+}
+
+/// Surveys the clients of a program text, prints a line for each that is decided and a last one that says what follows, and writes
+/// what is asked for.
 ///
 /// Errors: `Program` with the first fault of the text; `Usage` where there are too many clients, or a line of a list is none;
 /// `CannotRead`; `CannotWrite`; `CannotPrint`; `Memory`.
@@ -435,17 +541,17 @@ pub fn survey<R: Threads + Wait + Sync, D: Finder, S: Session>(
     session: &mut S,
     base: &[u8],
     asking: &Asking<'_>,
-) -> Result<u8, Failure> {
-    let _checked = checked_of(session.alloc(), base)?;
+) -> Result<Conclusion, Failure> {
+    check_program(session.alloc(), base)?;
     if let Some(folder) = asking.out {
         session.make_folder(folder);
     }
     let mut tally = Tally::new(session.alloc(), asking.json);
-    let status = match asking.clients {
-        Some(list) => survey_list(rt, finder, session, &mut tally, base, asking, list)?,
-        None => survey_bounds(rt, finder, session, &mut tally, base, asking)?,
-    };
-    session.flush()?;
-    write_index(session, &tally, asking)?;
-    Ok(status)
+    match survey_into(rt, finder, session, &mut tally, base, asking) {
+        Ok(status) => Ok(Conclusion {
+            status,
+            violated: tally.violated,
+        }),
+        Err(failure) => Err(failure),
+    }
 }

@@ -11,9 +11,9 @@ use tso_front::{Failure, Session};
 /// A client that has a run that is not good.
 #[derive(Debug, Drop)]
 pub struct Violated {
-    pub calls: String,
+    pub calls: Calls,
     /// How many calls it has.
-    pub size: usize,
+    size: usize,
 }
 
 /// What a survey has come to.
@@ -56,26 +56,52 @@ impl Tally {
         self.violated.is_none() && self.limits == 0 && self.missing == 0 && self.refused == 0
     }
 
+    /// How many calls the smallest client has of those that have a run that is not good, if one has.
+    pub fn violated_size(&self) -> Option<usize> {
+        match &self.violated {
+            Some(violated) => Some(violated.size),
+            None => None,
+        }
+    }
+
+    /// Whether a client with fewer calls than these has a run that is not good.
+    pub fn is_violated_below(&self, size: usize) -> bool {
+        match &self.violated {
+            Some(violated) => violated.size < size,
+            None => false,
+        }
+    }
+
+    /// The smallest client that has a run that is not good, as a line says it, if one has.
+    ///
+    /// Errors: where a growth was refused.
+    pub fn violated_line(&self, alloc: Global) -> Result<Option<String>, AllocError> {
+        match &self.violated {
+            Some(violated) => Ok(Some(violated.calls.to_string(alloc)?)),
+            None => Ok(None),
+        }
+    }
+
     // Notes that a client has a run that is not good.
-    fn note_violated(&mut self, alloc: Global, calls: &Calls) -> Result<(), AllocError> {
+    fn note_violated(&mut self, calls: &Calls) -> Result<(), AllocError> {
         let size = calls.count();
         let is_smaller = match &self.violated {
             Some(violated) => size < violated.size,
             None => true,
         };
         if is_smaller {
-            let calls = calls.to_string(alloc)?;
+            let calls = calls.copied()?;
             self.violated = Some(Violated { calls, size });
         }
         Ok(())
     }
 
     // Counts what was found of a client.
-    fn note(&mut self, alloc: Global, calls: &Calls, decided: Decided) -> Result<(), AllocError> {
+    fn note(&mut self, calls: &Calls, decided: Decided) -> Result<(), AllocError> {
         self.count = self.count.saturating_add(1);
         match decided {
             Decided::Accepted { client, .. } => self.accepted.push(client)?,
-            Decided::Violated { .. } => self.note_violated(alloc, calls)?,
+            Decided::Violated { .. } => self.note_violated(calls)?,
             Decided::Limit => self.limits = self.limits.saturating_add(1),
             Decided::Missing => self.missing = self.missing.saturating_add(1),
             Decided::Rejected(_) | Decided::Untraced(_) => {
@@ -102,6 +128,34 @@ impl Tally {
         }
     }
 
+    // Prints the line of a client, or the object that says the same.
+    fn say_decided<S: Session>(
+        &mut self,
+        session: &mut S,
+        calls: &Calls,
+        decided: &Decided,
+    ) -> Result<(), Failure> {
+        let object = decided.object(session.alloc(), calls)?;
+        let line = format!(in session.alloc(); "{calls}: {decided}\n")?;
+        self.say(session, line.as_str(), &object)
+    }
+
+    // Writes the files of a client, if there is a folder for them, and prints its line.
+    fn tell<S: Session>(
+        &mut self,
+        session: &mut S,
+        folder: Option<&str>,
+        calls: &Calls,
+        text: &[u8],
+        finding: &Finding,
+    ) -> Result<(), Failure> {
+        if let Some(folder) = folder {
+            write_files(session, folder, calls, text, finding)?;
+        }
+        self.say_decided(session, calls, &finding.decided)?;
+        session.flush()
+    }
+
     /// Prints the line of a client, writes its files, if there is a folder for them, and counts it.
     ///
     /// Errors: `CannotPrint`; `CannotWrite`; `Memory`.
@@ -113,16 +167,8 @@ impl Tally {
         text: &[u8],
         finding: Finding,
     ) -> Result<(), Failure> {
-        let alloc = session.alloc();
-        if let Some(folder) = folder {
-            write_files(session, folder, calls, text, &finding)?;
-        }
-        let decided = &finding.decided;
-        let line = format!(in alloc; "{calls}: {decided}\n")?;
-        let object = decided.object(alloc, calls)?;
-        self.say(session, line.as_str(), &object)?;
-        session.flush()?;
-        self.note(alloc, calls, finding.decided)?;
+        self.tell(session, folder, calls, text, &finding)?;
+        self.note(calls, finding.decided)?;
         Ok(())
     }
 }

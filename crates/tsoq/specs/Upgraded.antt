@@ -1,27 +1,16 @@
 -- What comes of an upgrade.
 use Rattle.std.specs.Prelude.{◌≡◌, ℕ, List, Ok}
-use Rattle.tso_cert.specs.Certificates.{Spells}
-use Rattle.tso_cert.specs.Trees.{IsWithinLimits, Tree, record_count}
-use Rattle.tso_check.specs.Upgrades.{IsNoAcceptance, IsUpgraded}
+use Rattle.tso_check.specs.Upgrades.{HasRecords, IsNoAcceptance, IsUpgraded}
 use Rattle.tso_check.specs.Verdicts.{IsAnswer}
 use Rattle.tso_check.specs.declared.upgrading.UpgradeError.{UpgradeError}
 use Rattle.tso_check.specs.declared.upgrading.UpgradeError.TheVariants.{NotAccepted}
-use Rattle.tso_foot.specs.declared.table.Table.{Table}
 use Rattle.tsoq.specs.declared.upgrade.Upgraded.{Upgraded}
 use Rattle.tsoq.specs.declared.upgrade.Upgraded.TheVariants.{Refused, Written}
 
--- the bytes spell a certificate, within the limits, of so many records
-pub record HasRecords (bytes : List ℕ) (count : ℕ) : Type 0 where
-  pub table : Table
-  pub tree : Tree
-  pub spelled : Spells bytes table tree
-  pub within : IsWithinLimits tree
-  pub counted : count ≡ record_count tree
-
--- a file has taken these bytes, and it is said how many records they have
-abbrev pub IsWritten : List ℕ → Upgraded → Type 0
-IsWritten bytes (Written records taken) = (taken.which.numbers ≡ bytes) × HasRecords bytes records
-IsWritten bytes (Refused verdict) = ⊥
+-- a file has taken these bytes, and it is said that they have so many records
+abbrev pub IsWritten : List ℕ → ℕ → Upgraded → Type 0
+IsWritten bytes count (Written records taken) = (taken.which.numbers ≡ bytes) × (records ≡ count)
+IsWritten bytes count (Refused verdict) = ⊥
 
 -- it is not upgraded, and this is the verdict
 abbrev pub IsRefusal : UpgradeError → Upgraded → Type 0

@@ -2,12 +2,13 @@
 
 use crate::help;
 use crate::limit::StateLimit;
+use crate::people::{tell_variant, tell_violated};
 use crate::survey::{Searcher, Survey};
 use clap::{Arg, ArgMatches, Command};
 use std::alloc::{AllocError, Global};
 use std::sync::Wait;
 use std::thread::Threads;
-use tso_fences::{Fences, fences, fences_arguments, fences_of};
+use tso_fences::{Fences, Wrong, fences, fences_arguments, fences_of};
 use tso_front::{Failure, Session};
 use tso_survey::{asking_of, workers_argument, workers_of};
 
@@ -50,17 +51,42 @@ pub fn fence_search_of<'a>(
     })
 }
 
-/// Says which fences are needed, or would help, and gives the status.
+// Says in words why a run of a client is not good with the text as it stands.
+fn tell_wrong<R: Threads + Wait + Sync, S: Session>(
+    rt: &R,
+    session: &mut S,
+    text: &[u8],
+    asked: &FenceSearch<'_>,
+    wrong: &Wrong,
+) {
+    let (program, limit) = (asked.fences.program, asked.survey.limit);
+    match wrong {
+        Wrong::Own => tell_violated(rt, session, text, limit, program, &asked.fences.variant),
+        Wrong::Of(calls) => {
+            let variant = calls.variant(asked.survey.asking.mode);
+            tell_variant(rt, session, text, limit, program, variant);
+        }
+    }
+}
+
+/// Says which fences are needed, or would help, and gives the status. Where it is to be said in words, and a run of a client is not
+/// good with the text as it stands, it says why.
 ///
-/// Errors: those of `tso_fences::fences`.
+/// Errors: those of `tso_fences::fences`; `CannotPrint`.
 pub fn run_fences<R: Threads + Wait + Sync, S: Session>(
     rt: &R,
     session: &mut S,
     text: &[u8],
     asked: &FenceSearch<'_>,
+    verbose: bool,
 ) -> Result<u8, Failure> {
     let searcher = Searcher {
         asked: &asked.survey,
     };
-    fences(rt, &searcher, session, text, &asked.fences)
+    let fenced = fences(rt, &searcher, session, text, &asked.fences)?;
+    if let (true, Some(wrong)) = (verbose, &fenced.wrong) {
+        session.flush()?;
+        tell_wrong(rt, session, text, asked, wrong);
+    }
+    Ok(fenced.status)
 }

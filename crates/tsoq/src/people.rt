@@ -6,14 +6,20 @@ use crate::limit::{MOST_STATES, StateLimit};
 use crate::outside::outside_at;
 use crate::running::Texts;
 use std::alloc::{AllocError, Global};
+use std::sync::Wait;
+use std::thread::Threads;
+use tso_cert::{NoWatch, Workers};
 use tso_check::Verdict;
 use tso_client::checked_of;
-use tso_front::{Failure, Session};
+use tso_explore::{Outcome, explore};
+use tso_flow::Checked;
+use tso_front::{Failure, Session, Variant};
 use tso_judge::Code;
-use tso_prog::Fault;
+use tso_machine::{Label, LabelKind, calls_of};
+use tso_prog::{Client, Fault};
 use tso_say::{Page, put_hidden, put_meaning, put_program, put_trace};
 use tso_show::{ShowError, Walk, print_cause};
-use tso_trace::{Trace, TraceFault};
+use tso_trace::{Trace, TraceFault, labels_of};
 
 // What may be wrong where a certificate or a trace does not fit the client.
 const OTHER_CLIENT: &str =
@@ -87,6 +93,53 @@ fn put_refused<S: Session>(
     }
 }
 
+// Whether the last of these labels begins a call more than its thread has.
+fn has_call_more(client: &Client, labels: &[Label]) -> bool {
+    let Some(last) = labels.last() else {
+        return false;
+    };
+    let begun = labels
+        .iter()
+        .filter(|label| label.thread == last.thread && matches!(label.kind, LabelKind::Call(_)))
+        .count();
+    matches!(last.kind, LabelKind::Call(_)) && begun > calls_of(client, last.thread).len()
+}
+
+// The same of the labels of a text up to this one.
+fn has_call_more_at(alloc: Global, client: &Client, text: &[u8], label: usize) -> bool {
+    match labels_of(alloc, client, text) {
+        Ok(labels) => has_call_more(client, labels.as_slice().get(..label).unwrap_or(&[])),
+        Err(_) => false,
+    }
+}
+
+// Whether a trace that is refused may be of another client: its first label is no step, or it begins a call that its thread does
+// not have, or all its labels are steps, and nothing is wrong in them.
+fn may_be_of_another(alloc: Global, client: &Client, text: &[u8], fault: &TraceFault) -> bool {
+    match fault {
+        TraceFault::NotAStep { label } => {
+            *label == 1 || has_call_more_at(alloc, client, text, *label)
+        }
+        TraceFault::NoError => true,
+        TraceFault::Grammar { .. } | TraceFault::Memory => false,
+    }
+}
+
+// Why a trace of a client is refused.
+fn put_refused_trace(
+    alloc: Global,
+    page: &mut Page,
+    checked: &Checked,
+    text: &[u8],
+    fault: &TraceFault,
+) -> Result<(), AllocError> {
+    put_trace(alloc, page, checked, text, fault)?;
+    if may_be_of_another(alloc, &checked.client, text, fault) {
+        page.say(OTHER_CLIENT)?;
+    }
+    Ok(())
+}
+
 // Why a trace is refused.
 fn put_replayed(
     alloc: Global,
@@ -95,13 +148,9 @@ fn put_replayed(
     fault: &TraceFault,
 ) -> Result<(), AllocError> {
     match checked_of(alloc, &texts.program) {
-        Ok(checked) => put_trace(alloc, page, &checked, &texts.trace, fault)?,
-        Err(_) => return Ok(()),
+        Ok(checked) => put_refused_trace(alloc, page, &checked, &texts.trace, fault),
+        Err(_) => Ok(()),
     }
-    if let TraceFault::NotAStep { label: 1 } = fault {
-        page.say(OTHER_CLIENT)?;
-    }
-    Ok(())
 }
 
 // Why a file gives no bytes.
@@ -173,18 +222,125 @@ pub fn tell_limit<S: Session>(session: &mut S, limit: StateLimit) {
     }
 }
 
-// From which label on the calls of a run have no order, and why.
+// Where a thread of a run stops, and why; and from which label on its calls have no order, and why.
 fn put_cause(alloc: Global, page: &mut Page, trace: &Trace) -> Result<(), ShowError> {
     let labels = trace.labels.as_slice();
     let walk = Walk::to_end(alloc, &trace.checked, labels)?;
     print_cause(alloc, &mut page.bytes, &walk)
 }
 
-/// Says in words why the calls of a run have no order, if they have none.
+/// Says in words why a run is not good: why a thread stops, if one does, and why its calls have no order, if they have none.
 pub fn tell_cause<S: Session>(session: &mut S, trace: &Trace) {
     let mut page = Page::new(session.alloc());
     if put_cause(session.alloc(), &mut page, trace).is_ok() {
         session.note(&page.bytes);
+    }
+}
+
+// Searches a client by one worker, and says why a run of it is not good, if one is found.
+fn tell_searched<R: Threads + Wait + Sync, S: Session>(
+    rt: &R,
+    session: &mut S,
+    checked: &Checked,
+    limit: StateLimit,
+) {
+    let Some(one) = Workers::new(1) else {
+        return;
+    };
+    let outcome = explore(rt, session.alloc(), checked, one, limit.count(), &NoWatch);
+    if let Outcome::Trace(trace) = &outcome {
+        tell_cause(session, trace);
+    }
+}
+
+// Puts an option with its value, between these marks, at the end, if it has one.
+fn put_option(
+    alloc: Global,
+    words: &mut String,
+    name: &str,
+    mark: &str,
+    value: Option<&str>,
+) -> Result<(), AllocError> {
+    match value {
+        Some(value) => {
+            let option = format!(in alloc; " --{name} {mark}{value}{mark}")?;
+            words.push_str(option.as_str())
+        }
+        None => Ok(()),
+    }
+}
+
+// The words that put other calls, another prologue or mode in place of a text's.
+fn variant_words(alloc: Global, variant: &Variant<'_>) -> Result<String, AllocError> {
+    let mut words = String::new(alloc);
+    put_option(alloc, &mut words, "client", "'", variant.client)?;
+    put_option(alloc, &mut words, "before", "'", variant.before)?;
+    put_option(alloc, &mut words, "mode", "", variant.mode)?;
+    Ok(words)
+}
+
+// With which words the run of a client of a program can be seen.
+fn run_words(alloc: Global, program: &str, variant: &Variant<'_>) -> Result<String, AllocError> {
+    let words = variant_words(alloc, variant)?;
+    format!(in alloc;
+        "To see this run:\n  tsoq verify {program}{words} --trace TRACE\n  tsoq replay {program} TRACE{words} --verbose\n"
+    )
+}
+
+/// Says in words why a run of a client is not good, which is searched once more for that, and with which words it can be seen: of
+/// the program of this name with what stands in place of its calls.
+pub fn tell_violated<R: Threads + Wait + Sync, S: Session>(
+    rt: &R,
+    session: &mut S,
+    text: &[u8],
+    limit: StateLimit,
+    program: &str,
+    variant: &Variant<'_>,
+) {
+    if let Ok(checked) = checked_of(session.alloc(), text) {
+        tell_searched(rt, session, &checked, limit);
+    }
+    if let Ok(words) = run_words(session.alloc(), program, variant) {
+        session.note(words.as_bytes());
+    }
+}
+
+// Whether a text may have a prologue.
+fn may_have_prologue(alloc: Global, base: &[u8]) -> bool {
+    match checked_of(alloc, base) {
+        Ok(checked) => !checked.client.prologue.is_empty(),
+        Err(_) => true,
+    }
+}
+
+// What stands in place of a text's calls; nothing in place of its prologue where neither has one.
+fn least_variant<'a>(alloc: Global, base: &[u8], variant: Variant<'a>) -> Variant<'a> {
+    if matches!(variant.before, Some("")) && !may_have_prologue(alloc, base) {
+        Variant {
+            before: None,
+            ..variant
+        }
+    } else {
+        variant
+    }
+}
+
+/// The same of the client of a text with what stands in place of its calls.
+pub fn tell_variant<R: Threads + Wait + Sync, S: Session>(
+    rt: &R,
+    session: &mut S,
+    base: &[u8],
+    limit: StateLimit,
+    program: &str,
+    variant: Variant<'_>,
+) {
+    let alloc = session.alloc();
+    let Ok(copy) = Vec::from_slice(alloc, base) else {
+        return;
+    };
+    if let Ok(text) = variant.applied(alloc, copy) {
+        let least = least_variant(alloc, base, variant);
+        tell_violated(rt, session, &text, limit, program, &least);
     }
 }
 

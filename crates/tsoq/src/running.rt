@@ -154,9 +154,10 @@ fn survey_queue<R: Threads + Wait + Sync, S: Session>(
     session: &mut S,
     texts: &mut Texts,
     asked: &Survey<'_>,
+    verbose: bool,
 ) -> Result<u8, Failure> {
     texts.program = session.read_program(asked.asking.program)?;
-    run_survey(rt, session, &texts.program, asked)
+    run_survey(rt, session, &texts.program, asked, verbose)
 }
 
 fn ask_fences<R: Threads + Wait + Sync, S: Session>(
@@ -164,9 +165,10 @@ fn ask_fences<R: Threads + Wait + Sync, S: Session>(
     session: &mut S,
     texts: &mut Texts,
     asked: &FenceSearch<'_>,
+    verbose: bool,
 ) -> Result<u8, Failure> {
     texts.program = session.read_variant(asked.fences.program, &asked.fences.variant)?;
-    run_fences(rt, session, &texts.program, asked)
+    run_fences(rt, session, &texts.program, asked, verbose)
 }
 
 fn parse_file<S: Session>(
@@ -322,8 +324,8 @@ fn perform<R: Threads + Wait + Sync, S: Session + Files, L: Listener + Sync>(
         Asked::Upgrade(asked) => upgrade_file(session, texts, asked, request.verbose),
         Asked::Coverage(asked) => cover_program(rt, session, texts, asked, request.verbose),
         Asked::Replay(asked) => replay(session, texts, asked, request.verbose),
-        Asked::Survey(asked) => survey_queue(rt, session, texts, asked),
-        Asked::Fences(asked) => ask_fences(rt, session, texts, asked),
+        Asked::Survey(asked) => survey_queue(rt, session, texts, asked, request.verbose),
+        Asked::Fences(asked) => ask_fences(rt, session, texts, asked, request.verbose),
         Asked::Parse(asked) => parse_file(session, texts, asked),
         Asked::Explain(topic) => explain(session, *topic),
     }

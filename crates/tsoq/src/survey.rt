@@ -2,6 +2,7 @@
 
 use crate::help;
 use crate::limit::StateLimit;
+use crate::people::tell_variant;
 use crate::round::{Done, Round, work_by};
 use clap::{Arg, ArgMatches, Command};
 use std::alloc::{AllocError, Global};
@@ -11,8 +12,8 @@ use std::thread::Threads;
 use tso_cert::Workers;
 use tso_front::{Failure, Session};
 use tso_survey::{
-    Asking, Calls, Collector, Finder, Finding, asking_arguments, asking_of, listed, survey,
-    workers_argument, workers_of,
+    Asking, Calls, Collector, Conclusion, Finder, Finding, asking_arguments, asking_of, listed,
+    survey, workers_argument, workers_of,
 };
 
 /// How many clients are searched for each of several workers before their lines are printed.
@@ -161,21 +162,13 @@ impl<'a> Finder for Searcher<'a> {
     }
 }
 
-/// Surveys the clients of a program text: by what lies in a folder, where that is asked for, and else by searches. It gives the
-/// status.
-///
-/// Errors: those of `tso_survey::survey`.
-pub fn run_survey<R: Threads + Wait + Sync, S: Session>(
+// Surveys the clients of a program text: by what lies in a folder, where that is asked for, and else by searches.
+fn surveyed<R: Threads + Wait + Sync, S: Session>(
     rt: &R,
     session: &mut S,
     base: &[u8],
     asked: &Survey<'_>,
-) -> Result<u8, Failure> {
-    if asked.asking.lists {
-        let lines = listed(session.alloc(), &asked.asking)?;
-        session.print(lines.as_str())?;
-        return Ok(0);
-    }
+) -> Result<Conclusion, Failure> {
     match asked.asking.collect {
         Some(folder) => {
             let collector = Collector {
@@ -186,4 +179,29 @@ pub fn run_survey<R: Threads + Wait + Sync, S: Session>(
         }
         None => survey(rt, &Searcher { asked }, session, base, &asked.asking),
     }
+}
+
+/// Surveys the clients of a program text: by what lies in a folder, where that is asked for, and else by searches. Where it is to
+/// be said in words, it says why a run of the smallest client that has such a run is not good. It gives the status.
+///
+/// Errors: those of `tso_survey::survey`.
+pub fn run_survey<R: Threads + Wait + Sync, S: Session>(
+    rt: &R,
+    session: &mut S,
+    base: &[u8],
+    asked: &Survey<'_>,
+    verbose: bool,
+) -> Result<u8, Failure> {
+    if asked.asking.lists {
+        let lines = listed(session.alloc(), &asked.asking)?;
+        session.print(lines.as_str())?;
+        return Ok(0);
+    }
+    let conclusion = surveyed(rt, session, base, asked)?;
+    if let (true, Some(violated)) = (verbose, &conclusion.violated) {
+        let (program, mode) = (asked.asking.program, asked.asking.mode);
+        let variant = violated.calls.variant(mode);
+        tell_variant(rt, session, base, asked.limit, program, variant);
+    }
+    Ok(conclusion.status)
 }

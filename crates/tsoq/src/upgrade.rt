@@ -1,15 +1,14 @@
 //! Certificates that are written anew with a table of intervals.
 
 ghost use Rattle.std.specs.Prelude.{IfOk};
-ghost use Rattle.tsoq.specs.Upgraded.{HasRecords, IsRefusal, IsUpgrade, IsWritten};
+ghost use Rattle.tsoq.specs.Upgraded.{IsRefusal, IsUpgrade, IsWritten};
 
 use crate::counted::Taken;
 use crate::filing::file_bytes;
 use crate::help;
 use clap::{Arg, ArgAction, ArgMatches, Command};
 use std::alloc::{AllocError, Global};
-use tso_cert::decode;
-use tso_check::{UpgradeError, Verdict, upgrade};
+use tso_check::{Renewed, UpgradeError, Verdict, upgrade_counted};
 use tso_front::{
     Failure, Files, Variant, program_argument, read_apart, variant_arguments, variant_of,
     written_apart,
@@ -34,27 +33,17 @@ pub enum Upgraded {
     Refused(Verdict),
 }
 
-// How many records a certificate has. Its bytes were spelled, so nothing but memory can be wanting.
-fn count_records(alloc: Global, bytes: &[u8]) -> Result<u64, Failure>
-    ensures { IfOk result (HasRecords bytes.now) }
-{
-    match decode(alloc, bytes) {
-        Ok((_, cert)) => Ok(cert.len()),
-        Err(_) => Err(Failure::Memory),
-    }
-}
-
-// Writes the bytes of a certificate to this path. The records are counted first: where memory is wanting nothing was written.
+// Writes an upgraded certificate to this path.
 fn write_upgraded<F: Files>(
     alloc: Global,
     files: &mut F,
     path: &str,
-    bytes: &[u8],
+    renewed: &Renewed,
 ) -> Result<Upgraded, Failure>
-    ensures { IfOk result (IsWritten bytes.now) }
+    ensures { IfOk result (IsWritten renewed.now.bytes.items renewed.now.records) }
 {
-    let records = count_records(alloc, bytes)?;
-    let taken = file_bytes(alloc, files, path, bytes)?;
+    let taken = file_bytes(alloc, files, path, renewed.bytes.as_slice())?;
+    let records = renewed.records;
     Ok(Upgraded::Written { records, taken })
 }
 
@@ -83,8 +72,8 @@ pub fn upgrade_to<F: Files>(
 ) -> Result<Upgraded, Failure>
     ensures { IfOk result (IsUpgrade program.now cert.now) }
 {
-    match upgrade(alloc, program, cert) {
-        Ok(bytes) => write_upgraded(alloc, files, path, bytes.as_slice()),
+    match upgrade_counted(alloc, program, cert) {
+        Ok(renewed) => write_upgraded(alloc, files, path, &renewed),
         Err(error) => refusal_of(error),
     }
 }

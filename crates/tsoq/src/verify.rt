@@ -5,6 +5,7 @@ ghost use Rattle.tso_cert.specs.Trees.{record_count, tree_of};
 ghost use Rattle.tso_trace.specs.Grammar.{trace_text};
 ghost use Rattle.tso_trace.specs.Runs.{first_fault, violation_of};
 ghost use Rattle.tsoq.specs.Reports.{IsOfLabels, IsOfRecords, IsReport, IsTold};
+ghost use Rattle.tsoq.specs.Statuses.{status_of_search};
 ghost use Rattle.tsoq.specs.Written.{HasTaken, HasTakenTree, IsAsked, IsAskedFor, IsFiled, IsSpelledWith, IsWritable, bytes_of, count_of};
 
 use crate::command::Search;
@@ -41,7 +42,9 @@ pub struct Found {
 
 impl Found {
     /// The status with which the program ends.
-    pub fn status(&self) -> u8 {
+    pub fn status(&self) -> u8
+        ensures { result ≡ status_of_search self.now.unwritten self.now.report }
+    {
         match &self.unwritten {
             Some(failure) => failure.status(),
             None => self.report.status(),

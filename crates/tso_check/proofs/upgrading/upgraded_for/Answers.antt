@@ -1,16 +1,17 @@
-use Rattle.std.proofs.Common.{subst}
-use Rattle.tso_check.proofs.UpgradeLemmas.{as_rejected, as_upgraded}
-use Rattle.tso_check.specs.Verdicts.{IsVerdict}
+use Rattle.tso_cert.proofs.SeenLemmas.{if_both}
+use Rattle.tso_check.proofs.UpgradeLemmas.{as_counted, as_refused, as_upgraded, on_error}
 use Rattle.tso_check.proofs.upgrading.upgraded_for.Goals as goal
 
-pub returns-in-Accepted-clause-upgraded : goal.returns-in-Accepted-clause-upgraded
-returns-in-Accepted-clause-upgraded c =
-    let client = c.in-Ok.checked.client in
-    as_upgraded c.args.program.now c.args.cert.now client c.in_ok-new-in-Accepted.new.items c.in-Ok.ensures.denoted
-    (subst (IsVerdict client c.args.cert.now) c.in-Accepted.is c.in_ok-check_client.ensures.verdict) c.in_ok-new-in-Accepted.ensures
+pub returns-in-Ok-clause-upgraded : goal.returns-in-Ok-clause-upgraded
+returns-in-Ok-clause-upgraded c =
+    let renewed = c.upgraded_of.ensures.renewed in
+    if_both c.upgraded_of.result (λ r so again. as_upgraded c.args.program.now c.args.cert.now c.in-Ok.checked.client r.bytes.items r.records c.in-Ok.ensures.denoted so) renewed renewed
 
-pub returns-clause-refused : goal.returns-clause-refused
-returns-clause-refused c =
-    let client = c.in-Ok.checked.client in
-    as_rejected c.args.program.now c.args.cert.now client c.in-Rejected.code c.in-Rejected.place c.in-Ok.ensures.denoted
-    (subst (IsVerdict client c.args.cert.now) c.in-Rejected.is c.in_ok-check_client.ensures.verdict)
+pub returns-in-Ok-clause-counted : goal.returns-in-Ok-clause-counted
+returns-in-Ok-clause-counted c =
+    let renewed = c.upgraded_of.ensures.renewed in
+    if_both c.upgraded_of.result (λ r so again. as_counted c.args.program.now c.args.cert.now c.in-Ok.checked.client r.bytes.items r.records so) renewed renewed
+
+pub returns-in-Ok-clause-refused : goal.returns-in-Ok-clause-refused
+returns-in-Ok-clause-refused c =
+    on_error c.upgraded_of.result (λ e not. as_refused c.args.program.now c.args.cert.now c.in-Ok.checked.client e c.in-Ok.ensures.denoted not) c.upgraded_of.ensures.refused

@@ -1,0 +1,4 @@
+pub mod Adding
+pub mod Filing
+pub mod Fronts
+pub mod Views
