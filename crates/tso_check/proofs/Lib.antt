@@ -1,5 +1,6 @@
 pub mod Goodness
 pub mod NumberedLemmas
+pub mod NeighbourLemmas
 pub mod OneAnswer
 pub mod OneText
 pub mod OneVerdict

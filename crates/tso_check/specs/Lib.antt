@@ -1,5 +1,6 @@
 pub mod Halved
 pub mod Laws
+pub mod Neighbours
 pub mod Numbered
 pub mod Risen
 pub mod Spans

@@ -18,6 +18,7 @@ ghost use Rattle.tso_scan.specs.Scanned.{IsScanned};
 
 use crate::halved::{TreePart, Whole, decide_tree, tree_fault};
 use crate::judging::{Notice, verdict_of};
+use crate::neighbours::is_rising_with;
 use crate::stored::{StoredPart, decide_stored, stored_fault};
 use crate::threads::{Told, judge_with};
 use crate::verdict::{Verdict, rejected};
@@ -28,7 +29,7 @@ use tso_cert::{DecodeError, Fault, Watch, Workers, decode};
 use tso_client::{CheckError, checked_of};
 use tso_flow::Checked;
 use tso_judge::Code;
-use tso_scan::{Scanned, scan};
+use tso_scan::{Scanned, scan, scan_with};
 
 // The code of a fault of bytes.
 fn code_of(fault: Fault) -> Code
@@ -121,7 +122,8 @@ fn decide_stored_with<R: Threads + Wait + Sync, N: Notice + Sync>(
     requires stored { IsStored checked.now.client scanned.now }
     ensures { IfOk result (IsVerdictOn checked.now.client scanned.now) }
 {
-    match stored_fault(alloc, checked, scanned)? {
+    let rises = is_rising_with(rt, &scanned.store, workers.count())?;
+    match stored_fault(alloc, checked, scanned, rises)? {
         Some(code) => Ok(rejected(code)),
         None => {
             let part = StoredPart {
@@ -201,7 +203,7 @@ fn verdict_with<R: Threads + Wait + Sync, W: Watch + Sync>(
     ensures { IfOk result (IsVerdict checked.now.client bytes.now) }
 {
     let told = Told { rt, watch };
-    match scan(alloc, checked, bytes)? {
+    match scan_with(rt, alloc, checked, bytes, workers.count())? {
         Some(scanned) => decide_stored_with(rt, alloc, checked, &scanned, workers, &told),
         None => decide_bytes_with(rt, alloc, checked, bytes, workers, &told),
     }
@@ -253,7 +255,7 @@ pub fn check(alloc: Global, program: &[u8], cert: &[u8]) -> Result<Verdict, Chec
 /// record, want of memory aside, for every number of workers and every watch. Each record's number in the whole tree is told to
 /// the watch before it is judged, by the thread that judges it.
 ///
-/// Conditions of the bytes, the tree and the table are decided first, by the caller's thread. Then the workers are halved at each
+/// The bytes are read first, and then the conditions of the bytes, the tree and the table are decided. The workers are halved at each
 /// fork, with one more for the left half of the tree where their number is odd, and a worker alone goes on alone; a half for
 /// which no thread can be started is judged by the thread at its fork.
 ///

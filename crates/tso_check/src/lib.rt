@@ -6,6 +6,7 @@ mod halved;
 mod halves;
 mod judging;
 mod laws;
+mod neighbours;
 mod numbered;
 mod rising;
 mod stored;

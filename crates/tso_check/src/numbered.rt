@@ -19,8 +19,8 @@ use tso_rec::End;
 use tso_state::{Actor, initial_state};
 use tso_store::{Found, Store, View};
 
-// Whether one state is below another.
-fn is_below(store: &Store<'_>, a: u32, b: u32) -> bool
+/// Whether one state is below another.
+pub fn is_below(store: &Store<'_>, a: u32, b: u32) -> bool
     ensures { IsTrue result ↔ IsOrderOf store.now.states a b Less }
 {
     match store.compare(a, b) {

@@ -1,6 +1,7 @@
 //! Certificates whose states lie in a store under the numbers of their records.
 
-ghost use Rattle.std.specs.Prelude.{◌+◌, ◌≤◌, IfOk};
+ghost use Rattle.std.specs.Prelude.{◌↔◌, ◌+◌, ◌≤◌, IfOk, IsTrue};
+ghost use Rattle.tso_cert.specs.Lookup.{IsRising};
 ghost use Rattle.tso_check.specs.Spans.{IsSpanJudged, IsStored, IsVerdictOn, IsWholeFaultOf, stored_span};
 ghost use Rattle.tso_scan.specs.Scanned.{shape_count};
 
@@ -112,18 +113,20 @@ impl<'a, N: Notice> Part for StoredPart<'a, N> {
     }
 }
 
-/// The code of the first condition of the tree and the table as wholes that fails.
+/// The code of the first condition of the tree and the table as wholes that fails, where it is known whether the states rise.
 ///
 /// Errors: where a growth was refused.
 pub fn stored_fault(
     alloc: Global,
     checked: &Checked,
     scanned: &Scanned<'_>,
+    rises: bool,
 ) -> Result<Option<Code>, AllocError>
-    requires { IsStored checked.now.client scanned.now }
+    requires stored { IsStored checked.now.client scanned.now }
+    requires rises { IsTrue rises ↔ IsRising scanned.now.store.states }
     ensures { IfOk result (IsWholeFaultOf checked.now.client scanned.now) }
 {
-    if !is_rising(&scanned.store) {
+    if !rises {
         return Ok(Some(Code::K03));
     }
     if !is_closed(checked, &scanned.table) {
@@ -146,7 +149,8 @@ pub fn decide_stored(
     requires { IsStored checked.now.client scanned.now }
     ensures { IfOk result (IsVerdictOn checked.now.client scanned.now) }
 {
-    match stored_fault(alloc, checked, scanned)? {
+    let rises = is_rising(&scanned.store);
+    match stored_fault(alloc, checked, scanned, rises)? {
         Some(code) => Ok(rejected(code)),
         None => {
             let count = scanned.shape.len();

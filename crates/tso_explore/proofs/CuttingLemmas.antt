@@ -24,6 +24,8 @@ use Rattle.tso_choose.specs.Needs.{is_enabled}
 use Rattle.tso_choose.specs.declared.choice.Choice.{Choice}
 use Rattle.tso_explore.specs.Cutting.{AreNumbers, AreRecordsOf, AreRising, IsCut, IsEndOf, IsFork, IsHalved, IsRecordOf}
 use Rattle.tso_explore.specs.Outcomes.{IsCertificate}
+use Rattle.tso_explore.specs.Worked.{AreWorkedOut, IsTreeOf}
+use Rattle.tso_explore.specs.declared.worked.Worked.{Worked}
 use Rattle.tso_search.specs.Searched.{AreSearched, IsWorked}
 use Rattle.tso_foot.proofs.WithinLemmas.{reached_is_within}
 use Rattle.tso_foot.specs.Closed.{IsClosed, IsLeastClosed}
@@ -64,7 +66,7 @@ each_by P [] each = tt
 each_by P (x ∷ xs) each = (each 0 x refl, each_by P xs (λ k y at. each (suc k) y at))
 
 -- an item of two lists is one of the first, or of the second
-got_either : {X C : Type 0} (xs ys : List X) (k : ℕ) (x : X) → slice_get (xs ++ ys) k ≡ Some x → (slice_get xs k ≡ Some x → C) → ((j : ℕ) → k ≡ length xs + j → slice_get ys j ≡ Some x → C) → C
+pub got_either : {X C : Type 0} (xs ys : List X) (k : ℕ) (x : X) → slice_get (xs ++ ys) k ≡ Some x → (slice_get xs k ≡ Some x → C) → ((j : ℕ) → k ≡ length xs + j → slice_get ys j ≡ Some x → C) → C
 got_either [] ys k x e first second = second k (omega arith) e
 got_either (y ∷ xs) ys zero x e first second = first e
 got_either (y ∷ xs) ys (suc k) x e first second = got_either xs ys k x e first (λ j is at. second j (omega (arith, is)) at)
@@ -75,12 +77,12 @@ got [] k lt f = absurd (omega (arith, lt))
 got (x ∷ xs) zero lt f = f x refl
 got (x ∷ xs) (suc k) lt f = got xs k (omega (arith, lt)) f
 
-from_drop : {X : Type 0} (h : ℕ) (xs : List X) (k : ℕ) (x : X) → slice_get (drop h xs) k ≡ Some x → slice_get xs (h + k) ≡ Some x
+pub from_drop : {X : Type 0} (h : ℕ) (xs : List X) (k : ℕ) (x : X) → slice_get (drop h xs) k ≡ Some x → slice_get xs (h + k) ≡ Some x
 from_drop zero xs k x e = ap (slice_get xs) (let z : 0 + k ≡ k = omega arith in z) ∙ e
 from_drop (suc h) [] k x e = absurd (none-some x e)
 from_drop (suc h) (y ∷ xs) k x e = ap (slice_get (y ∷ xs)) (let z : suc h + k ≡ suc (h + k) = omega arith in z) ∙ from_drop h xs k x e
 
-from_take : {X : Type 0} (h : ℕ) (xs : List X) (k : ℕ) (x : X) → slice_get (take h xs) k ≡ Some x → slice_get xs k ≡ Some x
+pub from_take : {X : Type 0} (h : ℕ) (xs : List X) (k : ℕ) (x : X) → slice_get (take h xs) k ≡ Some x → slice_get xs k ≡ Some x
 from_take zero xs k x e = absurd (none-some x e)
 from_take (suc h) [] k x e = absurd (none-some x e)
 from_take (suc h) (y ∷ xs) zero x e = e
@@ -477,3 +479,20 @@ certificate_is_valid c limit t states ns tree searched closed least all differ c
       halved = cut.halved;
       bytes = record { table = t; tree = tree; spelled = (fits, refl); within = within; valid = valid };
     }
+
+-- ---- what is made of worked states
+
+-- within a limit, and so within a greater one
+pub wider : (c : Client) (n limit : ℕ) (t : Table) (tree : Tree) → n ≤ limit → IsCertificate c n t tree → IsCertificate c limit t tree
+wider c n limit t tree le v = record { valid = v.valid; least = v.least; within = v.within; fits = v.fits; few = (let few = v.few in omega (arith, few, le)); halved = v.halved; bytes = v.bytes }
+
+-- the states of a tree that is cut of states are some of these
+tree_has : (c : Client) (t : Table) (states : List State) (ns : List ℕ) (tree : Tree) → IsCut c t states ns tree → (k : ℕ) (s : State) → slice_get (tree_states tree) k ≡ Some s → (n : ℕ) × (slice_get states n ≡ Some s)
+tree_has c t states ns tree cut k s at = numbered_state c t states ns (records_of tree) k s cut.records at (λ n here there. (n, there))
+
+pub tree_of_worked : (c : Client) (w : Worked) (tree : Tree) → AreWorkedOut c w → IsNumbered w.store.states → CertificatesFit c → IsCut c w.table w.store.states w.numbers.items tree → IsTreeOf c w tree
+tree_of_worked c w tree out differ fit cut = record {
+  good = certificate_is_valid c (length w.store.states) w.table w.store.states w.numbers.items tree out.searched out.closed out.least out.rising differ cut (omega arith) out.few fit;
+  count = few_records c w.table w.store.states w.numbers.items tree out.rising differ cut;
+  states = tree_has c w.table w.store.states w.numbers.items tree cut;
+}

@@ -2,8 +2,8 @@
 use Rattle.std.proofs.Common.{◌≡◌, ◌∙◌, ℕ, zero, suc, ◌<◌, ◌≤◌, ◌⊎◌, inl, inr, Bool, true, false, List, [], ◌∷◌, length, Some, slice_get, refl, sym, ap, subst, arith}
 use Rattle.std.specs.Prelude.{Err, IfOk, MatchBool, Ok, Result}
 use Rattle.std.proofs.lemmas.Option.{none-some, same_Some}
-use Rattle.tso_search.proofs.SearchLemmas.{begun_first}
-use Rattle.tso_explore.specs.Firsts.{IsFirst, IsFirstOf, IsPaused}
+use Rattle.tso_search.proofs.SearchLemmas.{begun_first, done_none, longer, searched_stays}
+use Rattle.tso_explore.specs.Firsts.{IsFirstOf, IsFound, IsPaused}
 use Rattle.tso_search.specs.Goodness.{AllGood, IsGood}
 use Rattle.tso_search.specs.Reached.{IsBad, IsBadAt}
 use Rattle.tso_search.specs.Searched.{IsBegun, IsHunting, IsStarted}
@@ -11,8 +11,8 @@ use Rattle.tso_search.specs.Shortening.{IsShorter, IsTraceOf}
 use Rattle.tso_explore.specs.declared.first.First.{First}
 use Rattle.tso_explore.specs.declared.first.First.TheVariants as firsts
 use Rattle.tso_search.specs.declared.origin.Origin.{Origin}
-use Rattle.tso_explore.specs.declared.outcome.Outcome.TheVariants as found
 use Rattle.tso_foot.specs.declared.table.Table.{Table}
+use Rattle.tso_parts.specs.Numbers.{Extends}
 use Rattle.tso_prog.specs.declared.client.Client.{Client}
 use Rattle.tso_state.specs.declared.state.State.{State}
 use Rattle.tso_store.specs.Sheets.{Sheet}
@@ -36,12 +36,39 @@ first_judged c states s at started (Ok true) good bad = all_good_one c states st
 first_judged c states s at started (Ok false) good bad = record { state = s; at = at; bad = bad refl }
 first_judged c states s at started (Err e) good bad = tt
 
-pub hunting_first : (c : Client) (states : List State) (origins : List Origin) → IsStarted c states → origins ≡ [] → AllGood c states → IsHunting c states origins
-hunting_first c states origins started none good = record {
+pub hunting_first : (c : Client) (t : Table) (limit : ℕ) (states : List State) (origins : List Origin) (marks : List Bool) → IsStarted c states → origins ≡ [] → marks ≡ [] → AllGood c states → 1 ≤ limit
+    → IsHunting c t limit states origins marks
+hunting_first c t limit states origins marks started none unmarked good some = record {
   begun = subst (IsBegun c states) (sym none) (begun_first c states started);
   good = good;
-  few = (let e = ap (λ (xs : List State). length xs) started.only in omega (arith, e));
+  few = (let e = ap (λ (xs : List State). length xs) started.only in omega (arith, e, some));
+  done = done_none c t states marks unmarked;
 }
+
+-- a search that is paused goes on by a hunt
+pub hunting_on : (c : Client) (t : Table) (limit : ℕ) (store : Sheet) (origins : List Origin) (marks : List Bool) (number : ℕ) → IsPaused c limit t store origins marks number
+    → IsHunting c t limit store.states origins marks
+hunting_on c t limit store origins marks number paused = record { begun = paused.searched.begun; good = paused.good; few = paused.few; done = paused.done }
+
+-- and is paused behind it
+pub paused_on : (c : Client) (t : Table) (limit : ℕ) (old new : Sheet) (origins origins' : List Origin) (marks marks' : List Bool) (number : ℕ) → IsPaused c limit t old origins marks number
+    → new.client ≡ old.client → IsHunting c t limit new.states origins' marks' → Extends old.states new.states → new.kept ≤ 4000000000 → IsPaused c limit t new origins' marks' number
+paused_on c t limit old new origins origins' marks marks' number paused same hunting stays room = record {
+  client = same ∙ paused.client;
+  searched = searched_stays c t old.states new.states origins origins' number paused.searched paused.low hunting.begun stays;
+  good = hunting.good;
+  done = hunting.done;
+  low = (let a = paused.low in let b = longer old.states new.states stays in omega (arith, a, b));
+  few = hunting.few;
+  room = room;
+}
+
+-- what is found is what the first states tell
+pub first_found_as : {E : Type 0} (c : Client) (limit : ℕ) (t : Table) (store : Sheet) (origins : List Origin) (marks : List Bool) (r : Result First E) → IfOk r (IsFound c limit)
+    → IfOk r (IsFirstOf c limit t store origins marks)
+first_found_as c limit t store origins marks (Ok (firsts.Found outcome)) is = is
+first_found_as c limit t store origins marks (Ok (firsts.GoesOn number)) is = absurd is
+first_found_as c limit t store origins marks (Err e) is = tt
 
 pub begun_none : (c : Client) (states : List State) (origins : List Origin) → IsStarted c states → origins ≡ [] → IsBegun c states origins
 begun_none c states origins started none = subst (IsBegun c states) (sym none) (begun_first c states started)
@@ -49,16 +76,6 @@ begun_none c states origins started none = subst (IsBegun c states) (sym none) (
 pub trace_of_shorter : {E : Type 0} (c : Client) (long : Trace) (r : Result Trace E) → IfOk r (IsShorter c long) → IfOk r (IsTraceOf c)
 trace_of_shorter c long (Ok t) is = is.trace
 trace_of_shorter c long (Err e) is = tt
-
--- where hunts have found nothing, the search goes on
-pub first_of : {E : Type 0} (c : Client) (limit : ℕ) (t : Table) (store : Sheet) (origins : List Origin) (number : ℕ) (r : Result First E) → IsPaused c limit t store origins number → IfOk r (IsFirst c number)
-    → IfOk r (IsFirstOf c limit t store origins)
-first_of c limit t store origins number (Ok (firsts.Found (found.Certificate table cert))) paused is = absurd is
-first_of c limit t store origins number (Ok (firsts.Found (found.Trace trace))) paused is = is
-first_of c limit t store origins number (Ok (firsts.Found found.LimitReached)) paused is = absurd is
-first_of c limit t store origins number (Ok (firsts.Found found.NoMemory)) paused is = absurd is
-first_of c limit t store origins number (Ok (firsts.GoesOn from)) paused is = subst (IsPaused c limit t store origins) (sym is) paused
-first_of c limit t store origins number (Err e) paused is = tt
 
 -- a search that is over
 pub over_at : (length number pause limit : ℕ) → (length ≤ number) ⊎ (pause < length) → number ≤ length → length ≤ limit → limit ≤ pause → number ≡ length

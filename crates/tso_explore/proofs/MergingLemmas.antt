@@ -1,5 +1,5 @@
 -- States that tables have are met.
-use Rattle.std.proofs.Common.{◌≡◌, ℕ, ◌<◌, List, length, map, Some, slice_get, arith}
+use Rattle.std.proofs.Common.{◌≡◌, ℕ, List, map, Some, slice_get, arith}
 use Rattle.std.proofs.lemmas.Option.{slice_get_within}
 use Rattle.tso_foot.specs.declared.table.Table.{Table}
 use Rattle.tso_pool.proofs.DeskLemmas.{some_before}

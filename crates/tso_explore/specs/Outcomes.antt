@@ -29,3 +29,10 @@ IsOutcome c limit (found.Certificate t cert) = IsCertificate c limit t (tree_of 
 IsOutcome c limit (found.Trace trace) = (trace.checked.client ≡ c) × ∥ IsErrorTrace c trace.labels ∥₁
 IsOutcome c limit found.LimitReached = HasMore c limit
 IsOutcome c limit found.NoMemory = Unit {0}
+
+-- why a search stopped early: the trace of an error of this client, or that more states can be reached than the limit allows
+abbrev pub IsStopped : Client → ℕ → Outcome → Type 0
+IsStopped c limit (found.Certificate t cert) = ⊥
+IsStopped c limit (found.Trace trace) = (trace.checked.client ≡ c) × ∥ IsErrorTrace c trace.labels ∥₁
+IsStopped c limit found.LimitReached = HasMore c limit
+IsStopped c limit found.NoMemory = ⊥

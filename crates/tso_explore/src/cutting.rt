@@ -22,8 +22,8 @@ use tso_rec::{End, Kept, Packed, Shelf};
 use tso_state::State;
 use tso_store::{Recorder, Store, View};
 
-// The most records of a leaf.
-const LEAF: usize = 64;
+/// The most records of a leaf.
+pub const LEAF: usize = 64;
 
 // The end of a worked state.
 fn end_of(
@@ -52,8 +52,10 @@ fn end_of(
     }
 }
 
-// The record of a worked state.
-fn record_of(
+/// The record of a worked state.
+///
+/// Errors: where a growth was refused.
+pub fn record_of(
     alloc: Global,
     checked: &Checked,
     table: &Table,
@@ -105,8 +107,10 @@ fn leaf_of(
     Ok(records)
 }
 
-// A kept state.
-fn state_at(alloc: Global, store: &Store<'_>, number: u32) -> Result<State, AllocError>
+/// A kept state.
+///
+/// Errors: where a growth was refused.
+pub fn state_at(alloc: Global, store: &Store<'_>, number: u32) -> Result<State, AllocError>
     requires { number < length store.now.states }
     ensures { IfOk result (λ s. slice_get store.now.states number ≡ Some s) }
 {

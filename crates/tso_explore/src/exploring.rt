@@ -1,9 +1,11 @@
 //! The search of a client.
 
 ghost use Rattle.std.specs.Prelude.{◌≡◌, ◌≤◌, ◌⊎◌, [], IfOk, IfSome, MatchBool, Some, length, true};
-ghost use Rattle.tso_explore.specs.Firsts.{IsFirst, IsFirstOf, IsPaused};
+ghost use Rattle.tso_explore.specs.Firsts.{IsFirstOf, IsFound, IsPaused};
 ghost use Rattle.tso_search.specs.Goodness.{AllGood};
-ghost use Rattle.tso_explore.specs.Outcomes.{IsOutcome};
+ghost use Rattle.tso_cert.specs.Trees as trees;
+ghost use Rattle.tso_explore.specs.Outcomes.{IsOutcome, IsStopped};
+ghost use Rattle.tso_explore.specs.Worked.{AreWorkedOut, IsEnded, IsFinding, IsTreeOf};
 ghost use Rattle.tso_search.specs.Reached.{IsBadAt};
 ghost use Rattle.tso_search.specs.Searched.{AreSearched, HasBegun, HasMore, IsBegun, IsStarted, IsStop};
 ghost use Rattle.tso_search.specs.Shortening.{IsTraceOf};
@@ -11,21 +13,23 @@ ghost use Rattle.tso_foot.specs.Closed.{IsClosed, IsLeastClosed};
 ghost use Rattle.tso_table.specs.Leading.{IsKept};
 
 use crate::closing::are_worked;
-use crate::cutting::{cut, cut_by};
+use crate::cutting::cut_by;
+use crate::ended::Ended;
 use crate::first::First;
 use crate::merging::{add_met, merged};
 use crate::outcome::Outcome;
 use crate::showing::{trace_along, walked};
+use crate::worked::{Finding, Worked};
 use std::alloc::{AllocError, Global};
 use std::sync::Wait;
 use std::thread::Threads;
-use tso_cert::{NoWatch, Watch, Workers};
+use tso_cert::{Cert, NoWatch, Watch, Workers};
 use tso_flow::Checked;
 use tso_foot::{Table, build};
 use tso_machine::thread_count;
 use tso_pool::{Ending, search as search_together};
 use tso_range::certificates_fit;
-use tso_search::{Judged, Origin, Stop, Way, hunt, is_good, search, shortened, trace_to};
+use tso_search::{Judged, Marks, Origin, Stop, Way, hunt, is_good, search, shortened, trace_to};
 use tso_state::initial_state;
 use tso_store::{AddError, Store};
 use tso_table::Kept;
@@ -50,62 +54,6 @@ pub fn started<'a>(alloc: Global, checked: &'a Checked) -> Result<Store<'a>, All
         Err(AddError::Misfit) => unreachable!(),
         Err(AddError::Full) => unreachable!(),
     }
-}
-
-// The certificate of worked states.
-fn certificate_of(
-    alloc: Global,
-    checked: &Checked,
-    table: Table,
-    store: &Store<'_>,
-    limit: u32,
-) -> Result<Outcome, AllocError>
-    requires client { store.now.client ≡ checked.now.client }
-    requires closed { IsClosed checked.now.client table }
-    requires least { IsLeastClosed checked.now.client table }
-    requires searched { AreSearched checked.now.client table store.now.states }
-    requires few { length store.now.states ≤ limit }
-    requires limit { limit ≤ 4194304 }
-    ensures { IfOk result (IsOutcome checked.now.client limit) }
-{
-    store.states_differ();
-    certificates_fit(checked);
-    let numbers = store.rising(alloc)?;
-    let cert = cut(alloc, checked, &table, store, numbers.as_slice())?;
-    Ok(Outcome::Certificate(table, cert))
-}
-
-// The same, cut by so many workers.
-fn certificate_by<R: Threads + Sync>(
-    rt: &R,
-    alloc: Global,
-    checked: &Checked,
-    table: Table,
-    store: &Store<'_>,
-    workers: u64,
-    limit: u32,
-) -> Result<Outcome, AllocError>
-    requires client { store.now.client ≡ checked.now.client }
-    requires closed { IsClosed checked.now.client table }
-    requires least { IsLeastClosed checked.now.client table }
-    requires searched { AreSearched checked.now.client table store.now.states }
-    requires few { length store.now.states ≤ limit }
-    requires limit { limit ≤ 4194304 }
-    ensures { IfOk result (IsOutcome checked.now.client limit) }
-{
-    store.states_differ();
-    certificates_fit(checked);
-    let rising = store.rising(alloc)?;
-    let cert = cut_by(
-        rt,
-        alloc,
-        checked,
-        &table,
-        store,
-        rising.as_slice(),
-        workers,
-    )?;
-    Ok(Outcome::Certificate(table, cert))
 }
 
 // The trace of the runs to a state that are not good, short.
@@ -136,14 +84,13 @@ fn is_first_good(alloc: Global, checked: &Checked, store: &Store<'_>) -> Result<
     }
 }
 
-// What a hunt from the store's one state finds, if it finds something.
+// What a hunt by depth from the store's one state finds, if it finds something.
 fn hunted_from(
     alloc: Global,
     checked: &Checked,
     table: &Table,
     store: &mut Store<'_>,
     origins: &mut Vec<Origin>,
-    way: Way,
 ) -> Result<Option<Trace>, AllocError>
     requires client { store.old.client ≡ checked.now.client }
     requires started { IsStarted checked.now.client store.old.states }
@@ -154,7 +101,21 @@ fn hunted_from(
     if !is_first_good(alloc, checked, store)? {
         return Ok(None);
     }
-    match hunt(alloc, checked, table, store, origins, way) {
+    let mut judged = Judged::new(alloc)?;
+    let mut marks = Marks::new(alloc);
+    let (noted, worked) = (&mut judged, &mut marks);
+    match hunt(
+        alloc,
+        checked,
+        table,
+        store,
+        origins,
+        noted,
+        worked,
+        Way::Depth,
+        0,
+        4_194_304,
+    ) {
         Err(Stop::Violation(number)) => {
             let trace = short_trace(alloc, checked, store, origins.as_slice(), number)?;
             Ok(Some(trace))
@@ -164,18 +125,13 @@ fn hunted_from(
     }
 }
 
-// The trace that a hunt finds, if it finds one.
-fn hunted(
-    alloc: Global,
-    checked: &Checked,
-    table: &Table,
-    way: Way,
-) -> Result<Option<Trace>, AllocError>
+// The trace that a hunt by depth from the initial state on finds, if it finds one.
+fn hunted(alloc: Global, checked: &Checked, table: &Table) -> Result<Option<Trace>, AllocError>
     ensures { IfOk result (λ found. IfSome found (IsTraceOf checked.now.client)) }
 {
     let mut store = started(alloc, checked)?;
     let mut origins = Vec::new(alloc);
-    hunted_from(alloc, checked, table, &mut store, &mut origins, way)
+    hunted_from(alloc, checked, table, &mut store, &mut origins)
 }
 
 // The shorter of two traces; the first where none is.
@@ -196,22 +152,6 @@ fn shorter(one: Trace, other: Option<Trace>) -> Trace
     }
 }
 
-// The trace that two hunts find, by breadth and by depth; the shorter of two.
-fn hunted_twice(
-    alloc: Global,
-    checked: &Checked,
-    table: &Table,
-) -> Result<Option<Trace>, AllocError>
-    ensures { IfOk result (λ found. IfSome found (IsTraceOf checked.now.client)) }
-{
-    let by_breadth = hunted(alloc, checked, table, Way::Breadth)?;
-    let by_depth = hunted(alloc, checked, table, Way::Depth)?;
-    match by_breadth {
-        Some(trace) => Ok(Some(shorter(trace, by_depth))),
-        None => Ok(by_depth),
-    }
-}
-
 // What is found where a search stops. A violation is hunted by depth too, where that is asked for.
 fn stopped(
     alloc: Global,
@@ -225,7 +165,7 @@ fn stopped(
 ) -> Result<Outcome, AllocError>
     requires client { store.now.client ≡ checked.now.client }
     requires stop { IsStop checked.now.client limit store.now.states origins.now stop }
-    ensures { IfOk result (IsOutcome checked.now.client limit) }
+    ensures { IfOk result (IsStopped checked.now.client limit) }
 {
     match stop {
         Stop::Violation(number) => {
@@ -233,7 +173,7 @@ fn stopped(
             if !hunts {
                 return Ok(Outcome::Trace(trace));
             }
-            let by_depth = hunted(alloc, checked, table, Way::Depth)?;
+            let by_depth = hunted(alloc, checked, table)?;
             Ok(Outcome::Trace(shorter(trace, by_depth)))
         }
         Stop::Limit => Ok(Outcome::LimitReached),
@@ -241,22 +181,80 @@ fn stopped(
     }
 }
 
-// What hunts find where a search that has come to state `number` is not over; else it goes on from there.
-fn paused(
+// What is found where a search or a hunt stops, as what the first states tell.
+fn stopped_first(
     alloc: Global,
     checked: &Checked,
     table: &Table,
-    count: usize,
-    number: u32,
+    store: &Store<'_>,
+    origins: &[Origin],
+    limit: u32,
+    stop: Stop,
+    hunts: bool,
 ) -> Result<First, AllocError>
-    ensures { IfOk result (IsFirst checked.now.client number) }
+    requires client { store.now.client ≡ checked.now.client }
+    requires stop { IsStop checked.now.client limit store.now.states origins.now stop }
+    ensures { IfOk result (IsFound checked.now.client limit) }
 {
-    if number as usize >= count {
-        return Ok(First::GoesOn(number));
+    let outcome = stopped(alloc, checked, table, store, origins, limit, stop, hunts)?;
+    Ok(First::Found(outcome))
+}
+
+// Where a search that has come to state `number` is not over, it goes on by a hunt by depth.
+fn hunted_deep(
+    alloc: Global,
+    checked: &Checked,
+    table: &Table,
+    store: &mut Store<'_>,
+    origins: &mut Vec<Origin>,
+    judged: &mut Judged,
+    marks: &mut Marks,
+    number: u32,
+    limit: u32,
+) -> Result<First, AllocError>
+    requires paused { IsPaused checked.now.client limit table.now store.old origins.old.items marks.old number }
+    requires room { store.old.kept ≤ 2000000000 }
+    ensures { IfOk result (IsFirstOf checked.now.client limit table.now store.new origins.new.items marks.new) }
+{
+    let way = Way::Depth;
+    match hunt(
+        alloc, checked, table, store, origins, judged, marks, way, number, limit,
+    ) {
+        Ok(()) => Ok(First::GoesOn(number)),
+        Err(stop) => {
+            let slice = origins.as_slice();
+            stopped_first(alloc, checked, table, store, slice, limit, stop, false)
+        }
     }
-    match hunted_twice(alloc, checked, table)? {
-        Some(trace) => Ok(First::Found(Outcome::Trace(trace))),
-        None => Ok(First::GoesOn(number)),
+}
+
+// The same by two hunts, by breadth and then by depth.
+fn hunted_on(
+    alloc: Global,
+    checked: &Checked,
+    table: &Table,
+    store: &mut Store<'_>,
+    origins: &mut Vec<Origin>,
+    judged: &mut Judged,
+    marks: &mut Marks,
+    number: u32,
+    limit: u32,
+) -> Result<First, AllocError>
+    requires paused { IsPaused checked.now.client limit table.now store.old origins.old.items marks.old number }
+    requires room { store.old.kept ≤ 1000000000 }
+    ensures { IfOk result (IsFirstOf checked.now.client limit table.now store.new origins.new.items marks.new) }
+{
+    let way = Way::Breadth;
+    match hunt(
+        alloc, checked, table, store, origins, judged, marks, way, number, limit,
+    ) {
+        Ok(()) => hunted_deep(
+            alloc, checked, table, store, origins, judged, marks, number, limit,
+        ),
+        Err(stop) => {
+            let slice = origins.as_slice();
+            stopped_first(alloc, checked, table, store, slice, limit, stop, true)
+        }
     }
 }
 
@@ -269,105 +267,183 @@ fn first_found<R: Wait, W: Watch>(
     store: &mut Store<'_>,
     origins: &mut Vec<Origin>,
     judged: &mut Judged,
+    marks: &mut Marks,
     limit: u32,
     watch: &W,
 ) -> Result<First, AllocError>
     requires client { store.old.client ≡ checked.now.client }
     requires started { IsStarted checked.now.client store.old.states }
     requires none { origins.old.items ≡ [] }
+    requires unmarked { marks.old ≡ [] }
     requires few { length store.old.states ≤ limit }
     requires limit { limit ≤ 4194304 }
     requires room { store.old.kept ≤ 8 }
-    ensures found { IfOk result (IsFirstOf checked.now.client limit table.now store.new origins.new.items) }
+    ensures found { IfOk result (IsFirstOf checked.now.client limit table.now store.new origins.new.items marks.new) }
 {
     if !is_first_good(alloc, checked, store)? {
         let trace = short_trace(alloc, checked, store, origins.as_slice(), 0)?;
         return Ok(First::Found(Outcome::Trace(trace)));
     }
     match search(
-        rt, alloc, checked, table, store, origins, judged, 0, FIRST, limit, watch,
+        rt, alloc, checked, table, store, origins, judged, marks, 0, FIRST, limit, watch,
     ) {
-        Ok(number) => paused(alloc, checked, table, store.len(), number),
+        Ok(number) => {
+            if number as usize >= store.len() {
+                return Ok(First::GoesOn(number));
+            }
+            hunted_on(
+                alloc, checked, table, store, origins, judged, marks, number, limit,
+            )
+        }
         Err(stop) => {
             let slice = origins.as_slice();
-            let outcome = stopped(alloc, checked, table, store, slice, limit, stop, true)?;
-            Ok(First::Found(outcome))
+            stopped_first(alloc, checked, table, store, slice, limit, stop, true)
         }
     }
 }
 
-// What is found by a search that goes on from state `number`.
+// How a search ends that goes on from state `number`.
 fn found_behind<R: Wait, W: Watch>(
     rt: &R,
     alloc: Global,
     checked: &Checked,
-    table: Table,
+    table: &Table,
     store: &mut Store<'_>,
     origins: &mut Vec<Origin>,
     judged: &mut Judged,
+    marks: &Marks,
     number: u32,
     limit: u32,
     watch: &W,
-) -> Result<Outcome, AllocError>
-    requires closed { IsClosed checked.now.client table }
-    requires least { IsLeastClosed checked.now.client table }
+) -> Result<Ended, AllocError>
     requires limit { limit ≤ 4194304 }
-    requires paused { IsPaused checked.now.client limit table store.old origins.old.items number }
-    ensures { IfOk result (IsOutcome checked.now.client limit) }
+    requires paused { IsPaused checked.now.client limit table.now store.old origins.old.items marks.now number }
+    ensures { IfOk result (IsEnded checked.now.client limit table.now store.new) }
 {
     match search(
         rt,
         alloc,
         checked,
-        &table,
+        table,
         store,
         origins,
         judged,
+        marks,
         number,
         u32::MAX,
         limit,
         watch,
     ) {
-        Ok(_) => certificate_of(alloc, checked, table, store, limit),
+        Ok(_) => Ok(Ended::Worked),
         Err(stop) => {
             let slice = origins.as_slice();
-            stopped(alloc, checked, &table, store, slice, limit, stop, false)
+            let outcome = stopped(alloc, checked, table, store, slice, limit, stop, false)?;
+            Ok(Ended::Stopped(outcome))
         }
     }
 }
 
-// What is found from the initial state on.
+// How a search ends that begins at the initial state.
 fn found_from<R: Wait, W: Watch>(
     rt: &R,
     alloc: Global,
     checked: &Checked,
-    table: Table,
+    table: &Table,
     store: &mut Store<'_>,
     limit: u32,
     watch: &W,
-) -> Result<Outcome, AllocError>
+) -> Result<Ended, AllocError>
     requires client { store.old.client ≡ checked.now.client }
-    requires closed { IsClosed checked.now.client table }
-    requires least { IsLeastClosed checked.now.client table }
     requires started { IsStarted checked.now.client store.old.states }
     requires few { length store.old.states ≤ limit }
     requires limit { limit ≤ 4194304 }
     requires room { store.old.kept ≤ 8 }
-    ensures { IfOk result (IsOutcome checked.now.client limit) }
+    ensures { IfOk result (IsEnded checked.now.client limit table.now store.new) }
 {
     let mut origins = Vec::new(alloc);
     let mut judged = Judged::new(alloc)?;
-    let (marks, ways) = (&mut judged, &mut origins);
-    match first_found(rt, alloc, checked, &table, store, ways, marks, limit, watch)? {
-        First::Found(outcome) => Ok(outcome),
+    let mut marks = Marks::new(alloc);
+    let (ways, noted, worked) = (&mut origins, &mut judged, &mut marks);
+    match first_found(
+        rt, alloc, checked, table, store, ways, noted, worked, limit, watch,
+    )? {
+        First::Found(outcome) => Ok(Ended::Stopped(outcome)),
         First::GoesOn(number) => found_behind(
-            rt, alloc, checked, table, store, ways, marks, number, limit, watch,
+            rt, alloc, checked, table, store, ways, noted, worked, number, limit, watch,
         ),
     }
 }
 
-// What the first states and hunts tell, from the initial state on. The watch hears of them at their end alone, and only where that
-// is the answer.
+// Whether all is worked behind the hunts of a search that has come to state `number`. Where the first states are all that there are,
+// nothing is said: several workers are to search these.
+fn found_whole<R: Wait>(
+    rt: &R,
+    alloc: Global,
+    checked: &Checked,
+    table: &Table,
+    store: &mut Store<'_>,
+    origins: &mut Vec<Origin>,
+    judged: &mut Judged,
+    marks: &Marks,
+    number: u32,
+    limit: u32,
+) -> Result<Option<Ended>, AllocError>
+    requires paused { IsPaused checked.now.client limit table.now store.old origins.old.items marks.now number }
+    requires limit { limit ≤ 4194304 }
+    ensures { IfOk result (λ found. IfSome found (IsEnded checked.now.client limit table.now store.new)) }
+{
+    if number as usize >= store.len() {
+        return Ok(None);
+    }
+    let pause = store.len() as u32;
+    match search(
+        rt, alloc, checked, table, store, origins, judged, marks, number, pause, limit, &NoWatch,
+    ) {
+        Ok(last) => {
+            if last as usize >= store.len() {
+                return Ok(Some(Ended::Worked));
+            }
+            Ok(None)
+        }
+        Err(stop) => {
+            let slice = origins.as_slice();
+            let outcome = stopped(alloc, checked, table, store, slice, limit, stop, false)?;
+            Ok(Some(Ended::Stopped(outcome)))
+        }
+    }
+}
+
+// What the first states and hunts tell, from the initial state on.
+fn found_soon<R: Wait>(
+    rt: &R,
+    alloc: Global,
+    checked: &Checked,
+    table: &Table,
+    store: &mut Store<'_>,
+    limit: u32,
+) -> Result<Option<Ended>, AllocError>
+    requires client { store.old.client ≡ checked.now.client }
+    requires started { IsStarted checked.now.client store.old.states }
+    requires few { length store.old.states ≤ limit }
+    requires limit { limit ≤ 4194304 }
+    requires room { store.old.kept ≤ 8 }
+    ensures { IfOk result (λ found. IfSome found (IsEnded checked.now.client limit table.now store.new)) }
+{
+    let mut origins = Vec::new(alloc);
+    let mut judged = Judged::new(alloc)?;
+    let mut marks = Marks::new(alloc);
+    let (ways, noted, worked) = (&mut origins, &mut judged, &mut marks);
+    match first_found(
+        rt, alloc, checked, table, store, ways, noted, worked, limit, &NoWatch,
+    )? {
+        First::Found(outcome) => Ok(Some(Ended::Stopped(outcome))),
+        First::GoesOn(number) => found_whole(
+            rt, alloc, checked, table, store, ways, noted, worked, number, limit,
+        ),
+    }
+}
+
+// The same. The watch hears of it at its end alone, and only where that is the answer.
 fn found_early<R: Wait, W: Watch>(
     rt: &R,
     alloc: Global,
@@ -376,66 +452,123 @@ fn found_early<R: Wait, W: Watch>(
     store: &mut Store<'_>,
     limit: u32,
     watch: &W,
-) -> Result<Option<Outcome>, AllocError>
+) -> Result<Option<Ended>, AllocError>
     requires client { store.old.client ≡ checked.now.client }
     requires started { IsStarted checked.now.client store.old.states }
     requires few { length store.old.states ≤ limit }
     requires limit { limit ≤ 4194304 }
     requires room { store.old.kept ≤ 8 }
-    ensures { IfOk result (λ found. IfSome found (IsOutcome checked.now.client limit)) }
+    ensures { IfOk result (λ found. IfSome found (IsEnded checked.now.client limit table.now store.new)) }
 {
-    let mut origins = Vec::new(alloc);
-    let mut judged = Judged::new(alloc)?;
-    let (marks, ways) = (&mut judged, &mut origins);
-    match first_found(
-        rt, alloc, checked, table, store, ways, marks, limit, &NoWatch,
-    )? {
-        First::Found(outcome) => {
-            watch.met(store.len() as u64, 0);
-            Ok(Some(outcome))
-        }
-        First::GoesOn(_) => Ok(None),
+    let found = found_soon(rt, alloc, checked, table, store, limit)?;
+    if found.is_some() {
+        watch.met(store.len() as u64, 0);
     }
+    Ok(found)
 }
 
-// The same, where there is memory.
-fn found_first<R: Wait, W: Watch>(
+// What the first states and hunts find, where there is memory.
+fn found_first<'c, R: Wait, W: Watch>(
     rt: &R,
     alloc: Global,
-    checked: &Checked,
+    checked: &'c Checked,
     limit: u32,
     watch: &W,
-) -> Result<Option<Outcome>, AllocError>
+) -> Result<Option<Finding<'c>>, AllocError>
     requires { limit ≤ 4194304 }
-    ensures { IfOk result (λ found. IfSome found (IsOutcome checked.now.client limit)) }
+    ensures { IfOk result (λ found. IfSome found (IsFinding checked.now.client limit)) }
 {
     let table = build(alloc, checked)?;
     let mut store = started(alloc, checked)?;
     if store.len() > limit as usize {
         store.states_differ();
-        return Ok(Some(Outcome::LimitReached));
+        return Ok(Some(Finding::LimitReached));
     }
-    found_early(rt, alloc, checked, &table, &mut store, limit, watch)
+    match found_early(rt, alloc, checked, &table, &mut store, limit, watch)? {
+        Some(ended) => {
+            let finding = finding_of(alloc, checked, table, store, ended, limit)?;
+            Ok(Some(finding))
+        }
+        None => Ok(None),
+    }
+}
+
+// What a search found that all states of this store are worked by.
+fn worked_out<'c>(
+    alloc: Global,
+    checked: &Checked,
+    table: Table,
+    store: Store<'c>,
+    limit: u32,
+) -> Result<Finding<'c>, AllocError>
+    requires closed { IsClosed checked.now.client table }
+    requires least { IsLeastClosed checked.now.client table }
+    requires searched { AreSearched checked.now.client table store.states }
+    requires few { length store.states ≤ limit }
+    requires limit { limit ≤ 4194304 }
+    ensures { IfOk result (IsFinding checked.now.client limit) }
+{
+    let numbers = store.rising(alloc)?;
+    Ok(Finding::Worked(Worked {
+        table,
+        store,
+        numbers,
+    }))
+}
+
+// What a search found that stopped early.
+fn finding_for<'c>(checked: &'c Checked, outcome: Outcome, limit: u32) -> Finding<'c>
+    requires { IsStopped checked.now.client limit outcome }
+    ensures { IsFinding checked.now.client limit result }
+{
+    match outcome {
+        Outcome::Certificate(_, _) => unreachable!(),
+        Outcome::Trace(trace) => Finding::Trace(trace),
+        Outcome::LimitReached => Finding::LimitReached,
+        Outcome::NoMemory => unreachable!(),
+    }
+}
+
+// What a search found that ended so.
+fn finding_of<'c>(
+    alloc: Global,
+    checked: &'c Checked,
+    table: Table,
+    store: Store<'c>,
+    ended: Ended,
+    limit: u32,
+) -> Result<Finding<'c>, AllocError>
+    requires closed { IsClosed checked.now.client table }
+    requires least { IsLeastClosed checked.now.client table }
+    requires ended { IsEnded checked.now.client limit table store ended }
+    requires limit { limit ≤ 4194304 }
+    ensures { IfOk result (IsFinding checked.now.client limit) }
+{
+    match ended {
+        Ended::Worked => worked_out(alloc, checked, table, store, limit),
+        Ended::Stopped(outcome) => Ok(finding_for(checked, outcome, limit)),
+    }
 }
 
 // What is found, where there is memory.
-fn explored<R: Wait, W: Watch>(
+fn explored<'c, R: Wait, W: Watch>(
     rt: &R,
     alloc: Global,
-    checked: &Checked,
+    checked: &'c Checked,
     limit: u32,
     watch: &W,
-) -> Result<Outcome, AllocError>
+) -> Result<Finding<'c>, AllocError>
     requires { limit ≤ 4194304 }
-    ensures { IfOk result (IsOutcome checked.now.client limit) }
+    ensures { IfOk result (IsFinding checked.now.client limit) }
 {
     let table = build(alloc, checked)?;
     let mut store = started(alloc, checked)?;
     if store.len() > limit as usize {
         store.states_differ();
-        return Ok(Outcome::LimitReached);
+        return Ok(Finding::LimitReached);
     }
-    found_from(rt, alloc, checked, table, &mut store, limit, watch)
+    let ended = found_from(rt, alloc, checked, &table, &mut store, limit, watch)?;
+    finding_of(alloc, checked, table, store, ended, limit)
 }
 
 // More states than the limit are reached, where the store has them with this one.
@@ -465,7 +598,7 @@ fn over_with(
 ) -> Result<Option<Outcome>, AllocError>
     requires client { store.old.client ≡ checked.now.client }
     requires begun { HasBegun checked.now.client store.old.states }
-    ensures { IfOk result (λ found. IfSome found (IsOutcome checked.now.client limit)) }
+    ensures { IfOk result (λ found. IfSome found (IsStopped checked.now.client limit)) }
 {
     let Some(reached) = walked(alloc, checked, kept.actors.as_slice())? else {
         return Ok(None);
@@ -476,59 +609,57 @@ fn over_with(
     Ok(None)
 }
 
-// The certificate of the states that several workers have met, if all are worked.
-fn certificate_of_all<R: Threads + Sync>(
+// That all states which several workers have met are worked, if they are; or that they are too many.
+fn ended_by_all<R: Threads + Sync>(
     rt: &R,
     alloc: Global,
     checked: &Checked,
-    table: Table,
+    table: &Table,
     store: &Store<'_>,
     workers: u64,
     limit: u32,
-) -> Result<Option<Outcome>, AllocError>
+) -> Result<Option<Ended>, AllocError>
     requires client { store.now.client ≡ checked.now.client }
     requires begun { HasBegun checked.now.client store.now.states }
-    requires closed { IsClosed checked.now.client table }
-    requires least { IsLeastClosed checked.now.client table }
     requires limit { limit ≤ 4194304 }
-    ensures { IfOk result (λ found. IfSome found (IsOutcome checked.now.client limit)) }
+    ensures { IfOk result (λ found. IfSome found (IsEnded checked.now.client limit table.now store.now)) }
 {
     if store.len() > limit as usize {
         store.states_differ();
-        return Ok(Some(Outcome::LimitReached));
+        return Ok(Some(Ended::Stopped(Outcome::LimitReached)));
     }
-    if !are_worked(rt, alloc, checked, &table, store, workers)? {
+    if !are_worked(rt, alloc, checked, table, store, workers)? {
         return Ok(None);
     }
-    let outcome = certificate_by(rt, alloc, checked, table, store, workers, limit)?;
-    Ok(Some(outcome))
+    Ok(Some(Ended::Worked))
 }
 
-// What several workers find, by how they ended and the states that they met; `None` where that does not tell.
+// How the search of several workers ended, by how they did and the states that they met; `None` where that does not tell.
 fn found_together<R: Threads + Sync>(
     rt: &R,
     alloc: Global,
     checked: &Checked,
-    table: Table,
+    table: &Table,
     store: &mut Store<'_>,
     ending: Ending,
     workers: u64,
     limit: u32,
-) -> Result<Option<Outcome>, AllocError>
+) -> Result<Option<Ended>, AllocError>
     requires client { store.old.client ≡ checked.now.client }
     requires begun { HasBegun checked.now.client store.old.states }
-    requires closed { IsClosed checked.now.client table }
-    requires least { IsLeastClosed checked.now.client table }
     requires limit { limit ≤ 4194304 }
-    ensures { IfOk result (λ found. IfSome found (IsOutcome checked.now.client limit)) }
+    ensures { IfOk result (λ found. IfSome found (IsEnded checked.now.client limit table.now store.new)) }
 {
     match ending {
-        Ending::Quiet => certificate_of_all(rt, alloc, checked, table, store, workers, limit),
+        Ending::Quiet => ended_by_all(rt, alloc, checked, table, store, workers, limit),
         Ending::Violation(kept) => match trace_along(alloc, checked, &kept)? {
-            Some(trace) => Ok(Some(Outcome::Trace(trace))),
+            Some(trace) => Ok(Some(Ended::Stopped(Outcome::Trace(trace)))),
             None => Ok(None),
         },
-        Ending::Full(kept) => over_with(alloc, checked, store, &kept, limit),
+        Ending::Full(kept) => match over_with(alloc, checked, store, &kept, limit)? {
+            Some(outcome) => Ok(Some(Ended::Stopped(outcome))),
+            None => Ok(None),
+        },
         Ending::Astray => Ok(None),
         Ending::Memory => Err(AllocError),
     }
@@ -554,60 +685,138 @@ fn gathered<'a, R: Threads + Wait + Sync, W: Watch + Sync>(
 }
 
 // What several workers find; `None` where one has to search alone.
-fn explored_together<R: Threads + Wait + Sync, W: Watch + Sync>(
+fn explored_together<'c, R: Threads + Wait + Sync, W: Watch + Sync>(
     rt: &R,
     alloc: Global,
-    checked: &Checked,
+    checked: &'c Checked,
     workers: u64,
     limit: u32,
     watch: &W,
-) -> Result<Option<Outcome>, AllocError>
+) -> Result<Option<Finding<'c>>, AllocError>
     requires workers { (1 ≤ workers) × (workers ≤ 64) }
     requires limit { limit ≤ 4194304 }
-    ensures { IfOk result (λ found. IfSome found (IsOutcome checked.now.client limit)) }
+    ensures { IfOk result (λ found. IfSome found (IsFinding checked.now.client limit)) }
 {
     let table = build(alloc, checked)?;
     let (store, ending) = gathered(rt, alloc, checked, &table, workers, limit, watch)?;
     let mut store = store;
-    found_together(
-        rt, alloc, checked, table, &mut store, ending, workers, limit,
-    )
+    match found_together(
+        rt, alloc, checked, &table, &mut store, ending, workers, limit,
+    )? {
+        Some(ended) => {
+            let finding = finding_of(alloc, checked, table, store, ended, limit)?;
+            Ok(Some(finding))
+        }
+        None => Ok(None),
+    }
 }
 
 // What is found by so many workers, where there is memory.
-fn explored_by<R: Threads + Wait + Sync, W: Watch + Sync>(
+fn explored_by<'c, R: Threads + Wait + Sync, W: Watch + Sync>(
     rt: &R,
     alloc: Global,
-    checked: &Checked,
+    checked: &'c Checked,
     workers: Workers,
     limit: u32,
     watch: &W,
-) -> Result<Outcome, AllocError>
+) -> Result<Finding<'c>, AllocError>
     requires { limit ≤ 4194304 }
-    ensures { IfOk result (IsOutcome checked.now.client limit) }
+    ensures { IfOk result (IsFinding checked.now.client limit) }
 {
     let count = workers.count();
     if count < 2 || count > 64 {
         return explored(rt, alloc, checked, limit, watch);
     }
-    if let Some(outcome) = found_first(rt, alloc, checked, limit, watch)? {
-        return Ok(outcome);
+    if let Some(finding) = found_first(rt, alloc, checked, limit, watch)? {
+        return Ok(finding);
     }
     match explored_together(rt, alloc, checked, count, limit, watch)? {
-        Some(outcome) => Ok(outcome),
+        Some(finding) => Ok(finding),
         None => explored(rt, alloc, checked, limit, watch),
     }
 }
 
 /// Searches the client's compact states from the initial one, following chosen actors alone (Godefroid 1996), with the least
-/// closed table of footprints. Of a certificate that it hands out the spelling is a valid certificate of the client.
+/// closed table of footprints, and hands out the states where all runs are good: nothing of a certificate is made yet.
 ///
-/// One worker searches by breadth. Where 65,536 states do not end that, two short hunts look for a violation alone, one by breadth
-/// and one by depth, and the search goes on where they find none. Of a violation the shorter trace is handed out, with those
-/// labels left out that it does without.
+/// One worker searches by breadth. Where 65,536 states do not end that, it goes on for a while by hunts, one by breadth and one by
+/// depth, which come to states that lie deep sooner, and then by breadth again. A violation among the first states, or of a hunt by
+/// breadth, is hunted once more by depth, and the shorter trace is handed out, with those labels left out that it does without.
 ///
-/// Several workers search together where the caller, alone, has found no violation among the first states and by these hunts;
-/// the watch is then told of theirs. Where several end without an answer, as where a table is not what it was made for, one searches anew.
+/// Several workers search together where the caller, alone, has found no violation among the first states and by these hunts, and
+/// the hunts have left states that are not worked; the watch is then told of theirs. Where several end without an answer, as where a table is not what it was made for, one searches anew.
+pub fn find<'c, R: Threads + Wait + Sync, W: Watch + Sync>(
+    rt: &R,
+    alloc: Global,
+    checked: &'c Checked,
+    workers: Workers,
+    state_limit: u32,
+    watch: &W,
+) -> Finding<'c>
+    requires { state_limit ≤ 4194304 }
+    ensures { IsFinding checked.now.client state_limit result }
+{
+    match explored_by(rt, alloc, checked, workers, state_limit, watch) {
+        Ok(finding) => finding,
+        Err(_) => Finding::NoMemory,
+    }
+}
+
+/// The records of worked states as a tree, cut by so many workers.
+///
+/// Errors: where a growth was refused.
+pub fn tree_for<R: Threads + Sync>(
+    rt: &R,
+    alloc: Global,
+    checked: &Checked,
+    worked: &Worked<'_>,
+    workers: Workers,
+) -> Result<Cert, AllocError>
+    requires worked { AreWorkedOut checked.now.client worked.now }
+    ensures { IfOk result (λ cert. IsTreeOf checked.now.client worked.now (trees.tree_of cert)) }
+{
+    worked.store.states_differ();
+    certificates_fit(checked);
+    let cert = cut_by(
+        rt,
+        alloc,
+        checked,
+        &worked.table,
+        &worked.store,
+        worked.numbers.as_slice(),
+        workers.count(),
+    )?;
+    Ok(cert)
+}
+
+// The certificate of worked states.
+fn certificate_of<R: Threads + Sync>(
+    rt: &R,
+    alloc: Global,
+    checked: &Checked,
+    worked: Worked<'_>,
+    workers: Workers,
+    limit: u32,
+) -> Outcome
+    requires worked { AreWorkedOut checked.now.client worked }
+    requires few { length worked.store.states ≤ limit }
+    ensures { IsOutcome checked.now.client limit result }
+{
+    match tree_for(rt, alloc, checked, &worked, workers) {
+        Ok(cert) => {
+            let Worked {
+                table,
+                store: _store,
+                numbers: _numbers,
+            } = worked;
+            Outcome::Certificate(table, cert)
+        }
+        Err(_) => Outcome::NoMemory,
+    }
+}
+
+/// What `find` finds, with the records of worked states as a tree. Of a certificate that it hands out the spelling is a valid
+/// certificate of the client.
 pub fn explore<R: Threads + Wait + Sync, W: Watch + Sync>(
     rt: &R,
     alloc: Global,
@@ -619,8 +828,12 @@ pub fn explore<R: Threads + Wait + Sync, W: Watch + Sync>(
     requires { state_limit ≤ 4194304 }
     ensures { IsOutcome checked.now.client state_limit result }
 {
-    match explored_by(rt, alloc, checked, workers, state_limit, watch) {
-        Ok(outcome) => outcome,
-        Err(_) => Outcome::NoMemory,
+    match find(rt, alloc, checked, workers, state_limit, watch) {
+        Finding::Worked(worked) => {
+            certificate_of(rt, alloc, checked, worked, workers, state_limit)
+        }
+        Finding::Trace(trace) => Outcome::Trace(trace),
+        Finding::LimitReached => Outcome::LimitReached,
+        Finding::NoMemory => Outcome::NoMemory,
     }
 }

@@ -3,13 +3,22 @@
 
 mod closing;
 mod cutting;
+mod enclosing;
+mod ended;
 mod ends;
 mod exploring;
 mod first;
 mod merging;
 mod outcome;
+mod recording;
 mod showing;
+mod spelling;
 mod tasks;
+mod worked;
+mod writing;
 
-pub use exploring::explore;
+pub use enclosing::intervals_for;
+pub use exploring::{explore, find, tree_for};
 pub use outcome::Outcome;
+pub use worked::{Finding, Worked};
+pub use writing::write;

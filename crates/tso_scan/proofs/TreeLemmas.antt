@@ -1,5 +1,5 @@
 -- Leaves, forks and whole certificates that were read.
-use Rattle.std.proofs.Common.{Box, Global, ◌≡◌, ℕ, zero, suc, ◌-◌, ◌≤◌, List, [], ◌∷◌, ◌++◌, length, min, Option, Some, None, Result, Ok, Err, IfOk, refl, sym, ap, subst, ◌∙◌, arith, slice_get}
+use Rattle.std.proofs.Common.{Box, Global, ◌≡◌, ℕ, zero, suc, ◌-◌, ◌≤◌, List, [], ◌∷◌, ◌++◌, length, min, Option, Some, None, Result, Ok, Err, IfOk, refl, sym, ap, ◌∙◌, arith, slice_get}
 use Rattle.std.specs.Prelude.{IfSome}
 use Rattle.std.proofs.lemmas.Bool.{le-ltb}
 use Rattle.std.proofs.lemmas.List.{append-nil, length-map, map-append}
@@ -15,7 +15,7 @@ use Rattle.tso_rec.specs.Records.{ends_of}
 use Rattle.tso_rec.specs.declared.record.End.{End}
 use Rattle.tso_rec.specs.declared.record.Record.{Record}
 use Rattle.tso_scan.proofs.ScanLemmas.{twice_more}
-use Rattle.tso_scan.specs.Scanned.{AreRecordsScanned, HasMore, IsBranchScanned, IsLearned, IsScan, IsScanned, IsScannedBehind, IsShapeOf, IsStored, IsTreeScanned, scanned_states}
+use Rattle.tso_scan.specs.Scanned.{AreRecordsScanned, HasMore, IsBranchScanned, IsScan, IsScanned, IsScannedBehind, scanned_states}
 use Rattle.tso_scan.specs.Sources.{IsKeyReadAs, parts_of}
 use Rattle.tso_scan.specs.declared.scanned.Scanned.{Scanned}
 use Rattle.tso_scan.specs.declared.shape.Shape.{Shape, Leaf}
@@ -94,22 +94,6 @@ unfolding certificate_at
 whole_reads bytes rest t x front tree nothing =
     let m = bind_ok (magic_at bytes) (λ rest. field (table_at rest)) (t, rest) front in
     rw (m.1, m.2, tree, nothing) refl
-
--- what was read, in a store that learnt where steps lead
-pub tree_stored : (c : Client) (bytes : List ℕ) (t : Table) (begun scan : Scan) (sh : Shape) (old new : Scanned) → scanned_states begun ≡ [] → begun.ends ≡ [] → IsTreeScanned c begun scan bytes sh → IsStored c t scan sh old → IsLearned old new → IsScannedBehind c t bytes new
-tree_stored c bytes t begun scan sh old new no_states no_ends (left, is) stored learnt = record {
-  table = learnt.table ∙ stored.table;
-  tree = is.tree;
-  left = left;
-  reads = is.reads;
-  scanned = record {
-    client = learnt.client ∙ stored.client;
-    states = learnt.states ∙ stored.states ∙ is.more.states ∙ ap (λ (l : List State). l ++ tree_states is.tree) no_states;
-    ends = learnt.ends ∙ stored.ends ∙ is.more.ends ∙ ap (λ (l : List End). l ++ ends_of (records_of is.tree)) no_ends;
-    shape = subst (λ (x : Shape). IsShapeOf x is.tree) (sym (learnt.shape ∙ stored.shape)) is.shape;
-    forks = is.forks;
-  };
-}
 
 pub certificate_scanned : (c : Client) (bytes rest : List ℕ) (t : Table) (s : Scanned) → front_at bytes ≡ Ok (t, rest) → IsScannedBehind c t rest s → IsScanned c bytes s
 certificate_scanned c bytes rest t s front is = record {

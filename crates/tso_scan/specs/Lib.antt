@@ -1,3 +1,5 @@
 pub mod Scrolls
 pub mod Sources
 pub mod Scanned
+pub mod Moved
+pub mod Halves

@@ -95,10 +95,6 @@ pub record IsScannedTree (c : Client) (tree : Tree) (s : Scanned) : Type 0 where
   pub shape : IsShapeOf s.shape tree
   pub forks : ForksBegin tree
 
--- all bytes are the tree of the last records, of which this is the shape
-abbrev pub IsTreeScanned : Client → Scan → Scan → List ℕ → Shape → Type 0
-IsTreeScanned c old new bytes sh = (left : ℕ) × IsBranchScanned c old new (tree_at 64 4194304 bytes) sh left []
-
 -- the bytes behind a table are read as such a tree
 pub record IsScannedBehind (c : Client) (t : Table) (bytes : List ℕ) (s : Scanned) : Type 0 where
   pub table : s.table ≡ t
@@ -120,11 +116,3 @@ pub record IsScanned (c : Client) (bytes : List ℕ) (s : Scanned) : Type 0 wher
   pub tree : Tree
   pub reads : certificate_at bytes ≡ Ok (s.table, tree)
   pub scanned : IsScannedTree c tree s
-
--- a table, with the store of what was read
-pub record IsStored (c : Client) (t : Table) (scan : Scan) (sh : Shape) (s : Scanned) : Type 0 where
-  pub table : s.table ≡ t
-  pub client : s.store.client ≡ c
-  pub states : s.store.states ≡ scanned_states scan
-  pub ends : s.ends ≡ scan.ends
-  pub shape : s.shape ≡ sh

@@ -1,14 +1,19 @@
 //! Certificates read straight into a store: each part is told by its spelling, and no tree of records is made.
 #![tactic(auto)]
 
+mod halves;
 mod histories;
+mod moved;
 mod rows;
 mod scanned;
 mod scroll;
+mod seams;
 mod shape;
 mod sources;
 mod states;
+mod tasks;
 mod trees;
 
-pub use scanned::{Scanned, scan};
+pub use scanned::{Scanned, scan, scan_with};
 pub use shape::Shape;
+pub use tasks::{Task, run_by};

@@ -1,18 +1,19 @@
 //! Whole certificates, read straight into a store.
 ghost use Rattle.std.specs.Option.{option_copied};
-ghost use Rattle.std.specs.Prelude.{◌≡◌, IfOk, IfSome, slice_get};
-ghost use Rattle.tso_scan.specs.Scanned.{IsLearned, IsScan, IsScanned, IsScannedBehind, IsStored, IsTreeScanned};
+ghost use Rattle.std.specs.Prelude.{◌≡◌, IfOk, IfSome, List, slice_get, ℕ};
+ghost use Rattle.tso_scan.specs.Halves.{IsStored, IsTreeRead, stretch_of};
+ghost use Rattle.tso_scan.specs.Scanned.{IsLearned, IsScanned, IsScannedBehind};
+ghost use Rattle.tso_store.specs.Keys.{AreKept};
 
+use crate::halves::{Half, Unread, read_alone};
 use crate::shape::Shape;
-use crate::states::Scan;
-use crate::trees::branch_of;
+use crate::tasks::run_by;
 use std::alloc::{AllocError, Global};
+use std::thread::Threads;
 use tso_cert::{DecodeError, read_table};
 use tso_flow::Checked;
 use tso_foot::Table;
 use tso_list::Seq;
-use tso_parts::Refused;
-use tso_prog::Client;
 use tso_rec::{End, Shared};
 use tso_store::Store;
 
@@ -43,23 +44,18 @@ impl<'a> Scanned<'a> {
 }
 
 // The store of what was read.
-fn store_of<'a>(
-    alloc: Global,
-    checked: &'a Checked,
-    table: Table,
-    scan: Scan,
-    shape: Shape,
-) -> Scanned<'a>
-    requires { IsScan checked.now.client scan }
-    ensures { IsStored checked.now.client table scan shape result }
+fn store_of<'a>(alloc: Global, checked: &'a Checked, table: Table, half: Half) -> Scanned<'a>
+    requires { AreKept checked.now.client half.parts half.keys }
+    ensures { IsStored checked.now.client table half result }
 {
-    let Scan {
-        sources,
+    let Half {
+        parts,
         keys,
-        reader: _reader,
         ends,
-    } = scan;
-    let parts = sources.into_parts();
+        shape,
+        room: _room,
+        behind: _behind,
+    } = half;
     let store = Store::of_parts(alloc, checked, parts, keys);
     Scanned {
         table,
@@ -70,76 +66,100 @@ fn store_of<'a>(
 }
 
 // The same, whose store knows where the next steps of its threads lead.
-fn learned(scanned: Scanned<'_>) -> Result<Scanned<'_>, Refused>
+fn learned(scanned: Scanned<'_>) -> Result<Scanned<'_>, AllocError>
     ensures { IfOk result (IsLearned scanned.entry) }
 {
     let mut scanned = scanned;
     match scanned.store.learn() {
         Ok(()) => Ok(scanned),
-        Err(_) => Err(Refused::Memory),
+        Err(error) => Err(error),
     }
-}
-
-// The shape of the tree in the bytes, all of them, whose states and ends go behind those that were read.
-fn read_tree(
-    scan: &mut Scan,
-    client: &Client,
-    alloc: Global,
-    bytes: &[u8],
-) -> Result<Option<Shape>, Refused>
-    requires { IsScan client.now scan.old }
-    ensures { IfOk result (λ o. IfSome o (IsTreeScanned client.now scan.old scan.new bytes.now)) }
-{
-    let Some((shape, _, rest)) = branch_of(scan, client, alloc, FORKS, RECORDS, bytes)? else {
-        return Ok(None);
-    };
-    if !rest.is_empty() {
-        return Ok(None);
-    }
-    Ok(Some(shape))
 }
 
 // Lets go of what was read.
-fn release(_scan: Scan) {}
+fn release(_table: Table, _half: Half) {}
 
-// The certificate of a table and the tree in the bytes behind it.
+// The certificate of a table and a tree that was read. `None` where something is behind the tree.
+fn scanned_of<'a>(
+    alloc: Global,
+    checked: &'a Checked,
+    table: Table,
+    half: Half,
+) -> Result<Option<Scanned<'a>>, AllocError>
+    requires { AreKept checked.now.client half.parts half.keys }
+    ensures { (bytes : List ℕ) → IsTreeRead (stretch_of checked.now.client 64 4194304 bytes) half → IfOk result (λ o. IfSome o (IsScannedBehind checked.now.client table bytes)) }
+{
+    if half.behind != 0 {
+        release(table, half);
+        return Ok(None);
+    }
+    let scanned = learned(store_of(alloc, checked, table, half))?;
+    Ok(Some(scanned))
+}
+
+// The whole tree at the front of the bytes.
+fn read_tree(alloc: Global, checked: &Checked, bytes: &[u8]) -> Result<Option<Half>, AllocError>
+    ensures { IfOk result (λ o. IfSome o (IsTreeRead (stretch_of checked.now.client 64 4194304 bytes.now))) }
+{
+    let unread = Unread {
+        alloc,
+        checked,
+        depth: FORKS,
+        room: RECORDS,
+        bytes,
+    };
+    read_alone(&unread)
+}
+
+// The same, read by so many workers.
+fn read_tree_with<R: Threads + Sync>(
+    rt: &R,
+    alloc: Global,
+    checked: &Checked,
+    bytes: &[u8],
+    workers: u64,
+) -> Result<Option<Half>, AllocError>
+    ensures { IfOk result (λ o. IfSome o (IsTreeRead (stretch_of checked.now.client 64 4194304 bytes.now))) }
+{
+    let unread = Unread {
+        alloc,
+        checked,
+        depth: FORKS,
+        room: RECORDS,
+        bytes,
+    };
+    run_by(rt, &unread, workers)
+}
+
+// The certificate of a table and of the tree in the bytes behind it.
 fn scan_tree<'a>(
     alloc: Global,
     checked: &'a Checked,
     table: Table,
     bytes: &[u8],
-) -> Result<Option<Scanned<'a>>, Refused>
+) -> Result<Option<Scanned<'a>>, AllocError>
     ensures { IfOk result (λ o. IfSome o (IsScannedBehind checked.now.client table bytes.now)) }
 {
-    let mut scan = Scan::new(alloc, &checked.client);
-    match read_tree(&mut scan, &checked.client, alloc, bytes) {
-        Ok(Some(shape)) => {
-            let scanned = learned(store_of(alloc, checked, table, scan, shape))?;
-            Ok(Some(scanned))
-        }
-        Ok(None) => {
-            release(scan);
-            Ok(None)
-        }
-        Err(reason) => {
-            release(scan);
-            Err(reason)
-        }
+    match read_tree(alloc, checked, bytes)? {
+        Some(half) => scanned_of(alloc, checked, table, half),
+        None => Ok(None),
     }
 }
 
-// The certificate in the bytes.
-fn scan_bytes<'a>(
+// The same, read by so many workers.
+fn scan_tree_with<'a, R: Threads + Sync>(
+    rt: &R,
     alloc: Global,
     checked: &'a Checked,
+    table: Table,
     bytes: &[u8],
-) -> Result<Option<Scanned<'a>>, Refused>
-    ensures { IfOk result (λ o. IfSome o (IsScanned checked.now.client bytes.now)) }
+    workers: u64,
+) -> Result<Option<Scanned<'a>>, AllocError>
+    ensures { IfOk result (λ o. IfSome o (IsScannedBehind checked.now.client table bytes.now)) }
 {
-    match read_table(alloc, bytes) {
-        Ok((table, rest)) => scan_tree(alloc, checked, table, rest),
-        Err(DecodeError::Fault(_)) => Ok(None),
-        Err(DecodeError::Memory) => Err(Refused::Memory),
+    match read_tree_with(rt, alloc, checked, bytes, workers)? {
+        Some(half) => scanned_of(alloc, checked, table, half),
+        None => Ok(None),
     }
 }
 
@@ -155,9 +175,29 @@ pub fn scan<'a>(
 ) -> Result<Option<Scanned<'a>>, AllocError>
     ensures { IfOk result (λ o. IfSome o (IsScanned checked.now.client bytes.now)) }
 {
-    match scan_bytes(alloc, checked, bytes) {
-        Ok(found) => Ok(found),
-        Err(Refused::Memory) => Err(AllocError),
-        Err(Refused::Full) => Ok(None),
+    match read_table(alloc, bytes) {
+        Ok((table, rest)) => scan_tree(alloc, checked, table, rest),
+        Err(DecodeError::Fault(_)) => Ok(None),
+        Err(DecodeError::Memory) => Err(AllocError),
+    }
+}
+
+/// The same, read by so many workers. Where the right half of a fork begins is known only once the left half was read: so it is
+/// guessed, and read by another worker meanwhile. Where the left half ends elsewhere, the fork is read once more by one worker.
+///
+/// Errors: those of `scan`.
+pub fn scan_with<'a, R: Threads + Sync>(
+    rt: &R,
+    alloc: Global,
+    checked: &'a Checked,
+    bytes: &[u8],
+    workers: u64,
+) -> Result<Option<Scanned<'a>>, AllocError>
+    ensures { IfOk result (λ o. IfSome o (IsScanned checked.now.client bytes.now)) }
+{
+    match read_table(alloc, bytes) {
+        Ok((table, rest)) => scan_tree_with(rt, alloc, checked, table, rest, workers),
+        Err(DecodeError::Fault(_)) => Ok(None),
+        Err(DecodeError::Memory) => Err(AllocError),
     }
 }

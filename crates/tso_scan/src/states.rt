@@ -11,8 +11,8 @@ use tso_prog::Client;
 use tso_rec::{End, Reader, Shared};
 use tso_store::Key;
 
-// By which states and their parts are hashed.
-const SEED: u64 = 1;
+/// By which states and their parts are hashed.
+pub const SEED: u64 = 1;
 
 /// What was read of a certificate: the keys of its states in their order, and their ends.
 #[derive(Drop)]

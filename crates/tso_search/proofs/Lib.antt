@@ -1,4 +1,5 @@
 pub mod GoodLemmas
 pub mod KeptOrders
+pub mod MarkLemmas
 pub mod SearchLemmas
 pub mod WayLemmas

@@ -20,8 +20,9 @@ use Rattle.tso_compact.specs.Laws.{initial_of}
 use Rattle.tso_compact.specs.declared.sort.StepKind.{StepKind}
 use Rattle.tso_compact.specs.Plans.{HasStep, IsStep, kind_of_move}
 use Rattle.tso_search.specs.Goodness.{AllGood, AllGoodBelow, IsGood}
+use Rattle.tso_search.specs.Marking.{IsMarkedToo, is_marked}
 use Rattle.tso_search.specs.Reached.{IsBadAt, IsMet, IsOrigin}
-use Rattle.tso_search.specs.Searched.{AreFollowed, AreSearched, GoesOn, HasBegun, HasMore, IsBegun, IsFollowed, IsSearched, IsGoodAt, IsHunting, IsStarted, IsStop, IsStopAt, IsWorked, IsWorkedAt}
+use Rattle.tso_search.specs.Searched.{AreDone, AreFollowed, AreSearched, GoesOn, HasBegun, HasMore, IsBegun, IsFollowed, IsSearched, IsGoodAt, IsDone, IsHunting, IsStarted, IsStop, IsStopAt, IsWorked, IsWorkedAt}
 use Rattle.tso_search.specs.declared.stop.Stop.{Stop}
 use Rattle.tso_search.specs.declared.stop.Stop.TheVariants as stops
 use Rattle.tso_search.specs.declared.origin.Origin.{Origin}
@@ -431,34 +432,84 @@ pub some_as : {X : Type 0} (P : X → Type 0) (o : Option X) (x : X) → IfSome 
 some_as P None x p e = absurd (none-some x e)
 some_as P (Some y) x p e = subst P (same_Some y x e) p
 
--- what a hunt keeps goes on
-pub hunting_on : (c : Client) (old new : List State) (origins : List Origin) → GoesOn c 4194304 old new origins → AllGood c new → IsHunting c new origins
-hunting_on c old new origins on good = record { begun = on.begun; good = good; few = on.few }
+-- ---- states that are worked out of their turn
 
--- a hunt since it had this store, with steps left
-pub record IsLeaving (c : Client) (old new : Sheet) (origins : List Origin) (before steps : ℕ) : Type 0 where
-  pub client : new.client ≡ c
-  pub hunting : IsHunting c new.states origins
-  pub more : length old.states ≤ length new.states
-  pub room : new.kept + 4 * steps ≤ old.kept + 4 * before
+pub there_by : (states : List State) (n : ℕ) (s : State) → slice_get states n ≡ Some s → n < length states
+there_by states n s at = slice_get_within states n s at
 
-pub leaving_first : (c : Client) (old : Sheet) (origins : List Origin) (steps : ℕ) → old.client ≡ c → IsHunting c old.states origins → IsLeaving c old old origins steps steps
-leaving_first c old origins steps same hunting = record { client = same; hunting = hunting; more = omega arith; room = omega arith }
+-- where none is marked
+pub done_none : (c : Client) (t : Table) (states : List State) (marks : List Bool) → marks ≡ [] → AreDone c t states marks
+done_none c t states marks none = subst (AreDone c t states) (sym none) (λ n marked. absurd (let clash : false ≡ true = marked in cc))
 
-pub leaving_on : (c : Client) (old mid next : Sheet) (os ps : List Origin) (before steps left : ℕ) → IsLeaving c old mid os before steps → next.client ≡ mid.client → IsHunting c next.states ps
-    → length mid.states ≤ length next.states → next.kept + 4 * left ≤ mid.kept + 4 * steps → IsLeaving c old next ps before left
-leaving_on c old mid next os ps before steps left l same hunting more room = record {
-  client = same ∙ l.client;
-  hunting = hunting;
-  more = (let a = l.more in omega (arith, a, more));
-  room = (let a = l.room in omega (arith, a, room));
+pub done_stays : (c : Client) (t : Table) (old new : List State) (marks : List Bool) → Extends old new → AreDone c t old marks → AreDone c t new marks
+done_stays c t old new marks stays done n marked =
+    let one = done n marked in
+    record { state = one.state; at = stays n one.state one.at; worked = worked_stays c t old new one.state stays one.worked }
+
+-- with one that is marked too
+done_too : (c : Client) (t : Table) (states : List State) (old new : List Bool) (n : ℕ) → IsMarkedToo old new n → AreDone c t states old → IsDone c t states n → AreDone c t states new
+done_too c t states old new n too done one k marked = elim ((too k).0 marked) [
+  | inl same ↦ subst (IsDone c t states) (sym same) one
+  | inr before ↦ done k before
+]
+
+-- a state whose chosen steps were followed is worked
+done_now : (c : Client) (t : Table) (limit : ℕ) (old new : List State) (origins origins' : List Origin) (n set : ℕ) (s : State) → IsBegun c old origins → AllGood c old
+    → GoesOn c limit old new origins' → slice_get old n ≡ Some s → IsChoice c t s set → AreFollowed c old new n set 10 → IsDone c t new n
+done_now c t limit old new origins origins' n set s begun good on here is followed = record {
+  state = s;
+  at = on.stays n s here;
+  worked = record {
+    moves = chosen_followed c t s set old new n (begun.met n s here).plausible.well_formed is here followed;
+    unstopped = λ over. (good n s here).unstopped;
+    explained = λ over. (good n s here).explained;
+  };
 }
 
-pub leaving_as : (c : Client) (old new next : Sheet) (os ps : List Origin) (before steps left : ℕ) → IsLeaving c old next ps before left → new ≡ next → os ≡ ps → steps ≡ left → IsLeaving c old new os before steps
-leaving_as c old new next os ps before steps left l store tail same =
-    let a : IsLeaving c old next ps before steps = subst (IsLeaving c old next ps before) (sym same) l in
-    let b : IsLeaving c old next os before steps = subst (λ (xs : List Origin). IsLeaving c old next xs before steps) (sym tail) a in
-    subst (λ (s : Sheet). IsLeaving c old s os before steps) (sym store) b
+-- a hunt goes on behind a state that is worked and marked
+pub hunting_marked : (c : Client) (t : Table) (limit : ℕ) (old new : List State) (origins origins' : List Origin) (marks marks' : List Bool) (n set : ℕ) → IsHunting c t limit old origins marks
+    → n < length old → ((s : State) → slice_get old n ≡ Some s → IsChoice c t s set) → GoesOn c limit old new origins' → AllGood c new → AreFollowed c old new n set 10 → IsMarkedToo marks marks' n
+    → IsHunting c t limit new origins' marks'
+hunting_marked c t limit old new origins origins' marks marks' n set h there chosen on good followed too = record {
+  begun = on.begun;
+  good = good;
+  few = on.few;
+  done = done_too c t new marks marks' n too (done_stays c t old new marks on.stays h.done) (done_now c t limit old new origins origins' n set s h.begun h.good on here (chosen s here) followed);
+}
+  where
+    s : State
+    s = get_or old n h.begun.initial
+
+    here : slice_get old n ≡ Some s
+    here = slice_get-get_or old n h.begun.initial there
+
+-- one that is marked is worked in its turn
+pub searched_done : (c : Client) (t : Table) (states : List State) (origins : List Origin) (marks : List Bool) (number : ℕ) → IsSearched c t states origins number → AreDone c t states marks
+    → IsTrue (is_marked marks number) → IsSearched c t states origins (number + 1)
+searched_done c t states origins marks number searched done marked = record {
+  begun = searched.begun;
+  worked = λ n x lt at. by n x at (cases_lt n number) lt;
+}
+  where
+    one : IsDone c t states number
+    one = done number marked
+
+    by : (n : ℕ) (x : State) → slice_get states n ≡ Some x → (n < number) ⊎ (number ≤ n) → n < number + 1 → IsWorked c t states x
+    by n x at (inl lt) small = searched.worked n x lt at
+    by n x at (inr ge) small =
+        let last : number ≡ n = omega (arith, ge, small) in
+        subst (IsWorked c t states) (same_Some one.state x (sym one.at ∙ ap (λ i. slice_get states i) last ∙ at)) one.worked
+
+-- what was worked stays so while more states are kept
+pub searched_stays : (c : Client) (t : Table) (old new : List State) (origins origins' : List Origin) (number : ℕ) → IsSearched c t old origins number → number ≤ length old → IsBegun c new origins'
+    → Extends old new → IsSearched c t new origins' number
+searched_stays c t old new origins origins' number searched low begun stays = record {
+  begun = begun;
+  worked = λ n x lt at.
+      let there = slice_get-get_or old n x (omega (arith, lt, low)) in
+      let same : get_or old n x ≡ x = same_Some (get_or old n x) x (sym (stays n (get_or old n x) there) ∙ at) in
+      subst (IsWorked c t new) same (worked_stays c t old new (get_or old n x) stays (searched.worked n (get_or old n x) lt there));
+}
 
 -- the actors of a set with numbers below k are followed
 pub record IsFollowing (c : Client) (limit : ℕ) (old new : Sheet) (origins : List Origin) (n set k : ℕ) : Type 0 where

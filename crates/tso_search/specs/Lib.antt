@@ -1,3 +1,4 @@
+pub mod Marking
 pub mod Reached
 pub mod Goodness
 pub mod Searched

@@ -1,5 +1,5 @@
 -- What a search keeps, and why it stops.
-use Rattle.std.specs.Prelude.{◌≡◌, ◌+◌, ◌<◌, ◌≤◌, ℕ, All, IsTrue, List, [], ◌∷◌, length, Some, slice_get}
+use Rattle.std.specs.Prelude.{◌≡◌, ◌+◌, ◌<◌, ◌≤◌, ℕ, All, Bool, IsTrue, List, [], ◌∷◌, length, Some, slice_get}
 use Rattle.tso_choose.specs.Choices.{AreChosen}
 use Rattle.tso_choose.specs.Closures.{has_bit}
 use Rattle.tso_choose.specs.Sets.{actor_at}
@@ -7,6 +7,7 @@ use Rattle.tso_choose.specs.declared.choice.Choice.{Choice}
 use Rattle.tso_compact.specs.Laws.{initial_of}
 use Rattle.tso_compact.specs.Plans.{HasStep}
 use Rattle.tso_search.specs.Goodness.{AllGood, IsGood}
+use Rattle.tso_search.specs.Marking.{is_marked}
 use Rattle.tso_search.specs.Reached.{AllMet, AreOrigins, IsBadAt, IsReached}
 use Rattle.tso_search.specs.declared.origin.Origin.{Origin}
 use Rattle.tso_search.specs.declared.stop.Stop.{Stop}
@@ -106,8 +107,19 @@ pub record AreSearched (c : Client) (t : Table) (states : List State) : Type 0 w
   pub begun : HasBegun c states
   pub worked : (n : ℕ) → IsWorkedAt c t states n
 
--- what a hunt keeps: states that are met, all good, and no more of them than a certificate may have
-pub record IsHunting (c : Client) (states : List State) (origins : List Origin) : Type 0 where
+-- the state with this number is there, and worked
+pub record IsDone (c : Client) (t : Table) (states : List State) (n : ℕ) : Type 0 where
+  pub state : State
+  pub at : slice_get states n ≡ Some state
+  pub worked : IsWorked c t states state
+
+-- all that are marked are worked
+abbrev pub AreDone : Client → Table → List State → List Bool → Type 0
+AreDone c t states marks = (n : ℕ) → IsTrue (is_marked marks n) → IsDone c t states n
+
+-- what a hunt keeps: states that are met, all good, no more of them than the limit, and those that are marked are worked
+pub record IsHunting (c : Client) (t : Table) (limit : ℕ) (states : List State) (origins : List Origin) (marks : List Bool) : Type 0 where
   pub begun : IsBegun c states origins
   pub good : AllGood c states
-  pub few : length states ≤ 4194304
+  pub few : length states ≤ limit
+  pub done : AreDone c t states marks

@@ -129,7 +129,15 @@ pub fn follow(
     Ok(Some(next.0))
 }
 
-/// Follows the steps of all actors of a set.
+// Lists a state that was met, if there is one.
+fn list(met: &mut Vec<u32>, new: Option<u32>) -> Result<(), AllocError> {
+    if let Some(number) = new {
+        met.push(number)?;
+    }
+    Ok(())
+}
+
+/// Follows the steps of all actors of a set, and lists the states that are new.
 pub fn follow_all(
     alloc: Global,
     checked: &Checked,
@@ -139,6 +147,7 @@ pub fn follow_all(
     number: u32,
     set: u16,
     limit: u32,
+    met: &mut Vec<u32>,
 ) -> Result<(), Stop>
     requires client { store.old.client ≡ checked.now.client }
     requires begun { IsBegun checked.now.client store.old.states origins.old.items }
@@ -155,16 +164,9 @@ pub fn follow_all(
 {
     for k in 0..10 {
         if has_bit(set, k) {
-            let _new = follow(
-                alloc,
-                checked,
-                store,
-                origins,
-                judged,
-                number,
-                actor_at(k),
-                limit,
-            )?;
+            let actor = actor_at(k);
+            let new = follow(alloc, checked, store, origins, judged, number, actor, limit)?;
+            list(met, new)?;
         }
     }
     Ok(())

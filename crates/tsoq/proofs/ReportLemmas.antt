@@ -11,6 +11,8 @@ use Rattle.tso_check.proofs.Goodness.{each_run_is_good}
 use Rattle.tso_check.proofs.UpgradeLemmas.{new_spelled, new_tree}
 use Rattle.tso_client.specs.Headline.{DenotesChecked}
 use Rattle.tso_explore.specs.Outcomes.{IsCertificate}
+use Rattle.tso_explore.specs.Worked.{IsTreeOf}
+use Rattle.tso_explore.specs.declared.worked.Worked.{Worked}
 use Rattle.tso_foot.specs.Narrower.{IsNarrowerThanClosed}
 use Rattle.tso_foot.specs.declared.table.Table.{Table}
 use Rattle.tso_foot.specs.declared.table.Table.TheVariants as tables
@@ -23,7 +25,7 @@ use Rattle.tso_trace.specs.Runs.{IsErrorTrace, first_fault, violation_of}
 use Rattle.tso_trace.specs.declared.trace.Trace.{Trace}
 use Rattle.tso_trace.specs.declared.trace.Violation.{Violation}
 use Rattle.tsoq.specs.Reports.{IsOfLabels, IsOfRecords, IsReport, IsTold}
-use Rattle.tsoq.specs.Written.{HasTaken, HasTakenTree, IsAsked, IsAskedFor, IsCertificateOf, IsFiled, IsWritable}
+use Rattle.tsoq.specs.Written.{HasTaken, HasTakenFrom, HasTakenTree, IsAllGood, IsAsked, IsAskedFor, IsCertificateOf, IsFiled, IsSpelledFrom, IsSpelledOf, IsTableFor, IsWritable}
 use Rattle.tsoq.specs.declared.counted.Taken.{Taken}
 use Rattle.tsoq.specs.declared.form.Form.{Form}
 use Rattle.tsoq.specs.declared.form.Form.TheVariants as forms
@@ -75,6 +77,34 @@ with_intervals c (tables.Arrays a) u tree is inductive within narrow =
       within = is.within;
     }
 with_intervals c (tables.Intervals a) u tree is inductive within narrow = absurd is.formed
+
+-- ---- worked states
+
+-- they are written with their own table, one of arrays
+pub own_table : (c : Client) (w : Worked) → IsTableFor forms.Arrays c w w.table
+own_table c w tree made = as_searched c (length w.store.states) w.table tree made.good
+
+-- and as well with one of intervals that holds them
+pub new_table : (c : Client) (w : Worked) (u : IntervalTable) → IsInductive c u → AreWithin (tables.Intervals u) w.store.states → IsNarrowerThanClosed c u
+    → IsTableFor forms.Intervals c w (tables.Intervals u)
+new_table c w u inductive within narrow tree made =
+    with_intervals c w.table u tree (own_table c w tree made) inductive (λ k s at. let from = made.states k s at in within from.0 s from.1) narrow
+
+pub spelled_from : (form : Form) (c : Client) (w : Worked) (t : Table) (bytes : List ℕ) → IsTableFor form c w t → IsSpelledOf c w t bytes → IsSpelledFrom form c w bytes
+spelled_from form c w t bytes fits is = record { tree = is.tree; made = is.made; with_table = record { table = t; writable = fits is.tree is.made; spelled = is.spelled } }
+
+pub good_of_worked : (form : Form) (c : Client) (w : Worked) (r : Report) (o : Option Taken) → HasTakenFrom form c w o → IsOfRecords (length w.store.states) r → IsAllGood form c r o
+good_of_worked form c w r o from records = record {
+  limit = length w.store.states;
+  table = w.table;
+  tree = from.tree;
+  good = from.made.good;
+  records = subst (λ (n : ℕ). IsOfRecords n r) (sym from.made.count) records;
+  taken = from.taken;
+}
+
+pub good_of_tree : (form : Form) (c : Client) (w : Worked) (tree : Tree) (r : Report) (o : Option Taken) → IsTreeOf c w tree → IsOfRecords (record_count tree) r → HasTakenTree form c tree o → IsAllGood form c r o
+good_of_tree form c w tree r o made records taken = record { limit = length w.store.states; table = w.table; tree = tree; good = made.good; records = records; taken = taken }
 
 -- ---- files
 

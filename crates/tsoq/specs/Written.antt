@@ -1,8 +1,11 @@
 -- What the files of a search have taken.
 use Rattle.std.specs.Prelude.{◌≡◌, ◌-◌, ◌^◌, ℕ, Bool, true, false, List, Option, Some, None, length, min}
 use Rattle.tso_cert.specs.Certificates.{Fits, certificate}
-use Rattle.tso_cert.specs.Trees.{IsWithinLimits, Tree}
+use Rattle.tso_cert.specs.Trees.{IsWithinLimits, Tree, record_count}
 use Rattle.tso_client.specs.Headline.{DenotesChecked}
+use Rattle.tso_explore.specs.Outcomes.{IsCertificate}
+use Rattle.tso_explore.specs.Worked.{IsTreeOf}
+use Rattle.tso_explore.specs.declared.worked.Worked.{Worked}
 use Rattle.tso_foot.specs.declared.table.Table.{Table}
 use Rattle.tso_foot.specs.declared.table.Table.TheVariants as tables
 use Rattle.tso_front.specs.declared.failure.Failure.{Failure}
@@ -10,6 +13,7 @@ use Rattle.tso_judge.specs.Valid.{IsValidCertificate, IsValidTree}
 use Rattle.tso_prog.specs.declared.client.Client.{Client}
 use Rattle.tso_trace.specs.Grammar.{trace_text}
 use Rattle.tso_trace.specs.declared.trace.Trace.{Trace}
+use Rattle.tsoq.specs.Reports.{IsOfRecords}
 use Rattle.tsoq.specs.declared.counted.Taken.{Taken}
 use Rattle.tsoq.specs.declared.form.Form.{Form}
 use Rattle.tsoq.specs.declared.form.Form.TheVariants.{Arrays, Intervals}
@@ -65,6 +69,47 @@ pub record IsSpelledWith (form : Form) (c : Client) (tree : Tree) (bytes : List 
 abbrev pub HasTakenTree : Form → Client → Tree → Option Taken → Type 0
 HasTakenTree form c tree None = Unit {0}
 HasTakenTree form c tree (Some taken) = IsSpelledWith form c tree taken.which.numbers
+
+-- ---- certificates of worked states
+
+-- the bytes spell this table and a tree of records of the worked states
+pub record IsSpelledOf (c : Client) (w : Worked) (t : Table) (bytes : List ℕ) : Type 0 where
+  pub tree : Tree
+  pub made : IsTreeOf c w tree
+  pub spelled : bytes ≡ certificate t tree
+
+-- each such tree can be written with this table, one of this form
+abbrev pub IsTableFor : Form → Client → Worked → Table → Type 0
+IsTableFor form c w t = (tree : Tree) → IsTreeOf c w tree → IsWritable form c t tree
+
+-- the bytes spell such a tree with a table of this form
+pub record IsSpelledFrom (form : Form) (c : Client) (w : Worked) (bytes : List ℕ) : Type 0 where
+  pub tree : Tree
+  pub made : IsTreeOf c w tree
+  pub with_table : IsSpelledWith form c tree bytes
+
+-- there is such a tree
+pub record HasTree (c : Client) (w : Worked) : Type 0 where
+  pub tree : Tree
+  pub made : IsTreeOf c w tree
+
+-- there is such a tree, and a file, if there is one, has taken bytes that spell it, and no others
+pub record HasTakenFrom (form : Form) (c : Client) (w : Worked) (o : Option Taken) : Type 0 where
+  pub tree : Tree
+  pub made : IsTreeOf c w tree
+  pub taken : HasTakenTree form c tree o
+
+-- there is a certificate of the client with as many records as are reported, and a file, if there is one, has taken bytes that spell its
+-- tree, and no others
+pub record IsAllGood (form : Form) (c : Client) (r : Report) (o : Option Taken) : Type 0 where
+  pub limit : ℕ
+  pub table : Table
+  pub tree : Tree
+  pub good : IsCertificate c limit table tree
+  pub records : IsOfRecords (record_count tree) r
+  pub taken : HasTakenTree form c tree o
+
+-- ---- files of certificates
 
 -- the text denotes a client of which these bytes are a valid certificate, with a table of this form
 pub record AreCertificate (form : Form) (text bytes : List ℕ) : Type 0 where

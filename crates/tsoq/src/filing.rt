@@ -4,13 +4,18 @@ ghost use Rattle.std.specs.Io.Buffered.{writer_buffer, writer_inner};
 ghost use Rattle.std.specs.Prelude.{◌≡◌, ◌++◌, IfOk};
 ghost use Rattle.tso_cert.specs.Certificates.{certificate};
 ghost use Rattle.tso_cert.specs.Trees.{tree_of};
+ghost use Rattle.tso_explore.specs.Worked.{AreWorkedOut};
 ghost use Rattle.tso_trace.specs.Grammar.{trace_text};
+ghost use Rattle.tsoq.specs.Written.{IsSpelledOf};
 
 use crate::counted::{Counted, Taken};
 use std::alloc::Global;
 use std::io;
 use std::io::{BufWriter, Write};
-use tso_cert::{Cert, WriteError};
+use std::thread::Threads;
+use tso_cert::{Cert, Workers, WriteError};
+use tso_explore::Worked;
+use tso_flow::Checked;
 use tso_foot::Table;
 use tso_front::{Draft, Failure, Files, cannot_write};
 use tso_list::write_bytes;
@@ -41,6 +46,37 @@ fn put_bytes<W: Write + Drop>(
     tso_cert::write(alloc, table, cert, &mut out)?;
     match out.flush() {
         Ok(()) => Ok(out.taken()),
+        Err(error) => Err(WriteError::Io(error)),
+    }
+}
+
+// Writes out what waits behind a writer, and says what the writer has taken.
+fn finished<W: Write + Drop>(mut out: Counted<W>) -> io::Result<Taken>
+    ensures { IfOk result (λ taken. taken.which.numbers ≡ out.taken.which.numbers) }
+{
+    match out.flush() {
+        Ok(()) => Ok(out.taken()),
+        Err(error) => Err(error),
+    }
+}
+
+// Writes worked states as a certificate with this table, and says what the writer has taken.
+fn put_worked_bytes<R: Threads + Sync, W: Write + Drop>(
+    rt: &R,
+    alloc: Global,
+    checked: &Checked,
+    worked: &Worked<'_>,
+    table: &Table,
+    workers: Workers,
+    out: W,
+) -> Result<Taken, WriteError>
+    requires worked { AreWorkedOut checked.now.client worked.now }
+    ensures { IfOk result (λ taken. IsSpelledOf checked.now.client worked.now table.now taken.which.numbers) }
+{
+    let mut out = Counted::new(out);
+    tso_explore::write(rt, alloc, checked, worked, table, workers, &mut out)?;
+    match finished(out) {
+        Ok(taken) => Ok(taken),
         Err(error) => Err(WriteError::Io(error)),
     }
 }
@@ -81,6 +117,31 @@ fn put_certificate<F: Files>(
         Err(error) => return Err(cannot_write(alloc, draft.name(), error.kind())),
     };
     match put_bytes(alloc, table, cert, file) {
+        Ok(taken) => Ok(taken),
+        Err(WriteError::Io(error)) => Err(cannot_write(alloc, draft.name(), error.kind())),
+        Err(WriteError::Memory) => Err(Failure::Memory),
+    }
+}
+
+// Writes worked states as a certificate to the draft of a file, and says what the file has taken.
+fn put_worked<R: Threads + Sync, F: Files>(
+    rt: &R,
+    alloc: Global,
+    files: &mut F,
+    draft: &Draft<'_>,
+    checked: &Checked,
+    worked: &Worked<'_>,
+    table: &Table,
+    workers: Workers,
+) -> Result<Taken, Failure>
+    requires worked { AreWorkedOut checked.now.client worked.now }
+    ensures { IfOk result (λ taken. IsSpelledOf checked.now.client worked.now table.now taken.which.numbers) }
+{
+    let file = match files.create(draft.path()) {
+        Ok(file) => file,
+        Err(error) => return Err(cannot_write(alloc, draft.name(), error.kind())),
+    };
+    match put_worked_bytes(rt, alloc, checked, worked, table, workers, file) {
         Ok(taken) => Ok(taken),
         Err(WriteError::Io(error)) => Err(cannot_write(alloc, draft.name(), error.kind())),
         Err(WriteError::Memory) => Err(Failure::Memory),
@@ -139,6 +200,28 @@ pub fn file_certificate<F: Files>(
 {
     let draft = Draft::of(alloc, files, path)?;
     let written = put_certificate(alloc, files, &draft, table, cert);
+    draft.settle(alloc, files, written)
+}
+
+/// Writes worked states as a certificate with this table to this path, by so many workers and without a tree of records, and says
+/// what the file there has taken: the one spelling of the table and of such a tree.
+///
+/// Errors: `CannotWrite`, and then what was there is as it was; `Memory`.
+pub fn file_worked<R: Threads + Sync, F: Files>(
+    rt: &R,
+    alloc: Global,
+    files: &mut F,
+    path: &str,
+    checked: &Checked,
+    worked: &Worked<'_>,
+    table: &Table,
+    workers: Workers,
+) -> Result<Taken, Failure>
+    requires worked { AreWorkedOut checked.now.client worked.now }
+    ensures { IfOk result (λ taken. IsSpelledOf checked.now.client worked.now table.now taken.which.numbers) }
+{
+    let draft = Draft::of(alloc, files, path)?;
+    let written = put_worked(rt, alloc, files, &draft, checked, worked, table, workers);
     draft.settle(alloc, files, written)
 }
 

@@ -1,27 +1,29 @@
 //! The search of a program's runs, and the file that says what it found.
 
-ghost use Rattle.std.specs.Prelude.{◌≡◌, ◌≤◌, IfOk, None, Some, is_some, length};
+ghost use Rattle.std.specs.Prelude.{◌≡◌, ◌≤◌, IfOk, None, OnOk, Some, is_some, length};
 ghost use Rattle.tso_cert.specs.Trees.{record_count, tree_of};
+ghost use Rattle.tso_explore.specs.Worked.{AreWorkedOut};
 ghost use Rattle.tso_trace.specs.Grammar.{trace_text};
 ghost use Rattle.tso_trace.specs.Runs.{first_fault, violation_of};
 ghost use Rattle.tsoq.specs.Reports.{IsOfLabels, IsOfRecords, IsReport, IsTold};
 ghost use Rattle.tsoq.specs.Statuses.{status_of_search};
-ghost use Rattle.tsoq.specs.Written.{HasTaken, HasTakenTree, IsAsked, IsAskedFor, IsFiled, IsSpelledWith, IsWritable, bytes_of, count_of};
+ghost use Rattle.tsoq.specs.Written.{HasTaken, HasTakenFrom, HasTakenTree, HasTree, IsAllGood, IsAsked, IsAskedFor, IsFiled, IsSpelledFrom, IsSpelledWith, IsTableFor, IsWritable, bytes_of, count_of};
 
 use crate::command::Search;
 use crate::counted::Taken;
-use crate::filing::{file_certificate, file_trace};
+use crate::filing::{file_certificate, file_trace, file_worked};
 use crate::form::Form;
 use crate::progress::{Listener, Progress};
 use crate::report::Report;
 use std::alloc::{AllocError, Global};
+use std::io::sink;
 use std::mem;
 use std::sync::Wait;
 use std::thread::Threads;
-use tso_cert::{Cert, build_intervals};
+use tso_cert::{Cert, Workers, build_intervals};
 use tso_client::checked_of;
 use tso_coverage::{Facts, told};
-use tso_explore::{Outcome, explore};
+use tso_explore::{Finding, Worked, find, intervals_for, tree_for};
 use tso_flow::Checked;
 use tso_foot::Table;
 use tso_front::{Failure, Files};
@@ -52,11 +54,12 @@ impl Found {
     }
 }
 
-// A report of a certificate, and what its file has taken, if there is one.
+// A report of a certificate, what its file has taken, if there is one, and what its records show, where that is asked for.
 #[derive(Drop)]
 struct Certification {
     report: Report,
     taken: Option<Taken>,
+    said: Option<String>,
 }
 
 // What came of the file of a trace: what it has taken, or why it is not there, where one was asked for.
@@ -186,7 +189,11 @@ fn certified<F: Files>(
         records: cert.len(),
         bytes: count_of(&taken),
     };
-    Ok(Certification { report, taken })
+    Ok(Certification {
+        report,
+        taken,
+        said: None,
+    })
 }
 
 // Writes a trace to this path, if there is one. A file that failed is told beside that.
@@ -269,13 +276,226 @@ fn certified_last<F: Files>(
     made
 }
 
-// What the records of a certificate show, in words; none where they are not asked for, or memory is wanting.
-fn said_of(alloc: Global, checked: &Checked, cert: &Cert, asked: bool) -> Option<String> {
-    if !asked {
-        return None;
-    }
+// What the records of a certificate show, in words; none where memory is wanting.
+fn said_of(alloc: Global, checked: &Checked, cert: &Cert) -> Option<String> {
     let facts = Facts::counted(alloc, &checked.client, cert).ok()?;
     told(alloc, &facts).ok()
+}
+
+// A table of intervals for worked states.
+fn intervals_with(
+    alloc: Global,
+    checked: &Checked,
+    worked: &Worked<'_>,
+) -> Result<Table, AllocError>
+    requires worked { AreWorkedOut checked.now.client worked.now }
+    ensures { IfOk result (IsTableFor Form.Intervals checked.now.client worked.now) }
+{
+    let intervals = intervals_for(alloc, checked, worked)?;
+    Ok(Table::Intervals(intervals))
+}
+
+// Writes worked states to this path with the table of their search.
+fn worked_searched<R: Threads + Sync, F: Files>(
+    rt: &R,
+    alloc: Global,
+    files: &mut F,
+    path: &str,
+    checked: &Checked,
+    worked: &Worked<'_>,
+    workers: Workers,
+) -> Result<Taken, Failure>
+    requires worked { AreWorkedOut checked.now.client worked.now }
+    ensures { IfOk result (λ taken. IsSpelledFrom Form.Arrays checked.now.client worked.now taken.which.numbers) }
+{
+    let table = &worked.table;
+    let taken = file_worked(rt, alloc, files, path, checked, worked, table, workers)?;
+    Ok(taken)
+}
+
+// Writes them with a table of intervals.
+fn worked_anew<R: Threads + Sync, F: Files>(
+    rt: &R,
+    alloc: Global,
+    files: &mut F,
+    path: &str,
+    checked: &Checked,
+    worked: &Worked<'_>,
+    workers: Workers,
+) -> Result<Taken, Failure>
+    requires worked { AreWorkedOut checked.now.client worked.now }
+    ensures { IfOk result (λ taken. IsSpelledFrom Form.Intervals checked.now.client worked.now taken.which.numbers) }
+{
+    let anew = intervals_with(alloc, checked, worked)?;
+    let taken = file_worked(rt, alloc, files, path, checked, worked, &anew, workers)?;
+    Ok(taken)
+}
+
+// Writes them with the table that is asked for.
+fn worked_in_form<R: Threads + Sync, F: Files>(
+    rt: &R,
+    alloc: Global,
+    files: &mut F,
+    path: &str,
+    form: Form,
+    checked: &Checked,
+    worked: &Worked<'_>,
+    workers: Workers,
+) -> Result<Taken, Failure>
+    requires worked { AreWorkedOut checked.now.client worked.now }
+    ensures { IfOk result (λ taken. IsSpelledFrom form checked.now.client worked.now taken.which.numbers) }
+{
+    match form {
+        Form::Arrays => worked_searched(rt, alloc, files, path, checked, worked, workers),
+        Form::Intervals => worked_anew(rt, alloc, files, path, checked, worked, workers),
+    }
+}
+
+// Spells worked states and keeps nothing of it: that it could be done shows that there is a certificate.
+fn spelled_in_vain<R: Threads + Sync>(
+    rt: &R,
+    alloc: Global,
+    checked: &Checked,
+    worked: &Worked<'_>,
+    workers: Workers,
+) -> Result<(), Failure>
+    requires worked { AreWorkedOut checked.now.client worked.now }
+    ensures { OnOk result (HasTree checked.now.client worked.now) }
+{
+    let mut nowhere = sink();
+    let table = &worked.table;
+    match tso_explore::write(rt, alloc, checked, worked, table, workers, &mut nowhere) {
+        Ok(()) => Ok(()),
+        Err(_) => Err(Failure::Memory),
+    }
+}
+
+// Writes worked states to this path, if there is one, and says what the file has taken.
+fn write_worked<R: Threads + Sync, F: Files>(
+    rt: &R,
+    alloc: Global,
+    files: &mut F,
+    search: &Search<'_>,
+    checked: &Checked,
+    worked: &Worked<'_>,
+) -> Result<Option<Taken>, Failure>
+    requires worked { AreWorkedOut checked.now.client worked.now }
+    ensures taken { IfOk result (HasTakenFrom search.now.form checked.now.client worked.now) }
+    ensures asked { IfOk result (λ taken. IsAsked (is_some search.now.cert) taken None) }
+{
+    let workers = search.workers;
+    let Some(path) = search.cert else {
+        spelled_in_vain(rt, alloc, checked, worked, workers)?;
+        return Ok(None);
+    };
+    let taken = worked_in_form(
+        rt,
+        alloc,
+        files,
+        path,
+        search.form,
+        checked,
+        worked,
+        workers,
+    )?;
+    Ok(Some(taken))
+}
+
+// Writes worked states to this path, if there is one, and no tree of their records is made.
+fn certified_worked<R: Threads + Sync, F: Files>(
+    rt: &R,
+    alloc: Global,
+    files: &mut F,
+    search: &Search<'_>,
+    checked: &Checked,
+    worked: &Worked<'_>,
+) -> Result<Certification, Failure>
+    requires worked { AreWorkedOut checked.now.client worked.now }
+    ensures good { IfOk result (λ made. IsAllGood search.now.form checked.now.client made.report made.taken) }
+    ensures asked { IfOk result (λ made. IsAsked (is_some search.now.cert) made.taken None) }
+    ensures counted { IfOk result (λ made. bytes_of made.report ≡ count_of made.taken) }
+{
+    let taken = write_worked(rt, alloc, files, search, checked, worked)?;
+    let report = Report::Certified {
+        records: worked.len(),
+        bytes: count_of(&taken),
+    };
+    Ok(Certification {
+        report,
+        taken,
+        said: None,
+    })
+}
+
+// The same with a tree of the records, and what they show in words.
+fn certified_told<R: Threads + Sync, F: Files>(
+    rt: &R,
+    alloc: Global,
+    files: &mut F,
+    search: &Search<'_>,
+    checked: &Checked,
+    worked: &Worked<'_>,
+) -> Result<Certification, Failure>
+    requires worked { AreWorkedOut checked.now.client worked.now }
+    ensures good { IfOk result (λ made. IsAllGood search.now.form checked.now.client made.report made.taken) }
+    ensures asked { IfOk result (λ made. IsAsked (is_some search.now.cert) made.taken None) }
+    ensures counted { IfOk result (λ made. bytes_of made.report ≡ count_of made.taken) }
+{
+    let cert = tree_for(rt, alloc, checked, worked, search.workers)?;
+    let said = said_of(alloc, checked, &cert);
+    let table = &worked.table;
+    let made = certified_last(alloc, files, search.cert, search.form, checked, table, cert)?;
+    let Certification {
+        report,
+        taken,
+        said: _none,
+    } = made;
+    Ok(Certification {
+        report,
+        taken,
+        said,
+    })
+}
+
+// With a tree of the records only where words are asked for.
+fn certified_by<R: Threads + Sync, F: Files>(
+    rt: &R,
+    alloc: Global,
+    files: &mut F,
+    search: &Search<'_>,
+    checked: &Checked,
+    worked: &Worked<'_>,
+    verbose: bool,
+) -> Result<Certification, Failure>
+    requires worked { AreWorkedOut checked.now.client worked.now }
+    ensures good { IfOk result (λ made. IsAllGood search.now.form checked.now.client made.report made.taken) }
+    ensures asked { IfOk result (λ made. IsAsked (is_some search.now.cert) made.taken None) }
+    ensures counted { IfOk result (λ made. bytes_of made.report ≡ count_of made.taken) }
+{
+    if verbose {
+        return certified_told(rt, alloc, files, search, checked, worked);
+    }
+    certified_worked(rt, alloc, files, search, checked, worked)
+}
+
+// What worked states take in memory is left to the system, as in `certified_last`.
+fn certified_all<R: Threads + Sync, F: Files>(
+    rt: &R,
+    alloc: Global,
+    files: &mut F,
+    search: &Search<'_>,
+    checked: &Checked,
+    worked: Worked<'_>,
+    verbose: bool,
+) -> Result<Certification, Failure>
+    requires worked { AreWorkedOut checked.now.client worked }
+    ensures good { IfOk result (λ made. IsAllGood search.now.form checked.now.client made.report made.taken) }
+    ensures asked { IfOk result (λ made. IsAsked (is_some search.now.cert) made.taken None) }
+    ensures counted { IfOk result (λ made. bytes_of made.report ≡ count_of made.taken) }
+{
+    let made = certified_by(rt, alloc, files, search, checked, &worked, verbose);
+    mem::forget(worked);
+    made
 }
 
 /// Searches the runs of the client of a program text, and writes the certificate that all are good, or the trace of one that
@@ -299,7 +519,7 @@ pub fn verify<R: Threads + Wait + Sync, F: Files, L: Listener + Sync>(
     ensures counted { IfOk result (λ found. bytes_of found.report ≡ count_of found.taken) }
 {
     let checked = checked_of(alloc, program)?;
-    let outcome = explore(
+    let finding = find(
         rt,
         alloc,
         &checked,
@@ -308,19 +528,14 @@ pub fn verify<R: Threads + Wait + Sync, F: Files, L: Listener + Sync>(
         watch,
     );
     watch.answer();
-    match outcome {
-        Outcome::Certificate(table, cert) => {
-            let said = said_of(alloc, &checked, &cert, verbose);
-            let made = certified_last(
-                alloc,
-                files,
-                search.cert,
-                search.form,
-                &checked,
-                &table,
-                cert,
-            )?;
-            let Certification { report, taken } = made;
+    match finding {
+        Finding::Worked(worked) => {
+            let made = certified_all(rt, alloc, files, search, &checked, worked, verbose)?;
+            let Certification {
+                report,
+                taken,
+                said,
+            } = made;
             Ok(Found {
                 report,
                 trace: None,
@@ -329,11 +544,11 @@ pub fn verify<R: Threads + Wait + Sync, F: Files, L: Listener + Sync>(
                 said,
             })
         }
-        Outcome::Trace(trace) => {
+        Finding::Trace(trace) => {
             let found = violated(alloc, files, search.trace, trace)?;
             Ok(found)
         }
-        Outcome::LimitReached => Err(Failure::Limit),
-        Outcome::NoMemory => Err(Failure::Memory),
+        Finding::LimitReached => Err(Failure::Limit),
+        Finding::NoMemory => Err(Failure::Memory),
     }
 }

@@ -20,3 +20,6 @@ judge_with-requires-clause-ready g c =
     let long = s.long in
     let most = s.few in
     λ k within. (s, omega (arith, count, long, most))
+
+pub is_rising_with-requires-clause-few : goal.is_rising_with-requires-clause-few
+is_rising_with-requires-clause-few g c = λ k within. c.requires.stored.few

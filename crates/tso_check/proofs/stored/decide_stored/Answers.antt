@@ -8,3 +8,6 @@ pub returns-in_ok-found-in-None : goal.returns-in_ok-found-in-None
 returns-in_ok-found-in-None c = λ tree is.
     let whole = (rw c.in-None.is at c.in_ok-code.ensures) tree is in
     c.verdict_of.ensures c.args.checked.now.client c.args.scanned.now.table tree whole (stored_whole c.args.checked.now.client c.args.scanned.now tree c.len-count.result c.in_ok-found-in-None.found is c.len-count.ensures c.in_ok-found-in-None.ensures)
+
+pub is_rising-rises-requires : goal.is_rising-rises-requires
+is_rising-rises-requires c = c.requires.few

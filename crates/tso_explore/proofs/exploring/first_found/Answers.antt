@@ -1,6 +1,6 @@
 use Rattle.std.proofs.Common.{sym, subst, List}
-use Rattle.tso_explore.proofs.FirstLemmas.{begun_none}
-use Rattle.tso_search.proofs.SearchLemmas.{searched_first}
+use Rattle.tso_explore.proofs.FirstLemmas.{begun_none, first_found_as}
+use Rattle.tso_search.proofs.SearchLemmas.{done_none, searched_first}
 use Rattle.tso_search.specs.Searched.{IsBegun}
 use Rattle.tso_search.specs.declared.origin.Origin.{Origin}
 use Rattle.tso_explore.proofs.exploring.first_found.Goals as goal
@@ -11,3 +11,9 @@ short_trace-requires-clause-begun g c =
 
 pub search-requires-clause-searched : goal.search-requires-clause-searched
 search-requires-clause-searched g c = searched_first c.args.checked.now.client c.args.table.now c.args.store.now.states c.args.origins.now.items c.requires.started c.requires.none
+
+pub search-requires-clause-done : goal.search-requires-clause-done
+search-requires-clause-done g c = done_none c.args.checked.now.client c.args.table.now c.args.store.now.states c.args.marks.now c.requires.unmarked
+
+pub returns-in-Err : goal.returns-in-Err
+returns-in-Err g c = record { found = first_found_as c.args.checked.now.client c.args.limit c.args.table.now c.search.new.store c.search.new.origins.items c.args.marks.now c.stopped_first.result c.stopped_first.ensures }

@@ -4,7 +4,7 @@ use Rattle.tso_search.specs.Goodness.{AllGood}
 use Rattle.tso_store.specs.Sheets.{Sheet}
 use Rattle.tso_search.specs.declared.origin.Origin.{Origin}
 use Rattle.tso_search.proofs.following.follow_all.Goals as goal
-use Rattle.tso_search.proofs.following.follow_all.Goals.{then-has_bit+in_ok-_new, else-has_bit}
+use Rattle.tso_search.proofs.following.follow_all.Goals.{then-has_bit+in_ok-new+in_ok-list, else-has_bit}
 
 pub loop-k-init : goal.loop-k-init
 loop-k-init c = record {
@@ -17,11 +17,11 @@ follow-requires-clause-from c = still_there c.args.store.now.states c.loop-k.sto
 
 pub loop-k-preserved : goal.loop-k-preserved
 loop-k-preserved c = elim c.if-has_bit.branch [
-  | then-has_bit+in_ok-_new w ↦ record {
+  | then-has_bit+in_ok-new+in_ok-list w ↦ record {
     following = following_on c.args.checked.now.client c.args.limit c.args.store.now c.loop-k.store w.follow.new.store c.if-has_bit.store c.loop-k.origins.items w.follow.new.origins.items c.if-has_bit.origins.items
-        c.args.number c.args.set c.loop-k.k w.actor_at.result c.loop-k.invariant.following w.in_ok-_new.ensures.on w.actor_at.ensures w.in_ok-_new.ensures.followed w.follow.ensures.room w.follow.ensures.client
+        c.args.number c.args.set c.loop-k.k w.actor_at-actor.result c.loop-k.invariant.following w.in_ok-new.ensures.on w.actor_at-actor.ensures w.in_ok-new.ensures.followed w.follow.ensures.room w.follow.ensures.client
         w.store-is (ap (λ (v : Vec Origin Global). v.items) w.origins-is);
-    good = subst (λ (s : Sheet). AllGood c.args.checked.now.client s.states) (sym w.store-is) w.in_ok-_new.ensures.good;
+    good = subst (λ (s : Sheet). AllGood c.args.checked.now.client s.states) (sym w.store-is) w.in_ok-new.ensures.good;
   }
   | else-has_bit w ↦ record {
     following = following_past c.args.checked.now.client c.args.limit c.args.store.now c.loop-k.store c.if-has_bit.store c.loop-k.origins.items c.if-has_bit.origins.items

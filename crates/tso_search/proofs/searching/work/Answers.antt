@@ -1,5 +1,5 @@
 use Rattle.std.proofs.Common.{sym}
-use Rattle.tso_search.proofs.SearchLemmas.{on_both, on_ok, searched_moves, still_there}
+use Rattle.tso_search.proofs.SearchLemmas.{on_both, on_ok, searched_moves}
 use Rattle.tso_search.proofs.searching.work.Goals as goal
 
 pub chosen-set-requires : goal.chosen-set-requires
@@ -11,7 +11,5 @@ returns-clause-searched c =
     (λ on followed. searched_moves c.args.checked.now.client c.args.table.now c.args.limit c.args.store.now.states c.follow_all.new.store.states c.args.origins.now.items c.follow_all.new.origins.items c.args.number
     c.chosen-set.result c.in-Some.view c.requires.searched c.requires.good on (sym c.in-Some.ensures.state) c.chosen-set.ensures followed)
 
-pub returns-clause-more : goal.returns-clause-more
-returns-clause-more c =
-    on_ok c.follow_all.result c.follow_all.ensures.on
-    (λ on. still_there c.args.store.now.states c.follow_all.new.store.states c.args.number c.in-Some.view on.stays c.requires.from)
+pub returns-clause-stays : goal.returns-clause-stays
+returns-clause-stays c = on_ok c.follow_all.result c.follow_all.ensures.on (λ on. on.stays)

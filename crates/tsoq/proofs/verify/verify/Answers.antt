@@ -1,27 +1,23 @@
-use Rattle.tso_cert.specs.Trees.{tree_of}
-use Rattle.tsoq.proofs.ReportLemmas.{all_good, as_searched, asked_certified, asked_violated, filed_certificate, filed_trace, one_errs, told_certified, told_of}
+use Rattle.tsoq.proofs.ReportLemmas.{all_good, asked_certified, asked_violated, filed_certificate, filed_trace, one_errs, told_certified, told_of}
 use Rattle.tsoq.proofs.verify.verify.Goals as goal
 
-pub certified_last-requires-clause-writable : goal.certified_last-requires-clause-writable
-certified_last-requires-clause-writable g c = as_searched c.in_ok-checked.checked.client _ c.in-Certificate.table (tree_of c.in-Certificate.cert) c.in-Certificate.ensures
+pub returns-in-Worked-clause-report : goal.returns-in-Worked-clause-report
+returns-in-Worked-clause-report g c =
+    let good = c.in_ok-made-in-Worked.ensures.good in
+    all_good c.args.program.now c.in_ok-checked.checked.client good.limit good.table good.tree c.in_ok-made-in-Worked.made.report c.in_ok-checked.ensures.denoted good.good good.records
 
-pub returns-in-Certificate-clause-report : goal.returns-in-Certificate-clause-report
-returns-in-Certificate-clause-report g c =
-    all_good c.args.program.now c.in_ok-checked.checked.client _ c.in-Certificate.table (tree_of c.in-Certificate.cert) c.in_ok-made-in-Certificate.made.report c.in_ok-checked.ensures.denoted
-    c.in-Certificate.ensures c.in_ok-made-in-Certificate.ensures.records
+pub returns-in-Worked-clause-trace : goal.returns-in-Worked-clause-trace
+returns-in-Worked-clause-trace g c = told_certified c.in_ok-made-in-Worked.made.report _ c.in_ok-made-in-Worked.ensures.good.records
 
-pub returns-in-Certificate-clause-trace : goal.returns-in-Certificate-clause-trace
-returns-in-Certificate-clause-trace g c = told_certified c.in_ok-made-in-Certificate.made.report _ c.in_ok-made-in-Certificate.ensures.records
+pub returns-in-Worked-clause-file : goal.returns-in-Worked-clause-file
+returns-in-Worked-clause-file g c =
+    let good = c.in_ok-made-in-Worked.ensures.good in
+    filed_certificate c.args.search.now.form c.args.program.now c.in_ok-checked.checked.client _ good.tree c.in_ok-made-in-Worked.made.report c.in_ok-made-in-Worked.made.taken
+    c.in_ok-checked.ensures.denoted good.records good.taken
 
-pub returns-in-Certificate-clause-file : goal.returns-in-Certificate-clause-file
-returns-in-Certificate-clause-file g c =
-    filed_certificate c.args.search.now.form c.args.program.now c.in_ok-checked.checked.client _ (tree_of c.in-Certificate.cert) c.in_ok-made-in-Certificate.made.report
-    c.in_ok-made-in-Certificate.made.taken c.in_ok-checked.ensures.denoted c.in_ok-made-in-Certificate.ensures.records c.in_ok-made-in-Certificate.ensures.taken
-
-pub returns-in-Certificate-clause-asked : goal.returns-in-Certificate-clause-asked
-returns-in-Certificate-clause-asked g c =
-    asked_certified _ _ _ c.in_ok-made-in-Certificate.made.report c.in_ok-made-in-Certificate.made.taken c.in_ok-made-in-Certificate.ensures.records
-    c.in_ok-made-in-Certificate.ensures.asked
+pub returns-in-Worked-clause-asked : goal.returns-in-Worked-clause-asked
+returns-in-Worked-clause-asked g c =
+    asked_certified _ _ _ c.in_ok-made-in-Worked.made.report c.in_ok-made-in-Worked.made.taken c.in_ok-made-in-Worked.ensures.good.records c.in_ok-made-in-Worked.ensures.asked
 
 pub returns-in-Trace-clause-report : goal.returns-in-Trace-clause-report
 returns-in-Trace-clause-report g c =

@@ -1,0 +1,65 @@
+use Rattle.std.proofs.Common.{◌/◌, arith, length, refl, rules}
+use Rattle.tso_explore.proofs.CuttingLemmas.{first_high, numbers_high, numbers_low, rising_high, rising_low}
+use Rattle.tso_explore.proofs.SpellingLemmas.{fork_behind}
+use Rattle.tso_explore.proofs.TaskLemmas.{cut_in_two}
+use Rattle.tso_explore.specs.Tasks.{CanBeCut, uncut}
+use Rattle.tso_explore.proofs.spelling.+put_tree.Goals as goal
+
+pub put_tree-requires : goal.put_tree-requires
+put_tree-requires t c =
+    let states = c.args.store.now.states in
+    let ns = c.args.numbers.now in
+    let low = c.split_at.result.0.now in (
+      search rules,
+      (
+        c.requires.searched,
+        (
+          c.requires.closed,
+          (
+            c.requires.same,
+            (
+              numbers_low states ns low (length ns / 2) c.split_at.ensures.front c.requires.numbers,
+              rising_low states ns low (length ns / 2) c.split_at.ensures.front c.requires.rising,
+            ),
+          ),
+        ),
+      ),
+    )
+
+pub put_state-requires : goal.put_state-requires
+put_state-requires t c =
+    first_high c.args.store.now.states c.args.numbers.now c.split_at.result.1.now (length c.args.numbers.now / 2) c.split_at.ensures.back (omega arith) refl c.requires.numbers
+
+pub put_tree-requires-2 : goal.put_tree-requires-2
+put_tree-requires-2 t c =
+    let states = c.args.store.now.states in
+    let ns = c.args.numbers.now in
+    let high = c.split_at.result.1.now in (
+      search rules,
+      (
+        c.requires.searched,
+        (
+          c.requires.closed,
+          (
+            c.requires.same,
+            (
+              numbers_high states ns high (length ns / 2) c.split_at.ensures.back c.requires.numbers,
+              rising_high states ns high (length ns / 2) c.split_at.ensures.back c.requires.rising,
+            ),
+          ),
+        ),
+      ),
+    )
+
+pub returns : goal.returns
+returns t c =
+    let client = c.args.checked.now.client in
+    let table = c.args.table.now in
+    let states = c.args.store.now.states in
+    let ns = c.args.numbers.now in
+    let low = c.split_at.result.0.now in
+    let high = c.split_at.result.1.now in
+    let ready : CanBeCut (uncut client table states ns) = record { searched = c.requires.searched; closed = c.requires.closed; numbers = c.requires.numbers; rising = c.requires.rising } in
+    let cut = cut_in_two client table states ns low high (omega arith) c.split_at.ensures.front c.split_at.ensures.back ready in
+    fork_behind (uncut client table states ns) (uncut client table states low) (uncut client table states high) c.args.out.now.items c.push.new.self.items c.put_tree.new.out.items c.put_state.new.out.items c.put_tree-2.new.out.items
+    ready cut.0 c.in_ok-push.ensures.items c.in_ok-put_tree.ensures c.in_ok-put_state.ensures c.in_ok-put_tree-2.ensures

@@ -1,0 +1,81 @@
+-- Worked states that are spelled as the records of a tree, before there is one. Nothing here need be believed but for the fronts.
+use Rattle.std.specs.Io.KnownBytes.{Appends}
+use Rattle.std.specs.List.{flat_map}
+use Rattle.std.specs.Prelude.{◌≡◌, ◌<◌, ℕ, List, [], ◌∷◌, ◌++◌, get_or, length, Option, Some, slice_get, take}
+use Rattle.tso_cert.specs.Trees.{Tree, spelling_of}
+use Rattle.tso_code.specs.States.{state}
+use Rattle.tso_explore.specs.Cutting.{AreRecordsOf}
+use Rattle.tso_explore.specs.Tasks.{AreHalvesCut, CanBeCut, IsCutOf, Numbered}
+use Rattle.tso_list.specs.Beginnings.{AppendsBeginning}
+use Rattle.tso_rec.specs.Spelling.{a_record}
+use Rattle.tso_rec.specs.declared.record.Record.{Record}
+use Rattle.tso_state.specs.declared.state.State.{State}
+
+-- ---- fronts
+
+-- The beginning of the spelling of a tree that is cut of states, as far as it was made: nothing, a whole tree, or a fork whose left half
+-- begins so, or whose left half is whole and whose right half begins so.
+pub data IsFront : Numbered → List ℕ → Type 0 where
+  Nothing : (u : Numbered) → IsFront u []
+  Whole : (u : Numbered) (tree : Tree) → IsCutOf u tree → IsFront u (spelling_of tree)
+  InLeft : (u left right : Numbered) (front : List ℕ) → AreHalvesCut u left right → IsFront left front → IsFront u (1 ∷ front)
+  InRight : (u left right : Numbered) (tree : Tree) (s : State) (front : List ℕ) → AreHalvesCut u left right → IsCutOf left tree
+      → slice_get u.states (get_or right.numbers 0 0) ≡ Some s → IsFront right front → IsFront u (1 ∷ (spelling_of tree ++ (state s ++ front)))
+
+-- ---- bytes
+
+-- the spelling of a tree that is cut of these states stands behind bytes
+pub record IsSpelledBehind (u : Numbered) (old new : List ℕ) : Type 0 where
+  pub tree : Tree
+  pub cut : IsCutOf u tree
+  pub spelled : new ≡ old ++ spelling_of tree
+
+-- these bytes are such a spelling
+pub record IsSpelledCut (u : Numbered) (bytes : List ℕ) : Type 0 where
+  pub tree : Tree
+  pub cut : IsCutOf u tree
+  pub spelled : bytes ≡ spelling_of tree
+
+-- the spelling of the state with this number stands behind bytes
+pub record IsStateBehind (states : List State) (n : ℕ) (old new : List ℕ) : Type 0 where
+  pub spelled : State
+  pub at : slice_get states n ≡ Some spelled
+  pub is : new ≡ old ++ state spelled
+
+-- the bytes of a fork: those of its halves, and between them the spelling of the state with this number
+pub record IsForkSpelled (states : List State) (n : ℕ) (left right bytes : List ℕ) : Type 0 where
+  pub middle : State
+  pub at : slice_get states n ≡ Some middle
+  pub is : bytes ≡ 1 ∷ (left ++ (state middle ++ right))
+
+-- the spellings of the records of the first k of these states stand behind bytes
+pub record AreSpelledBehind (u : Numbered) (k : ℕ) (old new : List ℕ) : Type 0 where
+  pub records : List Record
+  pub are : AreRecordsOf u.client u.table u.states (take k u.numbers) records
+  pub is : new ≡ old ++ flat_map a_record records
+
+-- ---- writers
+
+-- known bytes grow by the spelling of a tree that is cut of these states
+pub record IsPut (u : Numbered) (old new : Option (List ℕ)) : Type 0 where
+  pub tree : Tree
+  pub cut : IsCutOf u tree
+  pub appended : Appends old new (spelling_of tree)
+
+-- they grow by a beginning of one, as far as it was made
+pub record IsPutInPart (u : Numbered) (old new : Option (List ℕ)) : Type 0 where
+  pub front : List ℕ
+  pub begun : IsFront u front
+  pub appended : AppendsBeginning old new front
+
+-- ---- recorders
+
+-- some recorders, each of these states
+pub record AreRecorders (states : List State) (recorders : List (List State)) : Type 0 where
+  pub some : 0 < length recorders
+  pub same : (k : ℕ) (r : List State) → slice_get recorders k ≡ Some r → r ≡ states
+
+-- states that can be cut, and some recorders of them
+pub record CanBeSpelled (u : Numbered) (all : List (List State)) : Type 0 where
+  pub cut : CanBeCut u
+  pub recorders : AreRecorders u.states all

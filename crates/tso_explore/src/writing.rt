@@ -1,0 +1,159 @@
+//! Worked states that are written as a certificate, before there is a tree of their records.
+
+ghost use Rattle.std.specs.Io.KnownBytes.{Appends};
+ghost use Rattle.std.specs.Prelude.{◌≡◌, ◌++◌, IfOk, OnErr, OnOk};
+ghost use Rattle.tso_cert.specs.Certificates.{magic};
+ghost use Rattle.tso_code.specs.Tables.{table as spelled_table};
+ghost use Rattle.tso_explore.specs.Spelling.{CanBeSpelled, IsPut, IsPutInPart};
+ghost use Rattle.tso_explore.specs.Tasks.{uncut};
+ghost use Rattle.tso_explore.specs.Unspelled.{numbers_of};
+ghost use Rattle.tso_explore.specs.Worked.{AreWorkedOut, IsWritten, IsWrittenInPart};
+ghost use Rattle.tso_list.specs.Beginnings.{AppendsBeginning};
+
+use crate::recording::recorders_by;
+use crate::spelling::{Unspelled, spelled_by};
+use crate::worked::Worked;
+use std::alloc::{AllocError, Global};
+use std::io::Write;
+use std::thread::Threads;
+use tso_cert::{Workers, WriteError};
+use tso_code::Code;
+use tso_flow::Checked;
+use tso_foot::Table;
+use tso_list::write_bytes;
+use tso_range::certificates_fit;
+
+const MAGIC: [u8; 4] = [84, 83, 79, 67];
+
+// As many records one thread spells before they are written: some 64 KiB.
+const SLAB: usize = 1024;
+
+// As many several threads do.
+const SHARED_SLAB: usize = 65_536;
+
+// The front of a certificate, before its tree.
+fn front_of(alloc: Global, table: &Table) -> Result<Vec<u8>, AllocError>
+    ensures { IfOk result (λ front. front.items ≡ magic ++ spelled_table table.now) }
+{
+    let mut front = Vec::from_slice(alloc, &MAGIC)?;
+    table.write(&mut front)?;
+    Ok(front)
+}
+
+// Writes these bytes.
+fn put_bytes<W: Write>(bytes: &[u8], out: &mut W) -> Result<(), WriteError>
+    ensures ok { OnOk result (Appends (W.contents out.old) (W.contents out.new) bytes.now) }
+    ensures err { OnErr result (AppendsBeginning (W.contents out.old) (W.contents out.new) bytes.now) }
+{
+    match write_bytes(out, bytes) {
+        Ok(()) => Ok(()),
+        Err(error) => Err(WriteError::Io(error)),
+    }
+}
+
+// Writes the tree of these states at once.
+fn put_slab<R: Threads + Sync, W: Write>(
+    rt: &R,
+    whole: &Unspelled<'_>,
+    out: &mut W,
+) -> Result<(), WriteError>
+    requires ready { CanBeSpelled (numbers_of whole.now) whole.now.recorders.now }
+    ensures ok { OnOk result (IsPut (numbers_of whole.now) (W.contents out.old) (W.contents out.new)) }
+    ensures err { OnErr result (IsPutInPart (numbers_of whole.now) (W.contents out.old) (W.contents out.new)) }
+{
+    let bytes = spelled_by(rt, whole)?;
+    put_bytes(bytes.as_slice(), out)?;
+    Ok(())
+}
+
+// Writes the tree of these states: what is halved no more at once, and of the others a fork and its halves one after the other.
+fn put_slabs<R: Threads + Sync, W: Write>(
+    rt: &R,
+    whole: &Unspelled<'_>,
+    halvings: u32,
+    out: &mut W,
+) -> Result<(), WriteError>
+    requires ready { CanBeSpelled (numbers_of whole.now) whole.now.recorders.now }
+    ensures ok { OnOk result (IsPut (numbers_of whole.now) (W.contents out.old) (W.contents out.new)) }
+    ensures err { OnErr result (IsPutInPart (numbers_of whole.now) (W.contents out.old) (W.contents out.new)) }
+{
+    if halvings == 0 {
+        put_slab(rt, whole, out)?;
+        return Ok(());
+    }
+    let Some((left, right)) = whole.in_turn() else {
+        put_slab(rt, whole, out)?;
+        return Ok(());
+    };
+    put_bytes(&[1], out)?;
+    put_slabs(rt, &left, halvings - 1, out)?;
+    let middle = right.first()?;
+    put_bytes(middle.as_slice(), out)?;
+    put_slabs(rt, &right, halvings - 1, out)?;
+    Ok(())
+}
+
+// How often so many records are halved before they are written.
+fn halvings_of(count: usize, workers: Workers) -> u32 {
+    let slabs = if workers.count() < 2 {
+        count / SLAB
+    } else {
+        count / SHARED_SLAB
+    };
+    64u32.saturating_sub(slabs.leading_zeros())
+}
+
+// Writes the tree of worked states behind the front of a certificate.
+fn put_worked<R: Threads + Sync, W: Write>(
+    rt: &R,
+    alloc: Global,
+    checked: &Checked,
+    worked: &Worked<'_>,
+    workers: Workers,
+    out: &mut W,
+) -> Result<(), WriteError>
+    requires worked { AreWorkedOut checked.now.client worked.now }
+    ensures ok { OnOk result (IsPut (uncut checked.now.client worked.now.table worked.now.store.states worked.now.numbers.items) (W.contents out.old) (W.contents out.new)) }
+    ensures err { OnErr result (IsPutInPart (uncut checked.now.client worked.now.table worked.now.store.states worked.now.numbers.items) (W.contents out.old) (W.contents out.new)) }
+{
+    worked.store.states_differ();
+    let recorders = recorders_by(rt, alloc, &worked.store, workers.count())?;
+    let whole = Unspelled {
+        alloc,
+        checked,
+        table: &worked.table,
+        store: &worked.store,
+        recorders: recorders.as_slice(),
+        numbers: worked.numbers.as_slice(),
+    };
+    let halvings = halvings_of(worked.numbers.len(), workers);
+    put_slabs(rt, &whole, halvings, out)?;
+    Ok(())
+}
+
+/// Writes worked states as a certificate with this table, by so many workers: what goes out is what `tso_cert::encode` spells of
+/// the table and of a tree of the states' records. It takes memory for the bytes of some 1,000 records where there is one worker,
+/// else of some 65,000.
+///
+/// Errors: `Io` where a write fails, and `Memory`; a beginning of such bytes has gone out then, perhaps none of them, and nothing
+/// else.
+pub fn write<R: Threads + Sync, W: Write>(
+    rt: &R,
+    alloc: Global,
+    checked: &Checked,
+    worked: &Worked<'_>,
+    table: &Table,
+    workers: Workers,
+    out: &mut W,
+) -> Result<(), WriteError>
+    requires worked { AreWorkedOut checked.now.client worked.now }
+    ensures ok { OnOk result (IsWritten checked.now.client worked.now table.now (W.contents out.old) (W.contents out.new)) }
+    ensures err { OnErr result (IsWrittenInPart checked.now.client worked.now table.now (W.contents out.old) (W.contents out.new)) }
+{
+    worked.store.states_differ();
+    certificates_fit(checked);
+    let front = front_of(alloc, table)?;
+    put_bytes(front.as_slice(), out)?;
+    put_worked(rt, alloc, checked, worked, workers, out)?;
+    Ok(())
+}

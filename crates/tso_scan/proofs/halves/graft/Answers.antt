@@ -1,0 +1,18 @@
+use Rattle.std.proofs.Common.{refl}
+use Rattle.tso_scan.proofs.halves.graft.Goals as goal
+
+pub returns : goal.returns
+returns c =
+    let end = c.in-Some.ensures in
+    record {
+      end = c.in-Some.end.now;
+      ends = end.0;
+      long = end.1;
+      middle = c.in-Some-2.middle;
+      reads = rw c.in-Some-2.is at c.in_ok-middle.ensures;
+      meets = c.if-middle-right.false;
+      fits = c.in-Some-room_behind.ensures;
+      taken = c.in_ok-take_in.ensures c.if-not-branch.false;
+      same_ends = refl;
+      same_shape = refl;
+    }

@@ -1,0 +1,8 @@
+use Rattle.tso_scan.proofs.TreeLemmas.{certificate_scanned, if_ok_some}
+use Rattle.tso_scan.proofs.scanned.scan.Goals as goal
+use Rattle.tso_scan.specs.Scanned.{IsScanned, IsScannedBehind}
+
+pub returns-in-Ok : goal.returns-in-Ok
+returns-in-Ok c =
+    let client = c.args.checked.now.client in
+    if_ok_some (IsScannedBehind client c.in-Ok.table c.in-Ok.rest.now) (IsScanned client c.args.bytes.now) c.scan_tree.result (λ s. certificate_scanned client c.args.bytes.now c.in-Ok.rest.now c.in-Ok.table s c.in-Ok.ensures) c.scan_tree.ensures

@@ -1,0 +1,5 @@
+use Rattle.tsoq.proofs.ReportLemmas.{own_table, spelled_from}
+use Rattle.tsoq.proofs.verify.worked_searched.Goals as goal
+
+pub returns : goal.returns
+returns g c = spelled_from _ c.args.checked.now.client c.args.worked.now _ _ (own_table c.args.checked.now.client c.args.worked.now) c.in_ok-taken.ensures
