@@ -14,7 +14,8 @@ use tso_foot::Table;
 use tso_rec::{Known, Packed};
 use tso_state::State;
 
-pub(crate) const MAGIC: [u8; 4] = [84, 83, 79, 67];
+/// The first bytes of a certificate.
+pub const MAGIC: [u8; 4] = [84, 83, 79, 67];
 
 const RECORDS: u32 = 4_194_304;
 

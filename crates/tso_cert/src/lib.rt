@@ -7,11 +7,13 @@ mod encoding;
 mod fault;
 mod intervals;
 mod lookup;
+mod task;
 mod workers;
 
 pub use cert::Cert;
-pub use decoding::{decode, read_table, read_tree};
+pub use decoding::{MAGIC, decode, read_table, read_tree};
 pub use encoding::{encode, encode_before, write};
 pub use fault::{DecodeError, Fault, WriteError};
 pub use intervals::{build_intervals, intervals_of, take_state};
+pub use task::{ALONE, Task, run_by};
 pub use workers::{NoWatch, Watch, Workers};

@@ -40,7 +40,7 @@ use Rattle.tso_judge.specs.Conditions.{HaveReasons}
 use Rattle.tso_judge.specs.Valid.{IsValidCertificate, IsValidRecord, IsValidTree}
 use Rattle.tso_judge.specs.declared.code.Code.{Code}
 use Rattle.tso_prog.specs.declared.client.Client.{Client}
-use Rattle.tso_range.proofs.Tables.{table_fits}
+use Rattle.tso_judge.proofs.Tables.{table_fits}
 use Rattle.tso_rec.specs.declared.record.End.{End}
 use Rattle.tso_rec.specs.declared.record.End.TheVariants.{Choices, Order}
 use Rattle.tso_rec.specs.declared.record.Record.{Record}

@@ -9,11 +9,8 @@ ghost use Rattle.tso_store.specs.Orders.{IsOrderOf};
 use crate::numbered::is_below;
 use std::alloc::AllocError;
 use std::thread::Threads;
-use tso_scan::{Task, run_by};
+use tso_cert::{ALONE, Task, run_by};
 use tso_store::Store;
-
-// So few states one thread takes sooner alone.
-const ALONE: u32 = 4096;
 
 // Whether a state is above the one before.
 fn is_above(store: &Store<'_>, number: u32) -> bool
@@ -48,6 +45,8 @@ impl<'a> Task for Neighbours<'a> {
 
     type Output = bool;
 
+    ghost is_ready = { λ p. Unit {0} };
+
     ghost is_output = { λ p rises. IsTrue rises ↔ RisesBetween p.store.now.states p.from p.to };
 
     ghost are_halves = { λ p left right. AreHalved (stairs_of p.store.now.states p.from p.to) (stairs_of left.store.now.states left.from left.to) (stairs_of right.store.now.states right.from right.to) };
@@ -61,7 +60,7 @@ impl<'a> Task for Neighbours<'a> {
             return None;
         }
         let count = self.to - self.from;
-        if count <= ALONE {
+        if count as usize <= ALONE {
             return None;
         }
         let middle = self.from + count / 2;

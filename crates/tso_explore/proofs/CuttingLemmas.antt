@@ -36,7 +36,7 @@ use Rattle.tso_judge.specs.Judging.{AreMet}
 use Rattle.tso_judge.specs.Valid.{AreValidRecords, HasInitial, IsValidTree}
 use Rattle.tso_parts.specs.Numbers.{IsNumbered}
 use Rattle.tso_prog.specs.declared.client.Client.{Client}
-use Rattle.tso_range.specs.Certified.{CertificatesFit, ForksAreFirsts, IsReachedRecord}
+use Rattle.tso_judge.specs.Certified.{CertificatesFit, ForksAreFirsts, IsReachedRecord}
 use Rattle.tso_rec.proofs.KeptLemmas.{same_state}
 use Rattle.tso_rec.specs.Keeping.{record_of}
 use Rattle.tso_rec.specs.Records.{states_of}

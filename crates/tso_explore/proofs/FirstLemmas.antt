@@ -1,5 +1,5 @@
 -- What the first states of a search tell.
-use Rattle.std.proofs.Common.{◌≡◌, ◌∙◌, ℕ, zero, suc, ◌<◌, ◌≤◌, ◌⊎◌, inl, inr, Bool, true, false, List, [], ◌∷◌, length, Some, slice_get, refl, sym, ap, subst, arith}
+use Rattle.std.proofs.Common.{◌≡◌, ◌∙◌, ℕ, zero, suc, ◌<◌, ◌≤◌, Bool, true, false, List, [], ◌∷◌, length, Some, slice_get, refl, sym, ap, subst, arith}
 use Rattle.std.specs.Prelude.{Err, IfOk, MatchBool, Ok, Result}
 use Rattle.std.proofs.lemmas.Option.{none-some, same_Some}
 use Rattle.tso_search.proofs.SearchLemmas.{begun_first, done_none, longer, searched_stays}
@@ -66,7 +66,7 @@ paused_on c t limit old new origins origins' marks marks' number paused same hun
 -- what is found is what the first states tell
 pub first_found_as : {E : Type 0} (c : Client) (limit : ℕ) (t : Table) (store : Sheet) (origins : List Origin) (marks : List Bool) (r : Result First E) → IfOk r (IsFound c limit)
     → IfOk r (IsFirstOf c limit t store origins marks)
-first_found_as c limit t store origins marks (Ok (firsts.Found outcome)) is = is
+first_found_as c limit t store origins marks (Ok (firsts.Stopped why)) is = is
 first_found_as c limit t store origins marks (Ok (firsts.GoesOn number)) is = absurd is
 first_found_as c limit t store origins marks (Err e) is = tt
 
@@ -76,11 +76,6 @@ begun_none c states origins started none = subst (IsBegun c states) (sym none) (
 pub trace_of_shorter : {E : Type 0} (c : Client) (long : Trace) (r : Result Trace E) → IfOk r (IsShorter c long) → IfOk r (IsTraceOf c)
 trace_of_shorter c long (Ok t) is = is.trace
 trace_of_shorter c long (Err e) is = tt
-
--- a search that is over
-pub over_at : (length number pause limit : ℕ) → (length ≤ number) ⊎ (pause < length) → number ≤ length → length ≤ limit → limit ≤ pause → number ≡ length
-over_at length number pause limit (inl all) low few small = omega (arith, all, low)
-over_at length number pause limit (inr more) low few small = absurd (omega (arith, more, few, small))
 
 pub when_true : (b : Bool) (P Q : Type 0) → MatchBool b P Q → b ≡ true → P
 when_true true P Q is e = is

@@ -18,7 +18,7 @@ use Rattle.tso_list.proofs.BeginningLemmas.{beginning_behind, beginning_of_none,
 use Rattle.tso_list.specs.Beginnings.{AppendsBeginning}
 use Rattle.tso_parts.specs.Numbers.{IsNumbered}
 use Rattle.tso_prog.specs.declared.client.Client.{Client}
-use Rattle.tso_range.specs.Certified.{CertificatesFit}
+use Rattle.tso_judge.specs.Certified.{CertificatesFit}
 use Rattle.tso_state.specs.declared.state.State.{State}
 
 -- ---- at once

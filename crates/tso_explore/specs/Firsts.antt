@@ -22,10 +22,10 @@ pub record IsPaused (c : Client) (limit : ℕ) (t : Table) (store : Sheet) (orig
 
 -- why the search stopped, or that it goes on
 abbrev pub IsFirstOf : Client → ℕ → Table → Sheet → List Origin → List Bool → First → Type 0
-IsFirstOf c limit t store origins marks (firsts.Found outcome) = IsStopped c limit outcome
+IsFirstOf c limit t store origins marks (firsts.Stopped why) = IsStopped c limit why
 IsFirstOf c limit t store origins marks (firsts.GoesOn number) = IsPaused c limit t store origins marks number
 
 -- why it stopped
 abbrev pub IsFound : Client → ℕ → First → Type 0
-IsFound c limit (firsts.Found outcome) = IsStopped c limit outcome
+IsFound c limit (firsts.Stopped why) = IsStopped c limit why
 IsFound c limit (firsts.GoesOn number) = ⊥

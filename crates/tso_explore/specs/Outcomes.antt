@@ -4,6 +4,8 @@ use Rattle.tso_cert.specs.Certificates.{Fits, certificate}
 use Rattle.tso_cert.specs.Trees.{IsWithinLimits, Tree, record_count, tree_of}
 use Rattle.tso_explore.specs.Cutting.{IsHalved}
 use Rattle.tso_search.specs.Searched.{HasMore}
+use Rattle.tso_explore.specs.declared.ended.Stopped.{Stopped}
+use Rattle.tso_explore.specs.declared.ended.Stopped.TheVariants as stops
 use Rattle.tso_explore.specs.declared.outcome.Outcome.{Outcome}
 use Rattle.tso_explore.specs.declared.outcome.Outcome.TheVariants as found
 use Rattle.tso_foot.specs.Closed.{IsLeastClosed}
@@ -31,8 +33,6 @@ IsOutcome c limit found.LimitReached = HasMore c limit
 IsOutcome c limit found.NoMemory = Unit {0}
 
 -- why a search stopped early: the trace of an error of this client, or that more states can be reached than the limit allows
-abbrev pub IsStopped : Client → ℕ → Outcome → Type 0
-IsStopped c limit (found.Certificate t cert) = ⊥
-IsStopped c limit (found.Trace trace) = (trace.checked.client ≡ c) × ∥ IsErrorTrace c trace.labels ∥₁
-IsStopped c limit found.LimitReached = HasMore c limit
-IsStopped c limit found.NoMemory = ⊥
+abbrev pub IsStopped : Client → ℕ → Stopped → Type 0
+IsStopped c limit (stops.Trace trace) = (trace.checked.client ≡ c) × ∥ IsErrorTrace c trace.labels ∥₁
+IsStopped c limit stops.LimitReached = HasMore c limit

@@ -28,7 +28,7 @@ use Rattle.tso_trace.specs.Runs.{IsErrorTrace}
 -- all states of the store are worked, and there are no more of them than the limit allows; or this is why the search stopped early
 abbrev pub IsEnded : Client → ℕ → Table → Sheet → Ended → Type 0
 IsEnded c limit t store endings.Worked = AreSearched c t store.states × (length store.states ≤ limit)
-IsEnded c limit t store (endings.Stopped outcome) = IsStopped c limit outcome
+IsEnded c limit t store (endings.Early why) = IsStopped c limit why
 
 -- the states are worked by the least closed table, and the numbers are those of all of them, in the order of the states
 pub record AreWorkedOut (c : Client) (w : Worked) : Type 0 where

@@ -3,9 +3,9 @@
 ghost use Rattle.std.specs.Prelude.{◌≡◌, ◌<◌, ◌≤◌, IfOk, IsTrue, length, true};
 ghost use Rattle.tso_search.specs.Searched.{AreFollowed, AreSearched, AreWorkedBetween, HasBegun, IsFollowed, IsGoodAt, IsWorkedAt};
 
-use crate::tasks::{ALONE, Task, run_by};
 use std::alloc::{AllocError, Global};
 use std::thread::Threads;
+use tso_cert::{ALONE, Task, run_by};
 use tso_choose::{actor_at, chosen, has_bit};
 use tso_flow::Checked;
 use tso_foot::Table;

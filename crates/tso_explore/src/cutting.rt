@@ -9,11 +9,10 @@ ghost use Rattle.tso_rec.specs.Keeping as keeping;
 ghost use Rattle.tso_state.specs.WellFormed.{IsWellFormed};
 
 use crate::ends::share_end;
-use crate::tasks::{ALONE, Task, run_by};
 use std::alloc::{AllocError, Global};
 use std::boxed::Box;
 use std::thread::Threads;
-use tso_cert::Cert;
+use tso_cert::{ALONE, Cert, Task, run_by};
 use tso_choose::choose;
 use tso_fifo::linearize;
 use tso_flow::Checked;

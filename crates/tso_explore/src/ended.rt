@@ -1,6 +1,15 @@
 //! How the search of a store's states ended.
 
-use crate::outcome::Outcome;
+use tso_trace::Trace;
+
+/// Why a search stopped early.
+#[derive(Debug, Drop)]
+pub enum Stopped {
+    /// A run of the client is not good: its trace.
+    Trace(Trace),
+    /// More states can be reached than the limit allows.
+    LimitReached,
+}
 
 /// How the search of a store's states ended.
 #[derive(Debug, Drop)]
@@ -8,5 +17,5 @@ pub enum Ended {
     /// All of them are worked.
     Worked,
     /// It stopped early, for this.
-    Stopped(Outcome),
+    Early(Stopped),
 }

@@ -14,7 +14,7 @@ ghost use Rattle.tso_table.specs.Leading.{IsKept};
 
 use crate::closing::are_worked;
 use crate::cutting::cut_by;
-use crate::ended::Ended;
+use crate::ended::{Ended, Stopped};
 use crate::first::First;
 use crate::merging::{add_met, merged};
 use crate::outcome::Outcome;
@@ -26,9 +26,9 @@ use std::thread::Threads;
 use tso_cert::{Cert, NoWatch, Watch, Workers};
 use tso_flow::Checked;
 use tso_foot::{Table, build};
+use tso_judge::certificates_fit;
 use tso_machine::thread_count;
 use tso_pool::{Ending, search as search_together};
-use tso_range::certificates_fit;
 use tso_search::{Judged, Marks, Origin, Stop, Way, hunt, is_good, search, shortened, trace_to};
 use tso_state::initial_state;
 use tso_store::{AddError, Store};
@@ -152,7 +152,7 @@ fn shorter(one: Trace, other: Option<Trace>) -> Trace
     }
 }
 
-// What is found where a search stops. A violation is hunted by depth too, where that is asked for.
+// Why a search stopped, where it stops so. A violation is hunted by depth too, where that is asked for.
 fn stopped(
     alloc: Global,
     checked: &Checked,
@@ -162,7 +162,7 @@ fn stopped(
     limit: u32,
     stop: Stop,
     hunts: bool,
-) -> Result<Outcome, AllocError>
+) -> Result<Stopped, AllocError>
     requires client { store.now.client ≡ checked.now.client }
     requires stop { IsStop checked.now.client limit store.now.states origins.now stop }
     ensures { IfOk result (IsStopped checked.now.client limit) }
@@ -171,17 +171,17 @@ fn stopped(
         Stop::Violation(number) => {
             let trace = short_trace(alloc, checked, store, origins, number)?;
             if !hunts {
-                return Ok(Outcome::Trace(trace));
+                return Ok(Stopped::Trace(trace));
             }
             let by_depth = hunted(alloc, checked, table)?;
-            Ok(Outcome::Trace(shorter(trace, by_depth)))
+            Ok(Stopped::Trace(shorter(trace, by_depth)))
         }
-        Stop::Limit => Ok(Outcome::LimitReached),
+        Stop::Limit => Ok(Stopped::LimitReached),
         Stop::Memory => Err(AllocError),
     }
 }
 
-// What is found where a search or a hunt stops, as what the first states tell.
+// The same of a search or a hunt, as what the first states tell.
 fn stopped_first(
     alloc: Global,
     checked: &Checked,
@@ -196,8 +196,8 @@ fn stopped_first(
     requires stop { IsStop checked.now.client limit store.now.states origins.now stop }
     ensures { IfOk result (IsFound checked.now.client limit) }
 {
-    let outcome = stopped(alloc, checked, table, store, origins, limit, stop, hunts)?;
-    Ok(First::Found(outcome))
+    let why = stopped(alloc, checked, table, store, origins, limit, stop, hunts)?;
+    Ok(First::Stopped(why))
 }
 
 // Where a search that has come to state `number` is not over, it goes on by a hunt by depth.
@@ -282,7 +282,7 @@ fn first_found<R: Wait, W: Watch>(
 {
     if !is_first_good(alloc, checked, store)? {
         let trace = short_trace(alloc, checked, store, origins.as_slice(), 0)?;
-        return Ok(First::Found(Outcome::Trace(trace)));
+        return Ok(First::Stopped(Stopped::Trace(trace)));
     }
     match search(
         rt, alloc, checked, table, store, origins, judged, marks, 0, FIRST, limit, watch,
@@ -337,8 +337,8 @@ fn found_behind<R: Wait, W: Watch>(
         Ok(_) => Ok(Ended::Worked),
         Err(stop) => {
             let slice = origins.as_slice();
-            let outcome = stopped(alloc, checked, table, store, slice, limit, stop, false)?;
-            Ok(Ended::Stopped(outcome))
+            let why = stopped(alloc, checked, table, store, slice, limit, stop, false)?;
+            Ok(Ended::Early(why))
         }
     }
 }
@@ -367,7 +367,7 @@ fn found_from<R: Wait, W: Watch>(
     match first_found(
         rt, alloc, checked, table, store, ways, noted, worked, limit, watch,
     )? {
-        First::Found(outcome) => Ok(Ended::Stopped(outcome)),
+        First::Stopped(why) => Ok(Ended::Early(why)),
         First::GoesOn(number) => found_behind(
             rt, alloc, checked, table, store, ways, noted, worked, number, limit, watch,
         ),
@@ -407,8 +407,8 @@ fn found_whole<R: Wait>(
         }
         Err(stop) => {
             let slice = origins.as_slice();
-            let outcome = stopped(alloc, checked, table, store, slice, limit, stop, false)?;
-            Ok(Some(Ended::Stopped(outcome)))
+            let why = stopped(alloc, checked, table, store, slice, limit, stop, false)?;
+            Ok(Some(Ended::Early(why)))
         }
     }
 }
@@ -436,7 +436,7 @@ fn found_soon<R: Wait>(
     match first_found(
         rt, alloc, checked, table, store, ways, noted, worked, limit, &NoWatch,
     )? {
-        First::Found(outcome) => Ok(Some(Ended::Stopped(outcome))),
+        First::Stopped(why) => Ok(Some(Ended::Early(why))),
         First::GoesOn(number) => found_whole(
             rt, alloc, checked, table, store, ways, noted, worked, number, limit,
         ),
@@ -517,15 +517,13 @@ fn worked_out<'c>(
 }
 
 // What a search found that stopped early.
-fn finding_for<'c>(checked: &'c Checked, outcome: Outcome, limit: u32) -> Finding<'c>
-    requires { IsStopped checked.now.client limit outcome }
+fn finding_for<'c>(checked: &'c Checked, why: Stopped, limit: u32) -> Finding<'c>
+    requires { IsStopped checked.now.client limit why }
     ensures { IsFinding checked.now.client limit result }
 {
-    match outcome {
-        Outcome::Certificate(_, _) => unreachable!(),
-        Outcome::Trace(trace) => Finding::Trace(trace),
-        Outcome::LimitReached => Finding::LimitReached,
-        Outcome::NoMemory => unreachable!(),
+    match why {
+        Stopped::Trace(trace) => Finding::Trace(trace),
+        Stopped::LimitReached => Finding::LimitReached,
     }
 }
 
@@ -546,7 +544,7 @@ fn finding_of<'c>(
 {
     match ended {
         Ended::Worked => worked_out(alloc, checked, table, store, limit),
-        Ended::Stopped(outcome) => Ok(finding_for(checked, outcome, limit)),
+        Ended::Early(why) => Ok(finding_for(checked, why, limit)),
     }
 }
 
@@ -595,7 +593,7 @@ fn over_with(
     store: &mut Store<'_>,
     kept: &Kept,
     limit: u32,
-) -> Result<Option<Outcome>, AllocError>
+) -> Result<Option<Stopped>, AllocError>
     requires client { store.old.client ≡ checked.now.client }
     requires begun { HasBegun checked.now.client store.old.states }
     ensures { IfOk result (λ found. IfSome found (IsStopped checked.now.client limit)) }
@@ -604,7 +602,7 @@ fn over_with(
         return Ok(None);
     };
     if is_over(checked, store, &reached, limit)? {
-        return Ok(Some(Outcome::LimitReached));
+        return Ok(Some(Stopped::LimitReached));
     }
     Ok(None)
 }
@@ -626,7 +624,7 @@ fn ended_by_all<R: Threads + Sync>(
 {
     if store.len() > limit as usize {
         store.states_differ();
-        return Ok(Some(Ended::Stopped(Outcome::LimitReached)));
+        return Ok(Some(Ended::Early(Stopped::LimitReached)));
     }
     if !are_worked(rt, alloc, checked, table, store, workers)? {
         return Ok(None);
@@ -653,11 +651,11 @@ fn found_together<R: Threads + Sync>(
     match ending {
         Ending::Quiet => ended_by_all(rt, alloc, checked, table, store, workers, limit),
         Ending::Violation(kept) => match trace_along(alloc, checked, &kept)? {
-            Some(trace) => Ok(Some(Ended::Stopped(Outcome::Trace(trace)))),
+            Some(trace) => Ok(Some(Ended::Early(Stopped::Trace(trace)))),
             None => Ok(None),
         },
         Ending::Full(kept) => match over_with(alloc, checked, store, &kept, limit)? {
-            Some(outcome) => Ok(Some(Ended::Stopped(outcome))),
+            Some(why) => Ok(Some(Ended::Early(why))),
             None => Ok(None),
         },
         Ending::Astray => Ok(None),

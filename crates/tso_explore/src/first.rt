@@ -1,12 +1,12 @@
 //! What the first states tell.
 
-use crate::outcome::Outcome;
+use crate::ended::Stopped;
 
 /// What the first states of a search tell, and hunts where it is not over then.
 #[derive(Debug, Drop)]
 pub enum First {
-    /// What is found.
-    Found(Outcome),
+    /// Why the search stopped.
+    Stopped(Stopped),
     /// The search goes on from the state with this number, if there is one.
     GoesOn(u32),
 }

@@ -13,7 +13,6 @@ mod outcome;
 mod recording;
 mod showing;
 mod spelling;
-mod tasks;
 mod worked;
 mod writing;
 

@@ -3,9 +3,9 @@
 ghost use Rattle.std.specs.Prelude.{IfOk};
 ghost use Rattle.tso_explore.specs.Spelling.{AreRecorders};
 
-use crate::tasks::{Task, run_by};
 use std::alloc::{AllocError, Global};
 use std::thread::Threads;
+use tso_cert::{Task, run_by};
 use tso_store::{Recorder, Store};
 
 // So many recorders of a store's states, and at least one.

@@ -9,9 +9,9 @@ ghost use Rattle.tso_foot.specs.Closed.{IsClosed};
 ghost use Rattle.tso_search.specs.Searched.{AreSearched};
 
 use crate::cutting::{LEAF, record_of, state_at};
-use crate::tasks::{ALONE, Task, run_by};
 use std::alloc::{AllocError, Global};
 use std::thread::Threads;
+use tso_cert::{ALONE, Task, run_by};
 use tso_code::{Code, write_number};
 use tso_flow::Checked;
 use tso_foot::Table;

@@ -16,14 +16,12 @@ use crate::worked::Worked;
 use std::alloc::{AllocError, Global};
 use std::io::Write;
 use std::thread::Threads;
-use tso_cert::{Workers, WriteError};
+use tso_cert::{MAGIC, Workers, WriteError};
 use tso_code::Code;
 use tso_flow::Checked;
 use tso_foot::Table;
+use tso_judge::certificates_fit;
 use tso_list::write_bytes;
-use tso_range::certificates_fit;
-
-const MAGIC: [u8; 4] = [84, 83, 79, 67];
 
 // As many records one thread spells before they are written: some 64 KiB.
 const SLAB: usize = 1024;

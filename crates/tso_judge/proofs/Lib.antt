@@ -3,3 +3,11 @@ pub mod JudgeLemmas
 pub mod OneFault
 pub mod ReasonLemmas
 pub mod SuccessorLemmas
+pub mod Lists
+pub mod Instructions
+pub mod Stepping
+pub mod Buffers
+pub mod Fitting
+pub mod EndNumbers
+pub mod Tables
+pub mod Trees

@@ -1,6 +1,6 @@
 -- Trees that are read by themselves, and forks of them.
-use Rattle.std.proofs.Common.{Box, Global, ◌≡◌, ◌∙◌, ℕ, zero, suc, ◌+◌, ◌-◌, ◌≤◌, List, [], ◌∷◌, ◌++◌, drop, length, Some, None, Ok, refl, sym, ap, append_assoc, arith, slice_get, subst, take}
-use Rattle.std.proofs.lemmas.List.{length-append, length-drop, length-map, map-append, nil_from_length, take-append-drop}
+use Rattle.std.proofs.Common.{Box, Global, ◌≡◌, ◌∙◌, ℕ, ◌+◌, ◌-◌, ◌≤◌, List, [], ◌∷◌, ◌++◌, drop, length, Some, Ok, refl, sym, ap, append_assoc, arith, slice_get, subst, take}
+use Rattle.std.proofs.lemmas.List.{length-append, length-drop, map-append, nil_from_length, take-append-drop}
 use Rattle.tso_cert.proofs.Opening.{opens_fork}
 use Rattle.tso_cert.proofs.TreeCode.{tree_again, tree_take}
 use Rattle.tso_cert.specs.Certificates.{fork_at, tree_at}
@@ -13,24 +13,17 @@ use Rattle.tso_prog.specs.declared.client.Client.{Client}
 use Rattle.tso_rec.specs.Records.{ends_of}
 use Rattle.tso_rec.specs.declared.record.End.{End}
 use Rattle.tso_rec.specs.declared.record.Record.{Record}
-use Rattle.tso_scan.proofs.MoveLemmas.{key_moved, kept_taken, states_taken}
-use Rattle.tso_scan.specs.Halves.{AreGrafted, AreHalvesOf, IsEnd, IsForkOf, IsForkShape, IsMiddle, IsPlace, IsStored, IsTreeRead, IsTwig, Stretch, half_of, stretch_of}
-use Rattle.tso_scan.specs.Moved.{moved_key}
-use Rattle.tso_scan.specs.Scanned.{IsLearned, IsScannedBehind, IsShapeOf, scanned_states}
-use Rattle.tso_scan.specs.Sources.{AreRows, parts_of}
+use Rattle.tso_scan.proofs.TreeLemmas.{first_behind}
+use Rattle.tso_scan.specs.Halves.{AreGrafted, AreHalvesOf, IsEnd, IsForkOf, IsForkShape, IsHalfOf, IsOfHalf, IsTreeRead, IsTwig, Stretch, stretch_of}
+use Rattle.tso_scan.specs.Scanned.{IsScannedBehind, IsShapeOf, scanned_states}
 use Rattle.tso_scan.specs.declared.halves.Half.{Half}
-use Rattle.tso_scan.specs.declared.halves.Place.{Place}
 use Rattle.tso_scan.specs.declared.halves.Twig.{Twig}
-use Rattle.tso_scan.specs.declared.rows.Row.{Row}
 use Rattle.tso_scan.specs.declared.scanned.Scanned.{Scanned}
 use Rattle.tso_scan.specs.declared.shape.Shape.{Shape}
 use Rattle.tso_scan.specs.declared.shape.Shape.TheViews.{Fork}
-use Rattle.tso_scan.specs.declared.sources.Sources.{Sources}
 use Rattle.tso_scan.specs.declared.states.Scan.{Scan}
 use Rattle.tso_state.specs.declared.state.State.{State}
-use Rattle.tso_store.proofs.Sheeted.{key_state, state_got}
-use Rattle.tso_store.specs.Keys.{AreKept, state_at as kept_state, states_at}
-use Rattle.tso_store.specs.declared.parts.Parts.{Parts}
+use Rattle.tso_store.specs.Sheets.{Sheet}
 
 -- ---- ends of bytes
 
@@ -52,36 +45,18 @@ same_ends bytes a b one two long = same_fronts one.front two.front a b long (sym
 
 -- ---- a tree that is read
 
-pub no_rows : (s : Sources) → s.rows ≡ [] → AreRows s.lists s.histories s.rows
-no_rows s none = let P : List Row → Type 0 = λ rs. AreRows s.lists s.histories rs in subst P (sym none) (record { each = λ n row at. absurd (let h : None ≡ Some row = at in cc) })
-
-pub half_read : (c : Client) (begun scan : Scan) (depth room : ℕ) (bytes : List ℕ) (t : Twig) (h : Half) → scanned_states begun ≡ [] → begun.ends ≡ [] → h ≡ half_of scan t → IsTwig c begun scan depth room bytes t → IsTreeRead (stretch_of c depth room bytes) h
-half_read c begun scan depth room bytes t h no_states no_ends same is =
-    let P : Half → Type 0 = IsTreeRead (stretch_of c depth room bytes) in
-    subst P (sym same) (record {
-      tree = is.is.tree;
-      rest = is.rest;
-      behind = is.behind;
-      reads = is.is.reads;
-      kept = is.is.more.scan.kept;
-      small = is.is.more.scan.small;
-      states = is.is.more.states ∙ ap (λ (l : List State). l ++ tree_states is.is.tree) no_states;
-      ends = is.is.more.ends ∙ ap (λ (l : List End). l ++ ends_of (records_of is.is.tree)) no_ends;
-      shape = is.is.shape;
-      forks = is.is.forks;
-    })
-
-pub middle_read : (c : Client) (old new : Sources) (bytes : List ℕ) (p : Place) (parts : Parts) → parts ≡ parts_of new → IsPlace c old new bytes p → IsMiddle bytes (record { parts = parts; key = p.key; behind = p.behind })
-middle_read c old new bytes p parts same is =
-    let P : Parts → Type 0 = λ q. IsMiddle bytes (record { parts = q; key = p.key; behind = p.behind }) in
-    subst P (sym same) (record {
-      state = is.reads.state;
-      rest = is.rest;
-      behind = is.behind;
-      reads = is.reads.reads;
-      key = is.reads.key;
-      few = is.reads.small;
-    })
+pub half_read : (c : Client) (begun scan : Scan) (depth room : ℕ) (bytes : List ℕ) (t : Twig) (h : Half) → scanned_states begun ≡ [] → begun.ends ≡ [] → IsHalfOf c scan t h → IsTwig c begun scan depth room bytes t → IsTreeRead (stretch_of c depth room bytes) h
+half_read c begun scan depth room bytes t h no_states no_ends half is = record {
+  tree = is.is.tree;
+  rest = is.rest;
+  behind = half.behind ∙ is.behind;
+  reads = is.is.reads ∙ ap (λ n. Ok (is.is.tree, n, is.rest)) (sym half.room);
+  client = half.client;
+  states = half.states ∙ is.is.more.states ∙ ap (λ (l : List State). l ++ tree_states is.is.tree) no_states;
+  ends = half.ends ∙ is.is.more.ends ∙ ap (λ (l : List End). l ++ ends_of (records_of is.is.tree)) no_ends;
+  shape = let S : Shape → Type 0 = λ x. IsShapeOf x is.is.tree in subst S (sym half.shape) is.is.shape;
+  forks = is.is.forks;
+}
 
 -- ---- forks
 
@@ -104,11 +79,6 @@ less_room depth all first second room bytes rest t reads fits =
     let left : first - record_count t ≡ room = omega (arith, count, fits) in
     ap (tree_at depth first) took.0 ∙ tree_again depth first t rest took.1 took.2 enough ∙ ap (λ n. Ok (t, n, rest)) left
 
-first_behind : {X : Type 0} (xs ys : List X) (n : ℕ) → n ≡ length xs → slice_get (xs ++ ys) n ≡ slice_get ys 0
-first_behind [] ys n e = ap (slice_get ys) e
-first_behind (x ∷ xs) ys zero e = absurd (omega (arith, e))
-first_behind (x ∷ xs) ys (suc n) e = first_behind xs ys n (omega (arith, e))
-
 -- the bytes behind a fork's state are those of the second half
 meets : (bytes end right rest after : List ℕ) (t : Tree) (s : State) → bytes ≡ spelling_of t ++ rest → end ≡ rest → state_at end ≡ Some (s, after) → IsEnd bytes right → length after ≡ length right → after ≡ right
 meets bytes end right rest after t s spelled same reads behind long =
@@ -117,73 +87,61 @@ meets bytes end right rest after t s spelled same reads behind long =
     same_ends bytes after right (record { front = spelling_of t ++ state s; is = whole }) behind long
 
 -- a fork of two trees that were read by themselves
-pub forked : (whole left right : Stretch) (first second new h : Half) (room : ℕ) → AreHalvesOf whole left right → IsTreeRead left first → IsTreeRead right second → AreGrafted left right first second new room → IsForkOf new second room h → IsTreeRead whole h
-forked whole left right first second new h room halves one two graft is =
+pub forked : (whole left right : Stretch) (first second h : Half) (new : Sheet) (room : ℕ) → AreHalvesOf whole left right → IsTreeRead left first → IsTreeRead right second → AreGrafted left right first.records second first.store new room
+    → (h.store ≡ new) × IsForkOf first.records second.records room h.records → IsTreeRead whole h
+forked whole left right first second h new room halves one two graft (same, is) =
     let d = whole.depth - 1 in
     let inner = take (length whole.bytes - 1) (drop 1 whole.bytes) in
     let bytes_left : left.bytes ≡ inner = ap (λ (s : Stretch). s.bytes) halves.left_is in
-    let reads_left : tree_at d whole.room left.bytes ≡ Ok (one.tree, first.room, one.rest) =
+    let reads_left : tree_at d whole.room left.bytes ≡ Ok (one.tree, first.records.room, one.rest) =
     sym (ap (λ (s : Stretch). tree_at s.depth s.room left.bytes) halves.left_is) ∙ one.reads in
-    let reads_right : tree_at d whole.room right.bytes ≡ Ok (two.tree, second.room, two.rest) =
+    let reads_right : tree_at d whole.room right.bytes ≡ Ok (two.tree, second.records.room, two.rest) =
     sym (ap (λ (s : Stretch). tree_at s.depth s.room right.bytes) halves.right_is) ∙ two.reads in
     let all : right.room ≡ whole.room = ap (λ (s : Stretch). s.room) halves.right_is in
     let c_left : left.client ≡ whole.client = ap (λ (s : Stretch). s.client) halves.left_is in
-    let c_right : right.client ≡ whole.client = ap (λ (s : Stretch). s.client) halves.right_is in
-    let P : Client → Type 0 = λ c. AreKept c first.parts first.keys in
-    let Q : Client → Type 0 = λ c. AreKept c second.parts second.keys in
-    let kept = subst P c_left one.kept in
-    let also = subst Q c_right two.kept in
-    let took = tree_take d whole.room left.bytes (one.tree, first.room, one.rest) reads_left in
+    let took = tree_take d whole.room left.bytes (one.tree, first.records.room, one.rest) reads_left in
     let end_is : graft.end ≡ one.rest = same_ends left.bytes graft.end one.rest graft.ends (record { front = spelling_of one.tree; is = took.0 }) (graft.long ∙ one.behind) in
-    let m = graft.reads in
-    let reads_state : state_at one.rest ≡ Some (m.state, m.rest) = ap state_at (sym end_is) ∙ m.reads in
-    let behind : m.rest ≡ right.bytes = meets left.bytes graft.end right.bytes one.rest m.rest one.tree m.state took.0 end_is m.reads halves.behind (sym m.behind ∙ graft.meets) in
-    let fits : first.room ≡ room + (whole.room - second.room) = graft.fits.is ∙ ap (λ n. room + (n - second.room)) all in
-    let reads_rest : tree_at d first.room m.rest ≡ Ok (two.tree, room, two.rest) = ap (tree_at d first.room) behind ∙ less_room d whole.room first.room second.room room right.bytes two.rest two.tree reads_right fits in
-    let reads_fork = fork_reads d whole.room first.room room left.bytes one.rest m.rest two.rest one.tree two.tree m.state reads_left reads_state reads_rest in
-    let reads_whole : tree_at whole.depth whole.room whole.bytes ≡ Ok (fork one.tree m.state two.tree, room, two.rest) =
+    let reads_state : state_at one.rest ≡ Some (graft.middle, graft.rest) = ap state_at (sym end_is) ∙ graft.reads in
+    let behind : graft.rest ≡ right.bytes = meets left.bytes graft.end right.bytes one.rest graft.rest one.tree graft.middle took.0 end_is graft.reads halves.behind graft.meets in
+    let fits : first.records.room ≡ room + (whole.room - second.records.room) = graft.fits.is ∙ ap (λ n. room + (n - second.records.room)) all in
+    let reads_rest : tree_at d first.records.room graft.rest ≡ Ok (two.tree, room, two.rest) = ap (tree_at d first.records.room) behind ∙ less_room d whole.room first.records.room second.records.room room right.bytes two.rest two.tree reads_right fits in
+    let reads_fork = fork_reads d whole.room first.records.room room left.bytes one.rest graft.rest two.rest one.tree two.tree graft.middle reads_left reads_state reads_rest in
+    let reads_whole : tree_at whole.depth whole.room whole.bytes ≡ Ok (fork one.tree graft.middle two.tree, room, two.rest) =
     opens_fork whole.depth whole.room whole.bytes halves.some halves.first halves.deep ∙ ap (fork_at (tree_at d) whole.room) (sym bytes_left) ∙ reads_fork in
-    let t = graft.taken in
-    let states_new = states_taken whole.client first.parts new.parts second.parts first.keys second.keys new.keys graft.middle t kept also two.small in
-    let both : states_at new.parts new.keys ≡ tree_states one.tree ++ tree_states two.tree = states_new ∙ (λ i. one.states i ++ two.states i) in
-    let kept_new = kept_taken whole.client first.parts new.parts second.parts first.keys second.keys new.keys graft.middle t kept also two.small in
-    let key = key_moved graft.middle.parts new.parts t.own graft.middle.key m.state t.middle m.few m.key in
-    let there : slice_get (states_at new.parts new.keys) (length first.keys) ≡ Some m.state =
-    state_got new.parts new.keys (length first.keys) (moved_key t.own graft.middle.key) t.at ∙ ap Some (key_state new.parts (moved_key t.own graft.middle.key) m.state t.small key) in
-    let many : length first.keys ≡ length (tree_states one.tree) = sym (length-map first.keys (kept_state first.parts)) ∙ ap length one.states in
-    let begins : slice_get (tree_states two.tree) 0 ≡ Some m.state =
-    sym (first_behind (tree_states one.tree) (tree_states two.tree) (length first.keys) many) ∙ ap (λ l. slice_get l (length first.keys)) (sym both) ∙ there in
-    let a : tree_states (fork one.tree m.state two.tree) ≡ tree_states one.tree ++ tree_states two.tree = map-append (λ (r : Record). r.state) (records_of one.tree) (records_of two.tree) in
-    let b : ends_of (records_of (fork one.tree m.state two.tree)) ≡ ends_of (records_of one.tree) ++ ends_of (records_of two.tree) = map-append (λ (r : Record). r.end) (records_of one.tree) (records_of two.tree) in
-    let shape = is.shape one.tree two.tree m.state (let S : Shape → Type 0 = λ x. IsShapeOf x one.tree in subst S (sym graft.same_shape) one.shape) two.shape in
+    let both : new.states ≡ tree_states one.tree ++ tree_states two.tree = graft.taken.states ∙ (λ i. one.states i ++ two.states i) in
+    let many : length first.store.states ≡ length (tree_states one.tree) = ap length one.states in
+    let begins : slice_get (tree_states two.tree) 0 ≡ Some graft.middle =
+    sym (first_behind (tree_states one.tree) (tree_states two.tree) (length first.store.states) many) ∙ ap (λ l. slice_get l (length first.store.states)) (sym both) ∙ graft.taken.at in
+    let a : tree_states (fork one.tree graft.middle two.tree) ≡ tree_states one.tree ++ tree_states two.tree = map-append (λ (r : Record). r.state) (records_of one.tree) (records_of two.tree) in
+    let b : ends_of (records_of (fork one.tree graft.middle two.tree)) ≡ ends_of (records_of one.tree) ++ ends_of (records_of two.tree) = map-append (λ (r : Record). r.end) (records_of one.tree) (records_of two.tree) in
+    let shape = is.shape one.tree two.tree graft.middle one.shape two.shape in
     record {
-      tree = fork one.tree m.state two.tree;
+      tree = fork one.tree graft.middle two.tree;
       rest = two.rest;
       behind = is.behind ∙ two.behind;
-      reads = reads_whole ∙ ap (λ n. Ok (fork one.tree m.state two.tree, n, two.rest)) (sym is.room_is);
-      kept = rw (is.parts, is.keys) kept_new;
-      small = rw is.parts t.small;
-      states = ap (λ (p : Parts). states_at p h.keys) is.parts ∙ ap (states_at new.parts) is.keys ∙ both ∙ sym a;
-      ends = is.ends ∙ ap (λ (l : List End). l ++ second.ends) graft.same_ends ∙ (λ i. one.ends i ++ two.ends i) ∙ sym b;
+      reads = reads_whole ∙ ap (λ n. Ok (fork one.tree graft.middle two.tree, n, two.rest)) (sym is.room_is);
+      client = ap (λ (x : Sheet). x.client) same ∙ graft.client ∙ one.client ∙ c_left;
+      states = ap (λ (x : Sheet). x.states) same ∙ both ∙ sym a;
+      ends = is.ends ∙ (λ i. one.ends i ++ two.ends i) ∙ sym b;
       shape = shape;
       forks = (one.forks, two.forks, begins);
     }
 
 -- ---- whole trees
 
-pub tree_stored : (c : Client) (bytes : List ℕ) (t : Table) (h : Half) (old new : Scanned) → h.behind ≡ 0 → IsTreeRead (stretch_of c 64 4194304 bytes) h → IsStored c t h old → IsLearned old new → IsScannedBehind c t bytes new
-tree_stored c bytes t h old new none is stored learnt =
+pub tree_learned : (c : Client) (bytes : List ℕ) (t : Table) (h : Half) (s : Scanned) → h.records.behind ≡ 0 → IsTreeRead (stretch_of c 64 4194304 bytes) h → IsOfHalf t h s → IsScannedBehind c t bytes s
+tree_learned c bytes t h s none is learnt =
     let nothing : is.rest ≡ [] = nil_from_length is.rest (sym is.behind ∙ none) in
     record {
-      table = learnt.table ∙ stored.table;
+      table = learnt.table;
       tree = is.tree;
-      left = h.room;
-      reads = is.reads ∙ ap (λ (l : List ℕ). Ok (is.tree, h.room, l)) nothing;
+      left = h.records.room;
+      reads = is.reads ∙ ap (λ (l : List ℕ). Ok (is.tree, h.records.room, l)) nothing;
       scanned = record {
-        client = learnt.client ∙ stored.client;
-        states = learnt.states ∙ stored.states ∙ is.states;
-        ends = learnt.ends ∙ stored.ends ∙ is.ends;
-        shape = let S : Shape → Type 0 = λ x. IsShapeOf x is.tree in subst S (sym (learnt.shape ∙ stored.shape)) is.shape;
+        client = learnt.client ∙ is.client;
+        states = learnt.states ∙ is.states;
+        ends = learnt.ends ∙ is.ends;
+        shape = let S : Shape → Type 0 = λ x. IsShapeOf x is.tree in subst S (sym learnt.shape) is.shape;
         forks = is.forks;
       };
     }

@@ -3,5 +3,4 @@ pub mod RowLemmas
 pub mod HistoryLemmas
 pub mod ScanLemmas
 pub mod TreeLemmas
-pub mod MoveLemmas
 pub mod HalfLemmas

@@ -52,10 +52,10 @@ key_scanned c old now k bytes rest is read = record {
   ends = sym (append-nil old.ends);
 }
 
-behind : {X : Type 0} (xs ys : List X) (n : ℕ) → n ≡ length xs → slice_get (xs ++ ys) n ≡ slice_get ys 0
-behind [] ys n e = ap (slice_get ys) e
-behind (x ∷ xs) ys zero e = absurd (omega (arith, e))
-behind (x ∷ xs) ys (suc n) e = behind xs ys n (omega (arith, e))
+pub first_behind : {X : Type 0} (xs ys : List X) (n : ℕ) → n ≡ length xs → slice_get (xs ++ ys) n ≡ slice_get ys 0
+first_behind [] ys n e = ap (slice_get ys) e
+first_behind (x ∷ xs) ys zero e = absurd (omega (arith, e))
+first_behind (x ∷ xs) ys (suc n) e = first_behind xs ys n (omega (arith, e))
 
 -- the state with this key is the first of those that came since
 first_is : (c : Client) (mid new : Scan) (ss : List State) (es : List End) (k : Key) (s : State) → HasMore c mid new ss es → IsKeyOf (parts_of mid.sources) k s → slice_get new.keys (length mid.keys) ≡ Some k → slice_get ss 0 ≡ Some s
@@ -63,7 +63,7 @@ first_is c mid new ss es k s more key at =
     let grown_key = key_more (parts_of mid.sources) (parts_of new.sources) k s more.grows key in
     let there : slice_get (scanned_states new) (length mid.keys) ≡ Some s = state_got (parts_of new.sources) new.keys (length mid.keys) k at ∙ ap Some (key_state (parts_of new.sources) k s more.scan.small grown_key) in
     let many : length mid.keys ≡ length (scanned_states mid) = sym (length-map mid.keys (state_at (parts_of mid.sources))) in
-    sym (behind (scanned_states mid) ss (length mid.keys) many) ∙ ap (λ (l : List State). slice_get l (length mid.keys)) (sym more.states) ∙ there
+    sym (first_behind (scanned_states mid) ss (length mid.keys) many) ∙ ap (λ (l : List State). slice_get l (length mid.keys)) (sym more.states) ∙ there
 
 -- a fork is its left half, its state and its right half
 pub fork_scanned : (c : Client) (old left_read now : Scan) (sources : Sources) (depth room : ℕ) (bytes after_left after_state rest : List ℕ) (one two : Box Shape Global) (middle left : ℕ) (k : Key)

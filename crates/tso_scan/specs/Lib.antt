@@ -1,5 +1,4 @@
 pub mod Scrolls
 pub mod Sources
 pub mod Scanned
-pub mod Moved
 pub mod Halves

@@ -103,14 +103,6 @@ pub record IsScannedBehind (c : Client) (t : Table) (bytes : List ℕ) (s : Scan
   pub reads : tree_at 64 4194304 bytes ≡ Ok (tree, left, [])
   pub scanned : IsScannedTree c tree s
 
--- the same, but for what its store knows beside its states
-pub record IsLearned (old new : Scanned) : Type 0 where
-  pub table : new.table ≡ old.table
-  pub client : new.store.client ≡ old.store.client
-  pub states : new.store.states ≡ old.store.states
-  pub ends : new.ends ≡ old.ends
-  pub shape : new.shape ≡ old.shape
-
 -- the bytes are read as this table and such a tree
 pub record IsScanned (c : Client) (bytes : List ℕ) (s : Scanned) : Type 0 where
   pub tree : Tree

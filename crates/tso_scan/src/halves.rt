@@ -1,36 +1,43 @@
 //! Trees that are read by themselves, and put together as the halves of a fork.
-ghost use Rattle.std.specs.Prelude.{◌≡◌, ◌++◌, IfOk, IfSome, IsTrue, length};
-ghost use Rattle.tso_scan.specs.Halves.{AreGrafted, AreHalvesOf, AreTakenIn, IsEnd, IsForkOf, IsForkShape, IsMiddle, IsPlace, IsRoom, IsTreeRead, IsTwig, half_of, stretch_of};
+ghost use Rattle.std.specs.Prelude.{◌≡◌, ◌++◌, IfOk, IfSome, IsTrue, Some, length};
+ghost use Rattle.tso_code.specs.States.{state_at};
+ghost use Rattle.tso_scan.specs.Halves.{AreGrafted, AreHalvesOf, AreTakenIn, IsEnd, IsForkOf, IsForkShape, IsHalfOf, IsRoom, IsTreeRead, IsTwig, stretch_of};
 ghost use Rattle.tso_scan.specs.Scanned.{IsScan};
-ghost use Rattle.tso_scan.specs.Sources.{AreRows};
+ghost use Rattle.tso_scan.specs.Sources.{parts_of};
+ghost use Rattle.tso_store.specs.Keys.{AreKept};
 
-use crate::moved::{add_keys, add_parts, moved_key};
 use crate::seams::right_half;
 use crate::shape::Shape;
-use crate::sources::{Sources, read_key};
-use crate::states::{SEED, Scan};
-use crate::tasks::Task;
-use crate::trees::{branch_of, is_key};
+use crate::states::Scan;
+use crate::trees::branch_of;
 use std::alloc::{AllocError, Global};
 use std::boxed::Box;
+use tso_cert::Task;
+use tso_code::{Code, ReadError};
 use tso_flow::Checked;
 use tso_list::Seq;
-use tso_parts::{Pool, Refused};
+use tso_parts::Refused;
 use tso_prog::Client;
 use tso_rec::{End, Shared};
-use tso_store::{Key, Parts};
+use tso_state::State;
+use tso_store::Store;
 
-/// A tree that was read by itself: its records' states, by parts of their own, and their ends in the same order.
+/// A tree that was read by itself: its records' states in a store of their own, and what else was read of them in the same order.
 #[derive(Drop)]
-pub struct Half {
-    pub parts: Parts,
-    pub keys: Pool<Key>,
+pub struct Half<'c> {
+    pub store: Store<'c>,
+    pub records: Records,
+}
+
+/// The records of a tree without their states, and where they end.
+#[derive(Drop)]
+pub struct Records {
     pub ends: Seq<Shared<End>>,
     /// How the records lie in leaves and forks.
     pub shape: Shape,
     /// How many records may still come.
     pub room: u32,
-    /// So many bytes are behind it.
+    /// So many bytes are behind them.
     pub behind: usize,
 }
 
@@ -42,29 +49,14 @@ pub struct Twig {
     pub behind: usize,
 }
 
-/// The key of a state that was read, and how many bytes are behind it.
-#[derive(Clone, Copy)]
-pub struct Place {
-    pub key: Key,
-    pub behind: usize,
-}
-
-/// A fork's state, by parts of its own, and how many bytes are behind it.
-#[derive(Drop)]
-pub struct Middle {
-    pub parts: Parts,
-    pub key: Key,
-    pub behind: usize,
-}
-
 /// Bytes, at whose front a tree is to be read: with at most `depth` forks inside one another and at most `room` records.
 #[derive(Drop)]
-pub struct Unread<'a> {
+pub struct Unread<'c, 'b> {
     pub alloc: Global,
-    pub checked: &'a Checked,
+    pub checked: &'c Checked,
     pub depth: u8,
     pub room: u32,
-    pub bytes: &'a [u8],
+    pub bytes: &'b [u8],
 }
 
 // ---- a tree that is read
@@ -93,8 +85,9 @@ fn read_twig(
 }
 
 // All that was read, as one tree.
-fn half_of(scan: Scan, twig: Twig) -> Half
-    ensures { result ≡ half_of scan twig }
+fn half_of<'c>(alloc: Global, checked: &'c Checked, scan: Scan, twig: Twig) -> Half<'c>
+    requires { AreKept checked.now.client (parts_of scan.sources) scan.keys }
+    ensures { IsHalfOf checked.now.client scan twig result }
 {
     let Scan {
         sources,
@@ -107,40 +100,40 @@ fn half_of(scan: Scan, twig: Twig) -> Half
         room,
         behind,
     } = twig;
-    let parts = sources.into_parts();
-    Half {
-        parts,
-        keys,
+    let store = Store::of_parts(alloc, checked, sources.into_parts(), keys);
+    let records = Records {
         ends,
         shape,
         room,
         behind,
-    }
+    };
+    Half { store, records }
 }
 
 // Lets go of what was read.
 fn release(_scan: Scan) {}
 
 // Lets go of a tree.
-fn release_half(_half: Half) {}
+fn release_half(_half: Half<'_>) {}
 
-// Lets go of parts.
-fn release_sources(_sources: Sources) {}
+// Lets go of the halves of a fork, of which one is taken apart.
+fn release_halves(_store: Store<'_>, _records: Records, _second: Half<'_>) {}
 
 // The tree at the front of the bytes. `None` where there is none, where a state does not fit the client or stands in two records, or
 // where a fork's state is not the first one of its right half.
-fn read_half(
+fn read_half<'c>(
     alloc: Global,
-    client: &Client,
+    checked: &'c Checked,
     depth: u8,
     room: u32,
     bytes: &[u8],
-) -> Result<Option<Half>, Refused>
-    ensures { IfOk result (λ o. IfSome o (IsTreeRead (stretch_of client.now depth room bytes.now))) }
+) -> Result<Option<Half<'c>>, Refused>
+    ensures { IfOk result (λ o. IfSome o (IsTreeRead (stretch_of checked.now.client depth room bytes.now))) }
 {
+    let client = &checked.client;
     let mut scan = Scan::new(alloc, client);
     match read_twig(&mut scan, client, alloc, depth, room, bytes) {
-        Ok(Some(twig)) => Ok(Some(half_of(scan, twig))),
+        Ok(Some(twig)) => Ok(Some(half_of(alloc, checked, scan, twig))),
         Ok(None) => {
             release(scan);
             Ok(None)
@@ -157,12 +150,12 @@ fn read_half(
 /// parts as numbers.
 ///
 /// Errors: where a growth was refused.
-pub fn read_alone(unread: &Unread<'_>) -> Result<Option<Half>, AllocError>
+pub fn read_alone<'c>(unread: &Unread<'c, '_>) -> Result<Option<Half<'c>>, AllocError>
     ensures { IfOk result (λ o. IfSome o (IsTreeRead (stretch_of unread.now.checked.now.client unread.now.depth unread.now.room unread.now.bytes.now))) }
 {
     match read_half(
         unread.alloc,
-        &unread.checked.client,
+        unread.checked,
         unread.depth,
         unread.room,
         unread.bytes,
@@ -186,46 +179,14 @@ fn last_bytes(bytes: &[u8], count: usize) -> Option<&[u8]>
     Some(end)
 }
 
-// The state at the front of the bytes, whose parts are kept where they are new. `None` where there is none, or one that does not
-// fit the client.
-fn read_place(
-    sources: &mut Sources,
-    client: &Client,
-    alloc: Global,
-    bytes: &[u8],
-) -> Result<Option<Place>, Refused>
-    requires { AreRows sources.old.lists sources.old.histories sources.old.rows }
-    ensures { IfOk result (λ o. IfSome o (IsPlace client.now sources.old sources.new bytes.now)) }
+// The state at the front of the bytes, and the bytes after it. `None` where there is none.
+fn read_middle(alloc: Global, bytes: &[u8]) -> Result<Option<(State, &[u8])>, AllocError>
+    ensures { IfOk result (λ o. IfSome o (λ x. state_at bytes.now ≡ Some (x.0, x.1.now))) }
 {
-    let Some((key, rest)) = read_key(sources, client, alloc, bytes)? else {
-        return Ok(None);
-    };
-    let behind = rest.len();
-    Ok(Some(Place { key, behind }))
-}
-
-// The same, by parts of its own.
-fn read_middle(alloc: Global, client: &Client, bytes: &[u8]) -> Result<Option<Middle>, Refused>
-    ensures { IfOk result (λ o. IfSome o (IsMiddle bytes.now)) }
-{
-    let mut sources = Sources::new(alloc, SEED);
-    match read_place(&mut sources, client, alloc, bytes) {
-        Ok(Some(place)) => {
-            let parts = sources.into_parts();
-            Ok(Some(Middle {
-                parts,
-                key: place.key,
-                behind: place.behind,
-            }))
-        }
-        Ok(None) => {
-            release_sources(sources);
-            Ok(None)
-        }
-        Err(reason) => {
-            release_sources(sources);
-            Err(reason)
-        }
+    match State::read(alloc, bytes) {
+        Ok(read) => Ok(Some(read)),
+        Err(ReadError::Malformed) => Ok(None),
+        Err(ReadError::Memory) => Err(AllocError),
     }
 }
 
@@ -247,53 +208,50 @@ fn room_behind(all: u32, first: u32, second: u32) -> Option<u32>
 // first of them: then some of them may be kept.
 fn take_in(
     alloc: Global,
-    parts: &mut Parts,
-    keys: &mut Pool<Key>,
-    second: &Half,
-    middle: &Middle,
+    store: &mut Store<'_>,
+    second: &Store<'_>,
+    middle: &State,
 ) -> Result<bool, Refused>
-    ensures { IfOk result (λ b. IsTrue b → AreTakenIn parts.old keys.old second.now.parts second.now.keys middle.now parts.new keys.new) }
+    requires { second.now.client ≡ store.old.client }
+    ensures client { IfOk result (λ _. store.new.client ≡ store.old.client) }
+    ensures taken { IfOk result (λ b. IsTrue b → AreTakenIn store.old.states second.now.states middle.now store.new.states) }
 {
-    let first = keys.len();
-    let numbers = add_parts(alloc, parts, &second.parts)?;
-    if !add_keys(keys, &numbers, &second.keys)? {
+    let first = store.len();
+    store.take_in(alloc, second)?;
+    if first.checked_add(second.len()) != Some(store.len()) {
         return Ok(false);
     }
-    let own = add_parts(alloc, parts, &middle.parts)?;
-    parts.threads.is_numbered();
-    let key = moved_key(&own, &middle.key);
-    Ok(is_key(keys, first, &key))
+    match store.find(middle) {
+        Some(number) => Ok(number as usize == first),
+        None => Ok(false),
+    }
 }
 
-// Puts the states of a fork's second half behind those of its first, and tells how many records may still come. `None` where the two
-// do not fit together: then nothing is said of the first half.
+// Puts the states of a fork's second half behind those of its first, which the store has, and tells how many records may still come.
+// `None` where the two do not fit together: then nothing is said of the store.
 fn graft(
-    left: &Unread<'_>,
-    right: &Unread<'_>,
-    first: &mut Half,
-    second: &Half,
+    left: &Unread<'_, '_>,
+    right: &Unread<'_, '_>,
+    store: &mut Store<'_>,
+    first: &Records,
+    second: &Half<'_>,
 ) -> Result<Option<u32>, Refused>
-    ensures { IfOk result (λ o. IfSome o (AreGrafted (stretch_of left.now.checked.now.client left.now.depth left.now.room left.now.bytes.now) (stretch_of right.now.checked.now.client right.now.depth right.now.room right.now.bytes.now) first.old second.now first.new)) }
+    requires { second.now.store.client ≡ store.old.client }
+    ensures { IfOk result (λ o. IfSome o (AreGrafted (stretch_of left.now.checked.now.client left.now.depth left.now.room left.now.bytes.now) (stretch_of right.now.checked.now.client right.now.depth right.now.room right.now.bytes.now) first.now second.now store.old store.new)) }
 {
     let Some(end) = last_bytes(left.bytes, first.behind) else {
         return Ok(None);
     };
-    let Some(middle) = read_middle(left.alloc, &left.checked.client, end)? else {
+    let Some((middle, rest)) = read_middle(left.alloc, end)? else {
         return Ok(None);
     };
-    if middle.behind != right.bytes.len() {
+    if rest.len() != right.bytes.len() {
         return Ok(None);
     }
-    let Some(room) = room_behind(right.room, first.room, second.room) else {
+    let Some(room) = room_behind(right.room, first.room, second.records.room) else {
         return Ok(None);
     };
-    if !take_in(
-        left.alloc,
-        &mut first.parts,
-        &mut first.keys,
-        second,
-        &middle,
-    )? {
+    if !take_in(left.alloc, store, &second.store, &middle)? {
         return Ok(None);
     }
     Ok(Some(room))
@@ -318,66 +276,71 @@ fn fork_shape(alloc: Global, left: Shape, right: Shape) -> Result<Shape, AllocEr
     Ok(Shape::Fork(left, right))
 }
 
-// A fork of two halves, of which the first has the states of both.
-fn fork_of(alloc: Global, first: Half, second: Half, room: u32) -> Result<Half, AllocError>
+// The records of a fork, from those of its halves.
+fn fork_of(alloc: Global, first: Records, second: Records, room: u32) -> Result<Records, AllocError>
     ensures { IfOk result (IsForkOf first second room) }
 {
-    let Half {
-        parts,
-        keys,
-        ends,
-        shape,
-        room: _left_room,
-        behind: _left_behind,
-    } = first;
-    let Half {
-        parts: _right_parts,
-        keys: _right_keys,
-        ends: others,
-        shape: other,
-        room: _right_room,
-        behind,
-    } = second;
-    let ends = appended(ends, others)?;
-    let shape = fork_shape(alloc, shape, other)?;
-    Ok(Half {
-        parts,
-        keys,
+    let ends = appended(first.ends, second.ends)?;
+    let shape = fork_shape(alloc, first.shape, second.shape)?;
+    Ok(Records {
         ends,
         shape,
         room,
-        behind,
+        behind: second.behind,
     })
+}
+
+// The records of a half, without its states.
+fn records_of(half: Half<'_>) -> Records
+    ensures { result ≡ half.entry.records }
+{
+    let Half {
+        store: _store,
+        records,
+    } = half;
+    records
+}
+
+// A fork, from the store that has the states of both halves, and from their records.
+fn half_with<'c>(
+    alloc: Global,
+    store: Store<'c>,
+    first: Records,
+    second: Records,
+    room: u32,
+) -> Result<Half<'c>, AllocError>
+    ensures { IfOk result (λ h. (h.store ≡ store.entry) × IsForkOf first second room h.records) }
+{
+    let records = fork_of(alloc, first, second, room)?;
+    Ok(Half { store, records })
 }
 
 // The tree at the front of the bytes, from what was read of its halves; where that does not fit together, it is read by this thread
 // alone.
-fn read_joined(
-    whole: &Unread<'_>,
-    left: &Unread<'_>,
-    right: &Unread<'_>,
-    first: Half,
-    second: Half,
-) -> Result<Option<Half>, AllocError>
+fn read_joined<'c>(
+    whole: &Unread<'c, '_>,
+    left: &Unread<'c, '_>,
+    right: &Unread<'c, '_>,
+    first: Half<'c>,
+    second: Half<'c>,
+) -> Result<Option<Half<'c>>, AllocError>
     requires halves { AreHalvesOf (stretch_of whole.now.checked.now.client whole.now.depth whole.now.room whole.now.bytes.now) (stretch_of left.now.checked.now.client left.now.depth left.now.room left.now.bytes.now) (stretch_of right.now.checked.now.client right.now.depth right.now.room right.now.bytes.now) }
     requires first { IsTreeRead (stretch_of left.now.checked.now.client left.now.depth left.now.room left.now.bytes.now) first }
     requires second { IsTreeRead (stretch_of right.now.checked.now.client right.now.depth right.now.room right.now.bytes.now) second }
     ensures { IfOk result (λ o. IfSome o (IsTreeRead (stretch_of whole.now.checked.now.client whole.now.depth whole.now.room whole.now.bytes.now))) }
 {
-    let mut first = first;
-    match graft(left, right, &mut first, &second) {
+    let Half { mut store, records } = first;
+    match graft(left, right, &mut store, &records, &second) {
         Ok(Some(room)) => {
-            let half = fork_of(whole.alloc, first, second, room)?;
+            let half = half_with(whole.alloc, store, records, records_of(second), room)?;
             Ok(Some(half))
         }
         Ok(None) => {
-            release_half(first);
-            release_half(second);
+            release_halves(store, records, second);
             read_alone(whole)
         }
         Err(reason) => {
-            release_half(first);
-            release_half(second);
+            release_halves(store, records, second);
             match reason {
                 Refused::Memory => Err(AllocError),
                 Refused::Full => Ok(None),
@@ -386,17 +349,19 @@ fn read_joined(
     }
 }
 
-impl<'a> Task for Unread<'a> {
+impl<'c, 'b> Task for Unread<'c, 'b> {
     ghost use Rattle.std.specs.Prelude.{IfSome};
     ghost use Rattle.tso_scan.specs.Halves.{AreHalvesOf, IsTreeRead, stretch_of};
 
-    type Output = Option<Half>;
+    type Output = Option<Half<'c>>;
+
+    ghost is_ready = { λ p. Unit {0} };
 
     ghost is_output = { λ p o. IfSome o (IsTreeRead (stretch_of p.checked.now.client p.depth p.room p.bytes.now)) };
 
     ghost are_halves = { λ p left right. AreHalvesOf (stretch_of p.checked.now.client p.depth p.room p.bytes.now) (stretch_of left.checked.now.client left.depth left.room left.bytes.now) (stretch_of right.checked.now.client right.depth right.room right.bytes.now) };
 
-    fn run(&self) -> Result<Option<Half>, AllocError> {
+    fn run(&self) -> Result<Option<Half<'c>>, AllocError> {
         read_alone(self)
     }
 
@@ -435,9 +400,9 @@ impl<'a> Task for Unread<'a> {
         &self,
         left: &Self,
         right: &Self,
-        first: Option<Half>,
-        second: Option<Half>,
-    ) -> Result<Option<Half>, AllocError> {
+        first: Option<Half<'c>>,
+        second: Option<Half<'c>>,
+    ) -> Result<Option<Half<'c>>, AllocError> {
         match first {
             Some(first) => match second {
                 Some(second) => read_joined(self, left, right, first, second),

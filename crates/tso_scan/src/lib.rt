@@ -3,7 +3,6 @@
 
 mod halves;
 mod histories;
-mod moved;
 mod rows;
 mod scanned;
 mod scroll;
@@ -11,9 +10,7 @@ mod seams;
 mod shape;
 mod sources;
 mod states;
-mod tasks;
 mod trees;
 
 pub use scanned::{Scanned, scan, scan_with};
 pub use shape::Shape;
-pub use tasks::{Task, run_by};

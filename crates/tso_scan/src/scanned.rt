@@ -1,16 +1,15 @@
 //! Whole certificates, read straight into a store.
 ghost use Rattle.std.specs.Option.{option_copied};
 ghost use Rattle.std.specs.Prelude.{◌≡◌, IfOk, IfSome, List, slice_get, ℕ};
-ghost use Rattle.tso_scan.specs.Halves.{IsStored, IsTreeRead, stretch_of};
-ghost use Rattle.tso_scan.specs.Scanned.{IsLearned, IsScanned, IsScannedBehind};
-ghost use Rattle.tso_store.specs.Keys.{AreKept};
+ghost use Rattle.tso_scan.specs.Halves.{IsOfHalf, IsTreeRead, stretch_of};
+ghost use Rattle.tso_scan.specs.Scanned.{IsScanned, IsScannedBehind};
+ghost use Rattle.tso_prog.specs.declared.client.Client.{Client};
 
-use crate::halves::{Half, Unread, read_alone};
+use crate::halves::{Half, Records, Unread, read_alone};
 use crate::shape::Shape;
-use crate::tasks::run_by;
 use std::alloc::{AllocError, Global};
 use std::thread::Threads;
-use tso_cert::{DecodeError, read_table};
+use tso_cert::{DecodeError, read_table, run_by};
 use tso_flow::Checked;
 use tso_foot::Table;
 use tso_list::Seq;
@@ -43,20 +42,20 @@ impl<'a> Scanned<'a> {
     }
 }
 
-// The store of what was read.
-fn store_of<'a>(alloc: Global, checked: &'a Checked, table: Table, half: Half) -> Scanned<'a>
-    requires { AreKept checked.now.client half.parts half.keys }
-    ensures { IsStored checked.now.client table half result }
+// Lets go of what was read.
+fn release(_table: Table, _half: Half<'_>) {}
+
+// The certificate of a table and a tree that was read.
+fn put_together<'c>(table: Table, half: Half<'c>) -> Scanned<'c>
+    ensures { IsOfHalf table half.entry result }
 {
-    let Half {
-        parts,
-        keys,
+    let Half { store, records } = half;
+    let Records {
         ends,
         shape,
         room: _room,
         behind: _behind,
-    } = half;
-    let store = Store::of_parts(alloc, checked, parts, keys);
+    } = records;
     Scanned {
         table,
         store,
@@ -66,39 +65,37 @@ fn store_of<'a>(alloc: Global, checked: &'a Checked, table: Table, half: Half) -
 }
 
 // The same, whose store knows where the next steps of its threads lead.
-fn learned(scanned: Scanned<'_>) -> Result<Scanned<'_>, AllocError>
-    ensures { IfOk result (IsLearned scanned.entry) }
+fn learned<'c>(table: Table, half: Half<'c>) -> Result<Scanned<'c>, AllocError>
+    ensures { IfOk result (IsOfHalf table half.entry) }
 {
-    let mut scanned = scanned;
-    match scanned.store.learn() {
-        Ok(()) => Ok(scanned),
-        Err(error) => Err(error),
+    let mut half = half;
+    match half.store.learn() {
+        Ok(()) => Ok(put_together(table, half)),
+        Err(reason) => {
+            release(table, half);
+            Err(reason)
+        }
     }
 }
 
-// Lets go of what was read.
-fn release(_table: Table, _half: Half) {}
-
-// The certificate of a table and a tree that was read. `None` where something is behind the tree.
-fn scanned_of<'a>(
-    alloc: Global,
-    checked: &'a Checked,
-    table: Table,
-    half: Half,
-) -> Result<Option<Scanned<'a>>, AllocError>
-    requires { AreKept checked.now.client half.parts half.keys }
-    ensures { (bytes : List ℕ) → IsTreeRead (stretch_of checked.now.client 64 4194304 bytes) half → IfOk result (λ o. IfSome o (IsScannedBehind checked.now.client table bytes)) }
+// The same. `None` where something is behind the tree.
+fn scanned_of<'c>(table: Table, half: Half<'c>) -> Result<Option<Scanned<'c>>, AllocError>
+    ensures { (c : Client) (bytes : List ℕ) → IsTreeRead (stretch_of c 64 4194304 bytes) half.entry → IfOk result (λ o. IfSome o (IsScannedBehind c table bytes)) }
 {
-    if half.behind != 0 {
+    if half.records.behind != 0 {
         release(table, half);
         return Ok(None);
     }
-    let scanned = learned(store_of(alloc, checked, table, half))?;
+    let scanned = learned(table, half)?;
     Ok(Some(scanned))
 }
 
 // The whole tree at the front of the bytes.
-fn read_tree(alloc: Global, checked: &Checked, bytes: &[u8]) -> Result<Option<Half>, AllocError>
+fn read_tree<'c>(
+    alloc: Global,
+    checked: &'c Checked,
+    bytes: &[u8],
+) -> Result<Option<Half<'c>>, AllocError>
     ensures { IfOk result (λ o. IfSome o (IsTreeRead (stretch_of checked.now.client 64 4194304 bytes.now))) }
 {
     let unread = Unread {
@@ -112,13 +109,13 @@ fn read_tree(alloc: Global, checked: &Checked, bytes: &[u8]) -> Result<Option<Ha
 }
 
 // The same, read by so many workers.
-fn read_tree_with<R: Threads + Sync>(
+fn read_tree_with<'c, R: Threads + Sync>(
     rt: &R,
     alloc: Global,
-    checked: &Checked,
+    checked: &'c Checked,
     bytes: &[u8],
     workers: u64,
-) -> Result<Option<Half>, AllocError>
+) -> Result<Option<Half<'c>>, AllocError>
     ensures { IfOk result (λ o. IfSome o (IsTreeRead (stretch_of checked.now.client 64 4194304 bytes.now))) }
 {
     let unread = Unread {
@@ -141,7 +138,7 @@ fn scan_tree<'a>(
     ensures { IfOk result (λ o. IfSome o (IsScannedBehind checked.now.client table bytes.now)) }
 {
     match read_tree(alloc, checked, bytes)? {
-        Some(half) => scanned_of(alloc, checked, table, half),
+        Some(half) => scanned_of(table, half),
         None => Ok(None),
     }
 }
@@ -158,7 +155,7 @@ fn scan_tree_with<'a, R: Threads + Sync>(
     ensures { IfOk result (λ o. IfSome o (IsScannedBehind checked.now.client table bytes.now)) }
 {
     match read_tree_with(rt, alloc, checked, bytes, workers)? {
-        Some(half) => scanned_of(alloc, checked, table, half),
+        Some(half) => scanned_of(table, half),
         None => Ok(None),
     }
 }

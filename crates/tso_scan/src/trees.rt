@@ -76,8 +76,8 @@ pub fn branch_of<'a>(
     }
 }
 
-/// Whether this is the key with this number.
-pub fn is_key(keys: &Pool<Key>, number: usize, key: &Key) -> bool
+// Whether this is the key with this number.
+fn is_key(keys: &Pool<Key>, number: usize, key: &Key) -> bool
     ensures { IsTrue result → slice_get keys.now number ≡ Some key.now }
 {
     if number >= keys.len() {

@@ -1,6 +1,7 @@
 -- Keys and states that come from another store.
-use Rattle.std.proofs.Common.{◌≡◌, ◌⊎◌, ◌∙◌, ℕ, zero, suc, ◌+◌, ◌<◌, ◌≤◌, ◌^◌, Bool, true, false, List, [], ◌∷◌, ◌++◌, length, map, Some, None, refl, sym, ap, arith, add-one, get_or, inl, inr, slice_get, slice_index_or, subst, take}
-use Rattle.std.proofs.lemmas.List.{length_push}
+use Rattle.std.proofs.Common.{◌≡◌, ◌⊎◌, ◌∙◌, ℕ, zero, suc, ◌+◌, ◌<◌, ◌≤◌, ◌^◌, Bool, true, false, List, [], ◌∷◌, ◌++◌, length, map, Some, None, refl, sym, ap, append_assoc, arith, add-one, get_or, inl, inr, slice_get, slice_index_or, subst, take}
+use Rattle.std.proofs.lemmas.List.{append-nil, length-map, length_push, map-append, take_all}
+use Rattle.std.proofs.lemmas.Option.{same_Some}
 use Rattle.std.specs.List.{AllByRecursion}
 use Rattle.tso_parts.specs.Numbers.{Extends, grown}
 use Rattle.tso_parts.proofs.Marked.{found_or_not, of_longer}
@@ -10,7 +11,7 @@ use Rattle.tso_store.specs.Keys.{AreKept, Grows, IsKeyOf, IsKept, state_at, stat
 use Rattle.tso_store.specs.Moving.{AreNumbersIn, moved_number, moved_at, moved_key}
 use Rattle.tso_store.specs.Numbers.{AreNumbersOf}
 use Rattle.tso_store.specs.Sheets.{IsSheet}
-use Rattle.tso_store.specs.Unions.{IsThere, IsUnion, IsUnionBelow, IsWithinUnion}
+use Rattle.tso_store.specs.Unions.{IsGrownBy, IsThere, IsUnion, IsUnionBelow, IsWithinUnion}
 use Rattle.tso_store.specs.declared.key.Key.{Key}
 use Rattle.tso_store.specs.declared.known.Known.{Known}
 use Rattle.tso_store.specs.declared.moved.PartNumbers.{PartNumbers}
@@ -98,11 +99,35 @@ within_more {X = X} old others mid new one two = record { stays = λ i x e. two.
     either x (inr h) = inr h
 
 pub union_first : {X : Type 0} (old others : List X) → IsUnionBelow old others old 0
-union_first old others = record { within = within_none old others; has = λ n x lt e. absurd (omega (arith, lt)) }
+union_first old others = record { within = within_none old others; has = λ n x lt e. absurd (omega (arith, lt)); apart = λ _. sym (append-nil old) }
 
-pub union_more : {X : Type 0} (old others mid new : List X) (i : ℕ) → IsUnionBelow old others mid i → IsWithinUnion mid others new → ((x : X) → slice_get others i ≡ Some x → IsThere new x) → IsUnionBelow old others new (i + 1)
-union_more {X = X} old others mid new i one two there = record { within = within_more old others mid new one.within two; has = has }
+taken_more : {X : Type 0} (xs : List X) (i : ℕ) → i < length xs → (x : X) × (slice_get xs i ≡ Some x) × (take (i + 1) xs ≡ take i xs ++ x ∷ [])
+taken_more [] i lt = absurd (omega (arith, lt))
+taken_more (x ∷ xs) zero lt = (x, refl, refl)
+taken_more (x ∷ xs) (suc i) lt =
+    let h = taken_more xs i (omega (arith, lt)) in
+    let next : suc i + 1 ≡ suc (i + 1) = omega arith in
+    (h.0, h.1, ap (λ n. take n (x ∷ xs)) next ∙ ap (λ l. x ∷ l) h.2)
+
+-- one more value, behind all others or there before
+one_apart : {X : Type 0} (old others mid new : List X) (i : ℕ) (x : X) (b : Bool) → length mid ≤ length old + i → (length mid ≡ length old + i → mid ≡ old ++ take i others) → new ≡ grown mid x b
+    → take (i + 1) others ≡ take i others ++ x ∷ [] → length new ≡ length old + (i + 1) → new ≡ old ++ take (i + 1) others
+one_apart old others mid new i x false few so_far is next long = absurd (let same = ap length is in omega (arith, few, same, long))
+one_apart old others mid new i x true few so_far is next long =
+    let same = ap length is ∙ length_push mid x in
+    let before : length mid ≡ length old + i = omega (arith, same, long) in
+    is ∙ ap (λ l. l ++ x ∷ []) (so_far before) ∙ append_assoc old (take i others) (x ∷ []) ∙ ap (λ l. old ++ l) (sym next)
+
+pub union_more : {X : Type 0} (old others mid new : List X) (i : ℕ) → IsUnionBelow old others mid i → length mid ≤ length old + i → i < length others → IsWithinUnion mid others new
+    → ((x : X) → slice_get others i ≡ Some x → IsThere new x) → ((x : X) → slice_get others i ≡ Some x → IsGrownBy mid x new) → IsUnionBelow old others new (i + 1)
+union_more {X = X} old others mid new i one few lt two there last = record { within = within_more old others mid new one.within two; has = has; apart = apart }
   where
+    apart : length new ≡ length old + (i + 1) → new ≡ old ++ take (i + 1) others
+    apart long =
+        let h = taken_more others i lt in
+        let g = last h.0 h.1 in
+        one_apart old others mid new i h.0 g.0 few one.apart g.1 h.2 long
+
     has : (n : ℕ) (x : X) → n < i + 1 → slice_get others n ≡ Some x → IsThere new x
     has n x lt e = found_or_not n i (omega (arith, lt)) (λ same. there x (ap (slice_get others) (sym same) ∙ e)) (λ less. let h = one.has n x less e in (h.0, two.stays h.0 x h.1))
 
@@ -119,8 +144,12 @@ map_length f [] = refl
 map_length f (x ∷ xs) = ap suc (map_length f xs)
 
 -- each of so many others is there
-pub union_all : {X Y : Type 0} (f : X → Y) (old new : List Y) (others : List X) (i : ℕ) → IsUnionBelow old (map f others) new i → length others ≤ i → IsUnion old (map f others) new
-union_all f old new others i below le = record { within = below.within; has = λ n x e. below.has n x (omega (arith, le, within_length (map f others) n x e, map_length f others)) e }
+pub union_all : {X Y : Type 0} (f : X → Y) (old new : List Y) (others : List X) (i : ℕ) → IsUnionBelow old (map f others) new i → i ≡ length others → IsUnion old (map f others) new
+union_all f old new others i below all = record {
+  within = below.within;
+  has = λ n x e. below.has n x (omega (arith, all, within_length (map f others) n x e, map_length f others)) e;
+  apart = λ long. below.apart (omega (arith, long, all, map_length f others)) ∙ ap (λ l. old ++ l) (take_all i (map f others) (omega (arith, all, map_length f others)));
+}
 
 -- ---- keys and states
 
@@ -144,6 +173,12 @@ pub key_within : (old after others : List Key) (r : PartNumbers) (n : ℕ) (k l 
 key_within old after others r n k l b ext at same e =
     within_grown old (map (moved_key r) others) after l b n ext (map_got (moved_key r) others n k at ∙ ap Some (sym same)) e
 
+pub key_last : (old after others : List Key) (r : PartNumbers) (n : ℕ) (k l : Key) (b : Bool) → slice_get others n ≡ Some k → l ≡ moved_key r k → after ≡ grown old l b → (x : Key) → slice_get (map (moved_key r) others) n ≡ Some x
+    → IsGrownBy old x after
+key_last old after others r n k l b at same e x here =
+    let one : l ≡ x = same ∙ same_Some (moved_key r k) x (sym (map_got (moved_key r) others n k at) ∙ here) in
+    (b, e ∙ ap (λ (w : Key). grown old w b) one)
+
 pub key_there : (after others : List Key) (r : PartNumbers) (n m : ℕ) (k l : Key) → slice_get others n ≡ Some k → l ≡ moved_key r k → slice_get after m ≡ Some l → (x : Key) → slice_get (map (moved_key r) others) n ≡ Some x → IsThere after x
 key_there after others r n m k l at same there x e = (m, there ∙ ap Some same ∙ sym (map_got (moved_key r) others n k at) ∙ e)
 
@@ -159,6 +194,14 @@ pub record IsMove (c : Client) (old new others : Parts) (ks ls : List Key) (r : 
   pub kept : AreKept c old ks
   pub also : AreKept c others ls
   pub numbers : AreNumbersIn others new r
+
+-- the states of keys by their new numbers
+states_moved : (c : Client) (others new : Parts) (r : PartNumbers) (ks : List Key) → AreNumbersIn others new r → length others.threads < 2 ^ 32 → length new.threads < 2 ^ 32 → AreKept c others ks → states_at new (map (moved_key r) ks) ≡ states_at others ks
+states_moved c others new r [] are few small all = refl
+states_moved c others new r (k ∷ ks) are few small all =
+    let a = key_state new (moved_key r k) (state_at others k) small (key_moved others new r k (state_at others k) are few all.0.key) in
+    let b = states_moved c others new r ks are few small all.1 in
+    λ i. a i ∷ b i
 
 module _ (c : Client) (old new others : Parts) (ks ls after : List Key) (r : PartNumbers) (move : IsMove c old new others ks ls r) where
   moved_kept : (i : ℕ) (k : Key) → slice_get (map (moved_key r) ls) i ≡ Some k → IsKept c new k
@@ -206,8 +249,17 @@ module _ (c : Client) (old new others : Parts) (ks ls after : List Key) (r : Par
           subst P f.2 (either_state f.0 (within.either i f.0 f.1))
 
   pub states_union : IsUnion ks (map (moved_key r) ls) after → IsUnion (states_at old ks) (states_at others ls) (states_at new after)
-  states_union union = record { within = states_within union.within; has = has }
+  states_union union = record { within = states_within union.within; has = has; apart = apart }
     where
+      apart : length (states_at new after) ≡ length (states_at old ks) + length (states_at others ls) → states_at new after ≡ states_at old ks ++ states_at others ls
+      apart long =
+          let a = length-map after (state_at new) in
+          let b = length-map ks (state_at old) in
+          let d = length-map ls (state_at others) in
+          let behind = union.apart (omega (arith, long, a, b, d, map_length (moved_key r) ls)) in
+          ap (states_at new) behind ∙ map-append (state_at new) ks (map (moved_key r) ls)
+          ∙ (λ i. states_stay c old new ks move.grows move.small move.kept i ++ states_moved c others new r ls move.numbers move.few move.small move.also i)
+
       has : (i : ℕ) (s : State) → slice_get (states_at others ls) i ≡ Some s → IsThere (states_at new after) s
       has i s e =
           let t = there_key c others ls i s move.also e in

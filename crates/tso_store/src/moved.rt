@@ -5,7 +5,7 @@ ghost use Rattle.tso_parts.specs.declared.refused.Refused.TheVariants as reasons
 ghost use Rattle.tso_store.specs.Keys.{Grows, part_count};
 ghost use Rattle.tso_store.specs.Moving.{AreNumbersIn, moved_number, moved_at, moved_key};
 ghost use Rattle.tso_store.specs.Numbers.{AreNumbersOf};
-ghost use Rattle.tso_store.specs.Unions.{IsThere, IsUnion, IsWithinUnion};
+ghost use Rattle.tso_store.specs.Unions.{IsGrownBy, IsThere, IsUnion, IsWithinUnion};
 
 use crate::key::{Key, NONE};
 use crate::parts::Parts;
@@ -124,6 +124,7 @@ fn add_key(
 ) -> Result<(), Refused>
     ensures within { IsWithinUnion keys.old (map (moved_key numbers.now) others.now) keys.new }
     ensures there { OnOk result ((k : Key) → slice_get (map (moved_key numbers.now) others.now) number ≡ Some k → IsThere keys.new k) }
+    ensures last { OnOk result ((k : Key) → slice_get (map (moved_key numbers.now) others.now) number ≡ Some k → IsGrownBy keys.old k keys.new) }
     ensures more { length keys.new ≤ length keys.old + 1 }
     ensures full { result ≡ Err reasons.Full → 4294967295 ≤ length keys.new }
 {

@@ -3,8 +3,8 @@ use Rattle.std.proofs.Common.{◌≡◌, ◌∙◌, ℕ, List, Result, Ok, sym, 
 use Rattle.std.proofs.Math.Logic.{∥∥₁_map}
 use Rattle.tso_check.proofs.OneText.{same_client}
 use Rattle.tso_client.specs.Headline.{DenotesChecked, EachRunIsGood, IsVerified}
-use Rattle.tso_covers.proofs.Serving.{goodness_goes_down}
-use Rattle.tso_covers.specs.Clients.{ClientCovers}
+use Rattle.tso_client.proofs.Serving.{goodness_goes_down}
+use Rattle.tso_client.specs.Clients.{ClientCovers}
 use Rattle.tso_prog.specs.Client.{client}
 use Rattle.tso_prog.specs.Clients.{ClientOf}
 use Rattle.tso_prog.specs.declared.client.Client.{Client}

@@ -2,10 +2,10 @@
 
 ghost use Rattle.std.specs.Prelude.{◌≡◌, ◌↔◌, All, IfNone, IfSome, IsTrue};
 ghost use Rattle.tso_client.specs.Headline.{DenotesChecked, EachRunIsGood, IsVerified};
-ghost use Rattle.tso_covers.specs.Clients.{ClientCovers};
+ghost use Rattle.tso_client.specs.Clients.{ClientCovers};
 ghost use Rattle.tso_survey.specs.Verified.{IsGoodText};
 
-use tso_covers::covers;
+use tso_client::covers;
 use tso_flow::Checked;
 
 /// The text of a client each of whose runs is good: ended or not, without a fault, and with an order that explains its calls.

@@ -1,4 +1,3 @@
-use Rattle.std.proofs.Common.{refl}
 use Rattle.tso_scan.proofs.halves.graft.Goals as goal
 
 pub returns : goal.returns
@@ -9,10 +8,10 @@ returns c =
       ends = end.0;
       long = end.1;
       middle = c.in-Some-2.middle;
+      rest = c.in-Some-2.rest.now;
       reads = rw c.in-Some-2.is at c.in_ok-middle.ensures;
-      meets = c.if-middle-right.false;
+      meets = c.if-rest-right.false;
       fits = c.in-Some-room_behind.ensures;
-      taken = c.in_ok-take_in.ensures c.if-not-branch.false;
-      same_ends = refl;
-      same_shape = refl;
+      client = c.in_ok-take_in.ensures.client;
+      taken = c.in_ok-take_in.ensures.taken c.if-not-branch.false;
     }

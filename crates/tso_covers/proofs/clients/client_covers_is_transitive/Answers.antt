@@ -1,5 +1,0 @@
-use Rattle.tso_covers.proofs.Reordered as lemmas
-use Rattle.tso_covers.proofs.clients.client_covers_is_transitive.Goals as goal
-
-pub returns : goal.returns
-returns c = lemmas.client_covers_is_transitive

@@ -1,5 +1,0 @@
-use Rattle.tso_covers.proofs.Reordered as lemmas
-use Rattle.tso_covers.proofs.clients.clients_cover_themselves.Goals as goal
-
-pub returns : goal.returns
-returns c = lemmas.clients_cover_themselves

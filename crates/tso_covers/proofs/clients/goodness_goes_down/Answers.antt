@@ -1,5 +1,0 @@
-use Rattle.tso_covers.proofs.Serving as lemmas
-use Rattle.tso_covers.proofs.clients.goodness_goes_down.Goals as goal
-
-pub returns : goal.returns
-returns c = lemmas.goodness_goes_down

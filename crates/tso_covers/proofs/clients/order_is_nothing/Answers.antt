@@ -1,5 +1,0 @@
-use Rattle.tso_covers.proofs.Reordered as lemmas
-use Rattle.tso_covers.proofs.clients.order_is_nothing.Goals as goal
-
-pub returns : goal.returns
-returns c = lemmas.order_is_nothing

@@ -1,6 +1,0 @@
-use Rattle.std.proofs.Common.{ℕ, ◌<◌}
-use Rattle.tso_covers.specs.Clients.{IsPlacedAt, place_in}
-use Rattle.tso_covers.proofs.covering.are_placed.Given as goal
-
-abbrev pub invariant-loop-i : goal.invariant-loop-i
-invariant-loop-i l = (k : ℕ) → k < l.i → IsPlacedAt (place_in l.places) l.small l.large k

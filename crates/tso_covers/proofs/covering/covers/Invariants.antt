@@ -1,6 +1,0 @@
-use Rattle.std.proofs.Common.{ℕ, ◌<◌}
-use Rattle.tso_covers.specs.Clients.{ArePlaced, place_in, places_of}
-use Rattle.tso_covers.proofs.covering.covers.Given as goal
-
-abbrev pub invariant-loop-code : goal.invariant-loop-code
-invariant-loop-code l = (k : ℕ) → k < l.code → ArePlaced (place_in (places_of k)) l.small l.large → ⊥

@@ -1,5 +1,0 @@
-use Rattle.tso_covers.proofs.Theorems as lemmas
-use Rattle.tso_covers.proofs.programs.covered_runs_are_good.Goals as goal
-
-pub returns : goal.returns
-returns g c = lemmas.covered_runs_are_good

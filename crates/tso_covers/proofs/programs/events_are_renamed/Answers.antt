@@ -1,5 +1,0 @@
-use Rattle.tso_covers.proofs.Theorems as lemmas
-use Rattle.tso_covers.proofs.programs.events_are_renamed.Goals as goal
-
-pub returns : goal.returns
-returns c = lemmas.events_are_renamed

@@ -1,5 +1,0 @@
-use Rattle.tso_covers.proofs.Theorems as lemmas
-use Rattle.tso_covers.proofs.programs.faults_are_renamed.Goals as goal
-
-pub returns : goal.returns
-returns c = lemmas.faults_are_renamed

@@ -1,5 +1,0 @@
-use Rattle.tso_covers.proofs.Looser as lemmas
-use Rattle.tso_covers.proofs.programs.looser_objects_serve.Goals as goal
-
-pub returns : goal.returns
-returns c = lemmas.looser_objects_serve

@@ -1,5 +1,0 @@
-use Rattle.tso_covers.proofs.Theorems as lemmas
-use Rattle.tso_covers.proofs.programs.programs_cover_themselves.Goals as goal
-
-pub returns : goal.returns
-returns g c = lemmas.programs_cover_themselves

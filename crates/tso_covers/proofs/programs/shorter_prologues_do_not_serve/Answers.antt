@@ -1,5 +1,0 @@
-use Rattle.tso_covers.proofs.Prologues as lemmas
-use Rattle.tso_covers.proofs.programs.shorter_prologues_do_not_serve.Goals as goal
-
-pub returns : goal.returns
-returns c = lemmas.shorter_prologues_do_not_serve

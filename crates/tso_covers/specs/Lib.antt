@@ -1,6 +1,0 @@
-pub mod Clients
-pub mod Covering
-pub mod Goodness
-pub mod Prologues
-pub mod Renamings
-pub mod Served

@@ -1,5 +1,0 @@
-use Rattle.std.proofs.Common.{refl}
-use Rattle.tso_scan.proofs.halves.read_place.Goals as goal
-
-pub returns : goal.returns
-returns c = record { rest = c.in-Some.rest.now; behind = refl; reads = rw c.in-Some.is at c.in_ok-key.ensures }
