@@ -9,7 +9,7 @@ use tso_flow::Checked;
 use tso_machine::{Label, LabelKind, thread_count};
 
 /// What was met.
-#[derive(Clone, Copy, Debug)]
+#[derive(Clone, Copy)]
 pub struct Met {
     /// How many states, with their histories.
     pub states: usize,

@@ -8,7 +8,7 @@ use tso_machine::ApplyError;
 use tso_store::{AddError, Refused};
 
 /// Why a call is not made, or not made to its end.
-#[derive(Clone, Copy, Debug, PartialEq, Eq)]
+#[derive(Clone, Copy, PartialEq, Eq)]
 pub enum Failure {
     /// A growth was refused.
     Memory,

@@ -11,7 +11,7 @@ use tso_flow::Checked;
 use tso_machine::{ApplyError, Core, Label, Machine, Running, Thread, apply, initial, undo};
 
 // How far labels are taken.
-#[derive(Clone, Copy, Debug)]
+#[derive(Clone, Copy)]
 struct Walked {
     // How many of them are steps.
     taken: usize,

@@ -45,7 +45,7 @@ use std::sync::Wait;
 use std::thread::Threads;
 
 // How the cases of a file are found.
-#[derive(Clone, Copy, Debug)]
+#[derive(Clone, Copy)]
 struct Counts {
     cases: u64,
     differing: u64,

@@ -93,7 +93,9 @@ fn verdict(alloc: Global, checked: &Checked, bytes: &[u8]) -> Result<Verdict, Al
     ensures { IfOk result (IsVerdict checked.now.client bytes.now) }
 {
     let scanned = scan(alloc, checked, bytes)?;
-    verdict_on(alloc, checked, &scanned, bytes)
+    let found = verdict_on(alloc, checked, &scanned, bytes);
+    drop(scanned);
+    found
 }
 
 /// The verdict on bytes as a certificate for a client: accepted exactly where they are a valid one; else the first condition
@@ -204,7 +206,11 @@ fn verdict_with<R: Threads + Wait + Sync, W: Watch + Sync>(
 {
     let told = Told { rt, watch };
     match scan_with(rt, alloc, checked, bytes, workers.count())? {
-        Some(scanned) => decide_stored_with(rt, alloc, checked, &scanned, workers, &told),
+        Some(scanned) => {
+            let found = decide_stored_with(rt, alloc, checked, &scanned, workers, &told);
+            drop(scanned);
+            found
+        }
         None => decide_bytes_with(rt, alloc, checked, bytes, workers, &told),
     }
 }

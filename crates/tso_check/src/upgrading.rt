@@ -217,7 +217,9 @@ fn upgraded_of(alloc: Global, checked: &Checked, bytes: &[u8]) -> Result<Renewed
     ensures refused { IfErr result (IsNotRenewed checked.now.client bytes.now) }
 {
     let scanned = scan(alloc, checked, bytes)?;
-    upgraded_by(alloc, checked, &scanned, bytes)
+    let renewed = upgraded_by(alloc, checked, &scanned, bytes);
+    drop(scanned);
+    renewed
 }
 
 // The same of a certificate that `check` accepts for the client of a text; else why not.

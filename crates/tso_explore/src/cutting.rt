@@ -143,9 +143,11 @@ fn tree_of(
     }
     let (low, high) = numbers.split_at(numbers.len() / 2);
     let left = tree_of(alloc, checked, table, store, recorder, ends, low)?;
-    let middle = state_at(alloc, store, high[0])?;
+    let left = Box::new(alloc, left)?;
     let right = tree_of(alloc, checked, table, store, recorder, ends, high)?;
-    Ok(Cert::Fork(Box::new(alloc, left)?, middle, Box::new(alloc, right)?))
+    let right = Box::new(alloc, right)?;
+    let middle = state_at(alloc, store, high[0])?;
+    Ok(Cert::Fork(left, middle, right))
 }
 
 /// The records of these states as a tree: one leaf of up to 64, or a fork whose left half has half of them, rounded down, and
@@ -233,9 +235,9 @@ impl<'a> Task for Uncut<'a> {
         first: Cert,
         second: Cert,
     ) -> Result<Cert, AllocError> {
-        let middle = state_at(self.alloc, self.store, right.numbers[0])?;
         let first = Box::new(self.alloc, first)?;
         let second = Box::new(self.alloc, second)?;
+        let middle = state_at(self.alloc, self.store, right.numbers[0])?;
         Ok(Cert::Fork(first, middle, second))
     }
 }

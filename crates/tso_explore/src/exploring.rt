@@ -46,11 +46,16 @@ pub fn started<'a>(alloc: Global, checked: &'a Checked) -> Result<Store<'a>, All
     ensures states { IfOk result (λ store. IsStarted checked.now.client store.states) }
     ensures room { IfOk result (λ store. store.kept ≤ 8) }
 {
-    let mut store = Store::new(alloc, checked, 0);
     let state = initial_state(alloc, checked)?;
-    match store.add(&state) {
+    let mut store = Store::new(alloc, checked, 0);
+    let added = store.add(&state);
+    drop(state);
+    match added {
         Ok(_) => Ok(store),
-        Err(AddError::Memory) => Err(AllocError),
+        Err(AddError::Memory) => {
+            drop(store);
+            Err(AllocError)
+        }
         Err(AddError::Misfit) => unreachable!(),
         Err(AddError::Full) => unreachable!(),
     }
@@ -131,7 +136,9 @@ fn hunted(alloc: Global, checked: &Checked, table: &Table) -> Result<Option<Trac
 {
     let mut store = started(alloc, checked)?;
     let mut origins = Vec::new(alloc);
-    hunted_from(alloc, checked, table, &mut store, &mut origins)
+    let found = hunted_from(alloc, checked, table, &mut store, &mut origins);
+    drop(store);
+    found
 }
 
 // The shorter of two traces; the first where none is.
@@ -143,8 +150,10 @@ fn shorter(one: Trace, other: Option<Trace>) -> Trace
     match other {
         Some(other) => {
             if other.labels.len() < one.labels.len() {
+                drop(one);
                 other
             } else {
+                drop(other);
                 one
             }
         }
@@ -467,6 +476,24 @@ fn found_early<R: Wait, W: Watch>(
     Ok(found)
 }
 
+// The least closed table of footprints, and a store with the initial state.
+fn begun<'a>(alloc: Global, checked: &'a Checked) -> Result<(Table, Store<'a>), AllocError>
+    ensures closed { IfOk result (λ b. IsClosed checked.now.client b.0) }
+    ensures least { IfOk result (λ b. IsLeastClosed checked.now.client b.0) }
+    ensures client { IfOk result (λ b. b.1.client ≡ checked.now.client) }
+    ensures states { IfOk result (λ b. IsStarted checked.now.client b.1.states) }
+    ensures room { IfOk result (λ b. b.1.kept ≤ 8) }
+{
+    let table = build(alloc, checked)?;
+    match started(alloc, checked) {
+        Ok(store) => Ok((table, store)),
+        Err(reason) => {
+            drop(table);
+            Err(reason)
+        }
+    }
+}
+
 // What the first states and hunts find, where there is memory.
 fn found_first<'c, R: Wait, W: Watch>(
     rt: &R,
@@ -478,18 +505,29 @@ fn found_first<'c, R: Wait, W: Watch>(
     requires { limit ≤ 4194304 }
     ensures { IfOk result (λ found. IfSome found (IsFinding checked.now.client limit)) }
 {
-    let table = build(alloc, checked)?;
-    let mut store = started(alloc, checked)?;
+    let made = begun(alloc, checked)?;
+    let (table, mut store) = made;
     if store.len() > limit as usize {
         store.states_differ();
+        drop(store);
+        drop(table);
         return Ok(Some(Finding::LimitReached));
     }
-    match found_early(rt, alloc, checked, &table, &mut store, limit, watch)? {
-        Some(ended) => {
+    match found_early(rt, alloc, checked, &table, &mut store, limit, watch) {
+        Ok(Some(ended)) => {
             let finding = finding_of(alloc, checked, table, store, ended, limit)?;
             Ok(Some(finding))
         }
-        None => Ok(None),
+        Ok(None) => {
+            drop(store);
+            drop(table);
+            Ok(None)
+        }
+        Err(reason) => {
+            drop(store);
+            drop(table);
+            Err(reason)
+        }
     }
 }
 
@@ -508,12 +546,18 @@ fn worked_out<'c>(
     requires limit { limit ≤ 4194304 }
     ensures { IfOk result (IsFinding checked.now.client limit) }
 {
-    let numbers = store.rising(alloc)?;
-    Ok(Finding::Worked(Worked {
-        table,
-        store,
-        numbers,
-    }))
+    match store.rising(alloc) {
+        Ok(numbers) => Ok(Finding::Worked(Worked {
+            table,
+            store,
+            numbers,
+        })),
+        Err(reason) => {
+            drop(store);
+            drop(table);
+            Err(reason)
+        }
+    }
 }
 
 // What a search found that stopped early.
@@ -544,7 +588,11 @@ fn finding_of<'c>(
 {
     match ended {
         Ended::Worked => worked_out(alloc, checked, table, store, limit),
-        Ended::Early(why) => Ok(finding_for(checked, why, limit)),
+        Ended::Early(why) => {
+            drop(store);
+            drop(table);
+            Ok(finding_for(checked, why, limit))
+        }
     }
 }
 
@@ -559,14 +607,22 @@ fn explored<'c, R: Wait, W: Watch>(
     requires { limit ≤ 4194304 }
     ensures { IfOk result (IsFinding checked.now.client limit) }
 {
-    let table = build(alloc, checked)?;
-    let mut store = started(alloc, checked)?;
+    let made = begun(alloc, checked)?;
+    let (table, mut store) = made;
     if store.len() > limit as usize {
         store.states_differ();
+        drop(store);
+        drop(table);
         return Ok(Finding::LimitReached);
     }
-    let ended = found_from(rt, alloc, checked, &table, &mut store, limit, watch)?;
-    finding_of(alloc, checked, table, store, ended, limit)
+    match found_from(rt, alloc, checked, &table, &mut store, limit, watch) {
+        Ok(ended) => finding_of(alloc, checked, table, store, ended, limit),
+        Err(reason) => {
+            drop(store);
+            drop(table);
+            Err(reason)
+        }
+    }
 }
 
 // More states than the limit are reached, where the store has them with this one.
@@ -678,8 +734,15 @@ fn gathered<'a, R: Threads + Wait + Sync, W: Watch + Sync>(
     ensures begun { IfOk result (λ r. HasBegun checked.now.client r.0.states) }
 {
     let (tables, ending) = search_together(rt, alloc, checked, table, workers, limit, watch)?;
-    let store = merged(alloc, checked, table, tables.as_slice())?;
-    Ok((store, ending))
+    let merged = merged(alloc, checked, table, tables.as_slice());
+    drop(tables);
+    match merged {
+        Ok(store) => Ok((store, ending)),
+        Err(reason) => {
+            drop(ending);
+            Err(reason)
+        }
+    }
 }
 
 // What several workers find; `None` where one has to search alone.
@@ -696,16 +759,30 @@ fn explored_together<'c, R: Threads + Wait + Sync, W: Watch + Sync>(
     ensures { IfOk result (λ found. IfSome found (IsFinding checked.now.client limit)) }
 {
     let table = build(alloc, checked)?;
-    let (store, ending) = gathered(rt, alloc, checked, &table, workers, limit, watch)?;
-    let mut store = store;
+    let (mut store, ending) = match gathered(rt, alloc, checked, &table, workers, limit, watch) {
+        Ok(found) => found,
+        Err(reason) => {
+            drop(table);
+            return Err(reason);
+        }
+    };
     match found_together(
         rt, alloc, checked, &table, &mut store, ending, workers, limit,
-    )? {
-        Some(ended) => {
+    ) {
+        Ok(Some(ended)) => {
             let finding = finding_of(alloc, checked, table, store, ended, limit)?;
             Ok(Some(finding))
         }
-        None => Ok(None),
+        Ok(None) => {
+            drop(store);
+            drop(table);
+            Ok(None)
+        }
+        Err(reason) => {
+            drop(store);
+            drop(table);
+            Err(reason)
+        }
     }
 }
 
@@ -804,12 +881,17 @@ fn certificate_of<R: Threads + Sync>(
         Ok(cert) => {
             let Worked {
                 table,
-                store: _store,
-                numbers: _numbers,
+                store,
+                numbers,
             } = worked;
+            drop(store);
+            drop(numbers);
             Outcome::Certificate(table, cert)
         }
-        Err(_) => Outcome::NoMemory,
+        Err(_) => {
+            drop(worked);
+            Outcome::NoMemory
+        }
     }
 }
 

@@ -14,7 +14,7 @@ use tso_list::Seq;
 use tso_prog::{Address, Client, Code, Instruction, LockedOperation, Procedure, Register, Step};
 
 /// A change of a text.
-#[derive(Debug, Drop)]
+#[derive(Drop)]
 pub enum Change {
     /// What stands on this line is taken back.
     Back { line: usize, form: Form },
@@ -23,7 +23,7 @@ pub enum Change {
 }
 
 /// Lines by their numbers: `line 12`; `lines 9, 14`.
-#[derive(Clone, Copy, Debug)]
+#[derive(Clone, Copy)]
 pub struct Lines<'a>(pub &'a [usize]);
 
 impl fmt::Display for Lines<'_> {
@@ -54,7 +54,7 @@ impl fmt::Display for Change {
 }
 
 /// Why a change is not tried.
-#[derive(Clone, Copy, Debug, PartialEq, Eq)]
+#[derive(Clone, Copy, PartialEq, Eq)]
 pub enum Reason {
     /// The plain form of an exchange does not give the old value, which is read.
     OldIsRead,
@@ -82,21 +82,21 @@ impl fmt::Display for Reason {
 }
 
 /// A text with a change, or why there is none.
-#[derive(Debug, Drop)]
+#[derive(Drop)]
 pub enum Attempt {
     Text(Vec<u8>),
     Untried(Reason),
 }
 
 /// The lines in place of an instruction, or why there are none.
-#[derive(Debug, Drop)]
+#[derive(Drop)]
 enum Plain {
     Lines(Vec<Seq<u8>>),
     Not(Reason),
 }
 
 /// A text that is changed, its client, and which of its procedures can run beside which.
-#[derive(Clone, Copy, Debug)]
+#[derive(Clone, Copy)]
 pub struct Author<'a> {
     pub text: &'a [u8],
     pub client: &'a Client,

@@ -8,7 +8,7 @@ use tso_prog::Client;
 use tso_survey::{Asking, Bounds, Calls, listed};
 
 /// Which procedures can run beside which, in two threads.
-#[derive(Clone, Copy, Debug, PartialEq, Eq)]
+#[derive(Clone, Copy, PartialEq, Eq)]
 pub struct Company {
     pushes: bool,
     pops: bool,
@@ -64,7 +64,7 @@ impl Company {
 }
 
 /// The clients of a survey.
-#[derive(Debug, Drop)]
+#[derive(Drop)]
 pub struct Surveyed<'a> {
     /// Those that are searched.
     pub calls: Vec<Calls>,
@@ -93,7 +93,7 @@ impl<'a> Surveyed<'a> {
 }
 
 /// The clients that are asked about.
-#[derive(Debug, Drop)]
+#[derive(Drop)]
 pub enum Clients<'a> {
     /// That of the text.
     Own,

@@ -169,7 +169,7 @@ fn go_on<R: Threads + Wait + Sync, D: Finder, S: Session>(
 }
 
 /// Which client has a run that is not good, with the text as it stands.
-#[derive(Debug, Drop)]
+#[derive(Drop)]
 pub enum Wrong {
     /// That of the text.
     Own,
@@ -178,7 +178,7 @@ pub enum Wrong {
 }
 
 /// What was said of fences.
-#[derive(Debug, Drop)]
+#[derive(Drop)]
 pub struct Fenced {
     /// The status with which the process is to end.
     pub status: u8,

@@ -6,7 +6,7 @@ use tso_list::Seq;
 use tso_prog::{Address, Client, Register};
 
 /// A locked instruction: its cell as a text has it, and its register.
-#[derive(Debug, Drop)]
+#[derive(Drop)]
 pub struct Locked {
     pub cell: String,
     pub register: Register,

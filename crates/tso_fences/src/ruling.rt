@@ -6,7 +6,7 @@ use std::fmt;
 use tso_survey::{Calls, Decided};
 
 /// What is found of the clients that are asked about.
-#[derive(Debug, Drop)]
+#[derive(Drop)]
 pub enum Ruling {
     /// Of the text's own client.
     Own(Decided),
@@ -17,7 +17,7 @@ pub enum Ruling {
 }
 
 /// What that says of a text.
-#[derive(Clone, Copy, Debug, PartialEq, Eq)]
+#[derive(Clone, Copy, PartialEq, Eq)]
 pub enum Standing {
     /// All runs of all clients are good.
     Right,

@@ -6,7 +6,7 @@ use tso_flow::ProcedureKind;
 use tso_prog::{Client, Instruction, LockedOperation, Procedure, Step};
 
 /// What an instruction is that can be taken back.
-#[derive(Clone, Copy, Debug, PartialEq, Eq)]
+#[derive(Clone, Copy, PartialEq, Eq)]
 pub enum Form {
     Fence,
     Locked(LockedOperation),
@@ -25,7 +25,7 @@ impl fmt::Display for Form {
 }
 
 /// An instruction that can be taken back.
-#[derive(Clone, Copy, Debug)]
+#[derive(Clone, Copy)]
 pub struct Site {
     pub kind: ProcedureKind,
     /// Where it stands among the instructions of its procedure.

@@ -9,7 +9,7 @@ use std::alloc::{AllocError, Global};
 use tso_front::{Failure, Session};
 
 /// What the changes have come to.
-#[derive(Debug, Drop)]
+#[derive(Drop)]
 pub struct Tally {
     /// How many instructions are needed.
     needed: usize,

@@ -7,7 +7,7 @@ use std::alloc::{AllocError, Global};
 use tso_front::Failure;
 
 /// Changes of a text, each with the reason why it is not tried, if it is not, and the texts of the others in the same order.
-#[derive(Debug, Drop)]
+#[derive(Drop)]
 pub struct Trials {
     pub changes: Vec<(Change, Option<Reason>)>,
     pub texts: Vec<Vec<u8>>,

@@ -11,7 +11,7 @@ const BEFORE: &str =
     "--before is 0 to 4, how many pushes a prologue has at most, where --survey stands beside it\n";
 
 /// What is asked: of which text, of which clients, and how many fences may be added.
-#[derive(Clone, Copy, Debug)]
+#[derive(Clone, Copy)]
 pub struct Fences<'a> {
     pub program: &'a str,
     /// What stands in place of the text's calls, where its own client is asked about.

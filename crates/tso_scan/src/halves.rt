@@ -110,15 +110,6 @@ fn half_of<'c>(alloc: Global, checked: &'c Checked, scan: Scan, twig: Twig) -> H
     Half { store, records }
 }
 
-// Lets go of what was read.
-fn release(_scan: Scan) {}
-
-// Lets go of a tree.
-fn release_half(_half: Half<'_>) {}
-
-// Lets go of the halves of a fork, of which one is taken apart.
-fn release_halves(_store: Store<'_>, _records: Records, _second: Half<'_>) {}
-
 // The tree at the front of the bytes. `None` where there is none, where a state does not fit the client or stands in two records, or
 // where a fork's state is not the first one of its right half.
 fn read_half<'c>(
@@ -135,11 +126,11 @@ fn read_half<'c>(
     match read_twig(&mut scan, client, alloc, depth, room, bytes) {
         Ok(Some(twig)) => Ok(Some(half_of(alloc, checked, scan, twig))),
         Ok(None) => {
-            release(scan);
+            drop(scan);
             Ok(None)
         }
         Err(reason) => {
-            release(scan);
+            drop(scan);
             Err(reason)
         }
     }
@@ -294,10 +285,8 @@ fn fork_of(alloc: Global, first: Records, second: Records, room: u32) -> Result<
 fn records_of(half: Half<'_>) -> Records
     ensures { result ≡ half.entry.records }
 {
-    let Half {
-        store: _store,
-        records,
-    } = half;
+    let Half { store, records } = half;
+    drop(store);
     records
 }
 
@@ -311,8 +300,13 @@ fn half_with<'c>(
 ) -> Result<Half<'c>, AllocError>
     ensures { IfOk result (λ h. (h.store ≡ store.entry) × IsForkOf first second room h.records) }
 {
-    let records = fork_of(alloc, first, second, room)?;
-    Ok(Half { store, records })
+    match fork_of(alloc, first, second, room) {
+        Ok(records) => Ok(Half { store, records }),
+        Err(reason) => {
+            drop(store);
+            Err(reason)
+        }
+    }
 }
 
 // The tree at the front of the bytes, from what was read of its halves; where that does not fit together, it is read by this thread
@@ -336,11 +330,15 @@ fn read_joined<'c>(
             Ok(Some(half))
         }
         Ok(None) => {
-            release_halves(store, records, second);
+            drop(store);
+            drop(records);
+            drop(second);
             read_alone(whole)
         }
         Err(reason) => {
-            release_halves(store, records, second);
+            drop(store);
+            drop(records);
+            drop(second);
             match reason {
                 Refused::Memory => Err(AllocError),
                 Refused::Full => Ok(None),
@@ -403,15 +401,14 @@ impl<'c, 'b> Task for Unread<'c, 'b> {
         first: Option<Half<'c>>,
         second: Option<Half<'c>>,
     ) -> Result<Option<Half<'c>>, AllocError> {
-        match first {
-            Some(first) => match second {
-                Some(second) => read_joined(self, left, right, first, second),
-                None => {
-                    release_half(first);
-                    read_alone(self)
-                }
-            },
-            None => read_alone(self),
-        }
+        let Some(first) = first else {
+            drop(second);
+            return read_alone(self);
+        };
+        let Some(second) = second else {
+            drop(first);
+            return read_alone(self);
+        };
+        read_joined(self, left, right, first, second)
     }
 }

@@ -42,9 +42,6 @@ impl<'a> Scanned<'a> {
     }
 }
 
-// Lets go of what was read.
-fn release(_table: Table, _half: Half<'_>) {}
-
 // The certificate of a table and a tree that was read.
 fn put_together<'c>(table: Table, half: Half<'c>) -> Scanned<'c>
     ensures { IsOfHalf table half.entry result }
@@ -72,7 +69,8 @@ fn learned<'c>(table: Table, half: Half<'c>) -> Result<Scanned<'c>, AllocError>
     match half.store.learn() {
         Ok(()) => Ok(put_together(table, half)),
         Err(reason) => {
-            release(table, half);
+            drop(table);
+            drop(half);
             Err(reason)
         }
     }
@@ -83,7 +81,8 @@ fn scanned_of<'c>(table: Table, half: Half<'c>) -> Result<Option<Scanned<'c>>, A
     ensures { (c : Client) (bytes : List ℕ) → IsTreeRead (stretch_of c 64 4194304 bytes) half.entry → IfOk result (λ o. IfSome o (IsScannedBehind c table bytes)) }
 {
     if half.records.behind != 0 {
-        release(table, half);
+        drop(table);
+        drop(half);
         return Ok(None);
     }
     let scanned = learned(table, half)?;

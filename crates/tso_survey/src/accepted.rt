@@ -9,7 +9,7 @@ use tso_client::covers;
 use tso_flow::Checked;
 
 /// The text of a client each of whose runs is good: ended or not, without a fault, and with an order that explains its calls.
-#[derive(Debug, Drop)]
+#[derive(Drop)]
 pub struct Accepted {
     text: Vec<u8>,
     checked: Checked,

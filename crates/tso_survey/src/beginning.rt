@@ -6,14 +6,14 @@ use crate::shape::{Shape, lengthen};
 use std::alloc::{AllocError, Global};
 
 /// A thread of the larger client, and how many of its calls are taken.
-#[derive(Clone, Copy, Debug, PartialEq, Eq, PartialOrd, Ord)]
+#[derive(Clone, Copy, PartialEq, Eq, PartialOrd, Ord)]
 pub struct Taken {
     pub word: usize,
     pub calls: usize,
 }
 
 /// The first calls of the threads of a client that the bounds admit no larger one than.
-#[derive(Debug, Drop)]
+#[derive(Drop)]
 pub struct Beginning {
     /// By the words of the larger client, in rising order.
     pub threads: Vec<Taken>,

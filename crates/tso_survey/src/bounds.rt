@@ -9,7 +9,7 @@ use std::fmt;
 pub const CLIENT_CALLS: usize = 12;
 
 /// How large the clients of a survey are at the most.
-#[derive(Clone, Copy, Debug, PartialEq, Eq)]
+#[derive(Clone, Copy, PartialEq, Eq)]
 pub struct Bounds {
     /// How many threads, 1 to 4.
     pub threads: usize,
@@ -57,7 +57,7 @@ impl Bounds {
 }
 
 /// How large a client is.
-#[derive(Clone, Copy, Debug, PartialEq, Eq)]
+#[derive(Clone, Copy, PartialEq, Eq)]
 pub struct Size {
     threads: usize,
     calls: usize,

@@ -7,7 +7,7 @@ use std::fmt;
 use tso_front::Variant;
 
 /// The calls of a client, as `--before` and `--client` take them.
-#[derive(Debug, Drop)]
+#[derive(Drop)]
 pub struct Calls {
     /// Those of the prologue; empty where there is none.
     pub before: String,
@@ -16,7 +16,7 @@ pub struct Calls {
 }
 
 /// Which pushes have a value of their own.
-#[derive(Clone, Copy, Debug, PartialEq, Eq)]
+#[derive(Clone, Copy, PartialEq, Eq)]
 pub enum Numbering {
     /// Those of the larger client.
     Larger,

@@ -7,7 +7,7 @@ use std::alloc::Global;
 use tso_front::Failure;
 
 /// Clients, and the texts that they are the clients of.
-#[derive(Debug, Drop)]
+#[derive(Drop)]
 pub struct Cases {
     pub calls: Vec<Calls>,
     pub texts: Vec<Vec<u8>>,

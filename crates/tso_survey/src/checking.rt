@@ -18,7 +18,7 @@ use tso_front::{
 };
 
 /// Which certificate is decided, for which program, by how many workers.
-#[derive(Clone, Copy, Debug)]
+#[derive(Clone, Copy)]
 pub struct Check<'a> {
     pub program: &'a str,
     pub variant: Variant<'a>,

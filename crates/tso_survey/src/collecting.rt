@@ -20,7 +20,7 @@ use tso_trace::{Trace, TraceFault};
 const TRACE_BYTES: usize = 64 * 1024 * 1024;
 
 /// Decides clients by the certificates and traces that a folder has, and trusts none of them.
-#[derive(Clone, Copy, Debug)]
+#[derive(Clone, Copy)]
 pub struct Collector<'a> {
     pub folder: &'a str,
     /// How many workers check a certificate.

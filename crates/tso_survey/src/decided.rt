@@ -10,7 +10,7 @@ use tso_front::number_or_null;
 use tso_trace::{TraceFault, Violation};
 
 /// What is said of one client of a survey.
-#[derive(Debug, Drop)]
+#[derive(Drop)]
 pub enum Decided {
     /// All its runs are good, by a certificate of so many records, if they were counted.
     Accepted {

@@ -9,7 +9,7 @@ use std::thread::Threads;
 use tso_front::{Failure, Session};
 
 /// What is found of a client, and the bytes of its certificate or trace, if they are to be written.
-#[derive(Debug, Drop)]
+#[derive(Drop)]
 pub struct Finding {
     pub decided: Decided,
     pub bytes: Option<Vec<u8>>,

@@ -6,14 +6,14 @@ use std::alloc::{AllocError, Global};
 pub const THREAD_CALLS: usize = 4;
 
 /// What a call does.
-#[derive(Clone, Copy, Debug, PartialEq, Eq)]
+#[derive(Clone, Copy, PartialEq, Eq)]
 pub enum Method {
     Push,
     Pop,
 }
 
 /// The calls of a thread, in order.
-#[derive(Debug, Drop)]
+#[derive(Drop)]
 pub struct Word {
     pub methods: Vec<Method>,
 }
@@ -39,7 +39,7 @@ impl Word {
 }
 
 /// All words, the longest first, and those that push earlier before those that pop.
-#[derive(Debug, Drop)]
+#[derive(Drop)]
 pub struct Words {
     pub words: Vec<Word>,
 }

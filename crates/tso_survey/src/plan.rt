@@ -9,7 +9,7 @@ use std::alloc::{AllocError, Global};
 use std::cmp::Reverse;
 
 /// A client that a survey asks about.
-#[derive(Debug, Drop)]
+#[derive(Drop)]
 pub struct Asked {
     /// How many pushes its prologue has.
     pub before: u32,
@@ -62,7 +62,7 @@ impl Asked {
 }
 
 /// The clients that a survey asks about.
-#[derive(Debug, Drop)]
+#[derive(Drop)]
 pub struct Plan {
     pub words: Words,
     /// Those that the bounds admit no larger one than, the largest first: they are searched.

@@ -5,7 +5,7 @@ use crate::method::{Method, Words};
 use std::alloc::{AllocError, Global};
 
 /// The numbers of the words of a client's threads, in rising order.
-#[derive(Debug, Drop)]
+#[derive(Drop)]
 pub struct Shape {
     pub threads: Vec<usize>,
 }

@@ -522,7 +522,7 @@ fn check_program(alloc: Global, base: &[u8]) -> Result<(), Failure> {
 }
 
 /// What a survey has come to.
-#[derive(Debug, Drop)]
+#[derive(Drop)]
 pub struct Conclusion {
     /// The status with which the process is to end.
     pub status: u8,

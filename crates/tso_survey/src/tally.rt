@@ -9,7 +9,7 @@ use std::alloc::{AllocError, Global};
 use tso_front::{Failure, Session};
 
 /// A client that has a run that is not good.
-#[derive(Debug, Drop)]
+#[derive(Drop)]
 pub struct Violated {
     pub calls: Calls,
     /// How many calls it has.

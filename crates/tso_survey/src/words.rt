@@ -7,14 +7,14 @@ use std::fmt;
 use tso_front::{Failure, json_argument, misused, program_argument, with_flag, with_option};
 
 /// Which of the clients that are searched are taken: those whose numbers, from 0, leave `part` when divided by `parts`.
-#[derive(Clone, Copy, Debug, PartialEq, Eq)]
+#[derive(Clone, Copy, PartialEq, Eq)]
 pub struct Part {
     pub part: usize,
     pub parts: usize,
 }
 
 /// What a survey asks about, of which text, and where its files lie.
-#[derive(Clone, Copy, Debug)]
+#[derive(Clone, Copy)]
 pub struct Asking<'a> {
     pub program: &'a str,
     pub bounds: Bounds,

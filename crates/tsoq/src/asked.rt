@@ -6,7 +6,7 @@ use tso_front::{Failure, Variant, read_apart, variant_of, with_flag, with_option
 use tso_show::Show;
 
 /// Which trace is replayed, and what is shown of it.
-#[derive(Clone, Copy, Debug)]
+#[derive(Clone, Copy)]
 pub struct Replay<'a> {
     pub program: &'a str,
     pub variant: Variant<'a>,

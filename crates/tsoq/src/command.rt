@@ -20,7 +20,7 @@ use tso_say::{Topic, find};
 use tso_survey::{Check, cert_argument, check_arguments, check_of, workers_argument, workers_of};
 
 /// What is searched, how far, and where what is found is written.
-#[derive(Clone, Copy, Debug)]
+#[derive(Clone, Copy)]
 pub struct Search<'a> {
     pub program: &'a str,
     pub variant: Variant<'a>,
@@ -48,7 +48,7 @@ impl Search<'_> {
 }
 
 /// What the words ask for.
-#[derive(Debug, Drop)]
+#[derive(Drop)]
 pub enum Asked<'a> {
     /// Help, or the version.
     Help(Ended),
@@ -73,7 +73,7 @@ pub enum Asked<'a> {
 }
 
 /// What the words ask for, and whether it is to be said in words, behind the promised lines, why.
-#[derive(Debug, Drop)]
+#[derive(Drop)]
 pub struct Request<'a> {
     pub asked: Asked<'a>,
     pub verbose: bool,

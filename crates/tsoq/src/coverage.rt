@@ -22,7 +22,7 @@ Status:
   64  the words are none of these";
 
 /// Which certificate's records are counted, and what is shown.
-#[derive(Clone, Copy, Debug)]
+#[derive(Clone, Copy)]
 pub struct Covering<'a> {
     pub check: Check<'a>,
     /// Whether the program's text is printed as well, with a mark at each line.

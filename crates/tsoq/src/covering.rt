@@ -13,19 +13,32 @@ use tso_cert::decode;
 use tso_check::Verdict;
 use tso_client::checked_of;
 use tso_coverage::{Facts, facts_object, listed, marked, told};
+use tso_flow::Checked;
 use tso_front::{Failure, Session, misused};
 use tso_survey::{Check, put_verdict, verdict_on};
 
 const PLAIN: &str = "--json has the marks of all lines, and goes without --source\n";
 
+// What the records of a certificate of this client show.
+fn facts_with(alloc: Global, checked: &Checked, cert: &[u8]) -> Result<Facts, Failure> {
+    match decode(alloc, cert) {
+        Ok((table, cert)) => {
+            drop(table);
+            let facts = Facts::counted(alloc, &checked.client, &cert);
+            drop(cert);
+            Ok(facts?)
+        }
+        Err(_) => Err(Failure::Memory),
+    }
+}
+
 // What the records of an accepted certificate show. Such a certificate is read, and its program too, so nothing but memory can be
 // wanting.
 fn facts_of(alloc: Global, program: &[u8], cert: &[u8]) -> Result<Facts, Failure> {
     let checked = checked_of(alloc, program)?;
-    match decode(alloc, cert) {
-        Ok((_, cert)) => Ok(Facts::counted(alloc, &checked.client, &cert)?),
-        Err(_) => Err(Failure::Memory),
-    }
+    let facts = facts_with(alloc, &checked, cert);
+    drop(checked);
+    facts
 }
 
 // Prints what the records show.

@@ -13,7 +13,7 @@ use tso_front::{Failure, Session};
 use tso_survey::{asking_of, workers_argument, workers_of};
 
 /// What is asked about fences, by how many workers, and how many states a search may meet.
-#[derive(Clone, Copy, Debug)]
+#[derive(Clone, Copy)]
 pub struct FenceSearch<'a> {
     pub fences: Fences<'a>,
     /// The survey that a search of clients belongs to; it writes no files.

@@ -6,7 +6,7 @@ ghost use Rattle.std.specs.Prelude.{◌≡◌, ◌≤◌, ◌↔◌, IfSome, IsT
 pub const MOST_STATES: u64 = 4_194_304;
 
 /// How many states a search may meet, 1 to 4,194,304.
-#[derive(Clone, Copy, Debug)]
+#[derive(Clone, Copy)]
 pub struct StateLimit {
     count: u32,
     ghost within: { count ≤ 4194304 },

@@ -15,7 +15,7 @@ use tso_rec::Packed;
 use tso_state::{Core, State, Viewed};
 
 /// A register of a thread whose word is not in the interval that the table has at the thread's next instruction.
-#[derive(Clone, Copy, Debug)]
+#[derive(Clone, Copy)]
 pub struct Outside {
     thread: usize,
     procedure: ProcedureKind,

@@ -12,7 +12,7 @@ use tso_front::{Failure, Variant, program_argument, variant_arguments, variant_o
 use tso_say::parsed;
 
 /// A program text that is to be parsed, and whether its canonical text is printed.
-#[derive(Clone, Copy, Debug)]
+#[derive(Clone, Copy)]
 pub struct Parsing<'a> {
     pub program: &'a str,
     pub variant: Variant<'a>,

@@ -26,7 +26,7 @@ const OTHER_CLIENT: &str =
     "Was it made with `--client`, `--before` or `--mode`? Then it is of that client, and not of the text's own: give the same words here.\n";
 
 // The files of a command: the program, and the other one.
-#[derive(Clone, Copy, Debug)]
+#[derive(Clone, Copy)]
 struct Paths<'a> {
     program: &'a str,
     other: &'a str,

@@ -75,7 +75,7 @@ impl<'a, L: Listener> Progress<'a, L> {
 
 /// The parts of a search's time: until its last state was left, until its certificate or trace was composed, and until that
 /// was written.
-#[derive(Clone, Copy, Debug)]
+#[derive(Clone, Copy)]
 pub struct Times {
     searched: Duration,
     composed: Duration,
@@ -126,7 +126,7 @@ fn milliseconds(time: Duration) -> u64 {
 }
 
 /// How far a search has come, as it is printed.
-#[derive(Clone, Copy, Debug)]
+#[derive(Clone, Copy)]
 pub struct Distance {
     pub found: u64,
     pub left: u64,

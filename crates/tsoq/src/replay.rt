@@ -143,6 +143,28 @@ fn walked<'a>(alloc: Global, trace: &'a Trace, to: usize) -> Result<Cursor<'a>, 
     Ok(cursor)
 }
 
+// Prints the labels of a trace up to label `to`, the state after them, which the cursor is at, and at the end what is wrong.
+fn put_replay<S: Session>(
+    session: &mut S,
+    trace: &Trace,
+    cursor: &Cursor<'_>,
+    to: usize,
+) -> Result<(), Failure> {
+    put_labels(session, trace, to)?;
+    put_state_after(
+        session,
+        trace.checked.client.arrays.as_slice(),
+        cursor.machine(),
+        to,
+    )?;
+    if to == trace.labels.len() {
+        let wrong = Wrong(trace.violation()).to_string(session.alloc())?;
+        session.print(wrong.as_str())?;
+        session.print("\n")?;
+    }
+    Ok(())
+}
+
 /// Prints the labels of a trace up to label `to`, or all, the state after them, and at the end what is wrong with the run.
 pub fn print_replay<S: Session>(
     session: &mut S,
@@ -155,17 +177,7 @@ pub fn print_replay<S: Session>(
         None => len,
     };
     let cursor = walked(session.alloc(), trace, to)?;
-    put_labels(session, trace, to)?;
-    put_state_after(
-        session,
-        trace.checked.client.arrays.as_slice(),
-        cursor.machine(),
-        to,
-    )?;
-    if to == len {
-        let wrong = Wrong(trace.violation()).to_string(session.alloc())?;
-        session.print(wrong.as_str())?;
-        session.print("\n")?;
-    }
-    Ok(())
+    let done = put_replay(session, trace, &cursor, to);
+    drop(cursor);
+    done
 }

@@ -11,7 +11,7 @@ use tso_front::number_or_null;
 use tso_trace::Violation;
 
 /// What is wrong with a run, as it is printed.
-#[derive(Clone, Copy, Debug, PartialEq, Eq)]
+#[derive(Clone, Copy, PartialEq, Eq)]
 pub struct Wrong(pub Violation);
 
 impl fmt::Display for Wrong {
@@ -82,7 +82,7 @@ fn violated_object(
 }
 
 /// What a search found, and what was written of it.
-#[derive(Clone, Copy, Debug)]
+#[derive(Clone, Copy)]
 pub enum Report {
     /// Every run is good: a certificate of so many records, in so many bytes if it was written.
     Certified {
@@ -158,7 +158,7 @@ impl fmt::Display for Report {
 }
 
 /// How much was met and written, as it is printed.
-#[derive(Clone, Copy, Debug)]
+#[derive(Clone, Copy)]
 pub struct Sizes {
     report: Option<Report>,
     states: u64,

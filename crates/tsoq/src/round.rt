@@ -35,7 +35,7 @@ pub struct Round<'a> {
 }
 
 /// What is found of the client with this number.
-#[derive(Debug, Drop)]
+#[derive(Drop)]
 pub struct Done {
     pub number: usize,
     pub finding: Finding,

@@ -56,7 +56,39 @@ fn put_run<S: Session>(
     print_run(session, checked, program, run, asked)
 }
 
-// The page is written first: where a file fails, nothing was printed.
+// Prints what is asked of a run. The page is written first: where a file fails, nothing was printed.
+fn put_replayed<S: Session>(
+    session: &mut S,
+    checked: &Checked,
+    program: &[u8],
+    run: &Replayed,
+    asked: &Replay<'_>,
+    verbose: bool,
+) -> Result<(), Failure> {
+    write_page(session, checked, program, run, asked)?;
+    put_run(session, checked, program, run, asked)?;
+    if let (true, Replayed::Erring(trace)) = (verbose, run) {
+        session.flush()?;
+        tell_cause(session, trace);
+    }
+    Ok(())
+}
+
+// The same of a trace of this client.
+fn replay_by<S: Session>(
+    session: &mut S,
+    checked: &Checked,
+    texts: &Texts,
+    asked: &Replay<'_>,
+    verbose: bool,
+) -> Result<(), Failure> {
+    let alloc = session.alloc();
+    let run = run_of(alloc, checked, &texts.trace, TRACE_BYTES, asked.partial)?;
+    let done = put_replayed(session, checked, &texts.program, &run, asked, verbose);
+    drop(run);
+    done
+}
+
 fn replay<S: Session>(
     session: &mut S,
     texts: &mut Texts,
@@ -66,19 +98,9 @@ fn replay<S: Session>(
     texts.program = session.read_variant(asked.program, &asked.variant)?;
     texts.trace = session.read(asked.trace, TRACE_BYTES + 1)?;
     let checked = checked_of(session.alloc(), &texts.program)?;
-    let run = run_of(
-        session.alloc(),
-        &checked,
-        &texts.trace,
-        TRACE_BYTES,
-        asked.partial,
-    )?;
-    write_page(session, &checked, &texts.program, &run, asked)?;
-    put_run(session, &checked, &texts.program, &run, asked)?;
-    if let (true, Replayed::Erring(trace)) = (verbose, &run) {
-        session.flush()?;
-        tell_cause(session, trace);
-    }
+    let done = replay_by(session, &checked, texts, asked, verbose);
+    drop(checked);
+    done?;
     Ok(0)
 }
 

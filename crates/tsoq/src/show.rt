@@ -7,6 +7,7 @@ use crate::report::Wrong;
 use std::alloc::Global;
 use tso_flow::Checked;
 use tso_front::{Failure, Out, Session};
+use tso_prog::Array;
 use tso_show::{
     Replayed, ShowError, Walk, print_brief, print_calls, print_labels, print_order, read_run,
 };
@@ -80,8 +81,29 @@ fn put_calls<S: Session>(session: &mut S, walk: &Walk<'_>) -> Result<(), Failure
     print_order(alloc, &mut out, walk).map_err(|error| show_failure(&error))
 }
 
-// Prints the labels of a run up to label `to`, or all, with what is shown of each, and the state after them; at the end what
-// is wrong; and its calls, where they are asked for.
+// Prints the labels of a run up to label `to` with what is shown of each, and the state after them; at the end what is wrong; and its
+// calls, where they are asked for.
+fn put_shown<S: Session>(
+    session: &mut S,
+    walk: &mut Walk<'_>,
+    arrays: &[Array],
+    source: &[u8],
+    run: &Replayed,
+    asked: &Replay<'_>,
+    to: usize,
+) -> Result<(), Failure> {
+    put_labels(session, walk, source, asked, to)?;
+    put_state_after(session, arrays, walk.machine(), to)?;
+    if to == run.labels().len() {
+        put_wrong(session, run.violation())?;
+    }
+    if asked.history {
+        put_calls(session, walk)?;
+    }
+    Ok(())
+}
+
+// The same, up to the label that is asked for, or of all.
 fn print_shown<S: Session>(
     session: &mut S,
     checked: &Checked,
@@ -95,20 +117,10 @@ fn print_shown<S: Session>(
         None => labels.len(),
     };
     let mut walk = Walk::new(session.alloc(), checked, labels)?;
-    put_labels(session, &mut walk, source, asked, to)?;
-    put_state_after(
-        session,
-        checked.client.arrays.as_slice(),
-        walk.machine(),
-        to,
-    )?;
-    if to == labels.len() {
-        put_wrong(session, run.violation())?;
-    }
-    if asked.history {
-        put_calls(session, &walk)?;
-    }
-    Ok(())
+    let arrays = checked.client.arrays.as_slice();
+    let done = put_shown(session, &mut walk, arrays, source, run, asked, to);
+    drop(walk);
+    done
 }
 
 /// Prints a run with all that is asked for. Where nothing is asked for, and something is wrong, it is `print_replay`.

@@ -20,7 +20,7 @@ use tso_survey::{
 const ROUND: usize = 16;
 
 /// What a survey asks about, by how many workers, and how many states a search may meet.
-#[derive(Clone, Copy, Debug)]
+#[derive(Clone, Copy)]
 pub struct Survey<'a> {
     pub asking: Asking<'a>,
     pub workers: Workers,

@@ -16,7 +16,7 @@ use tso_front::{
 use tso_survey::cert_argument;
 
 /// Which certificate is upgraded, for which program, and where the new one is written.
-#[derive(Clone, Copy, Debug)]
+#[derive(Clone, Copy)]
 pub struct Upgrading<'a> {
     pub program: &'a str,
     pub variant: Variant<'a>,

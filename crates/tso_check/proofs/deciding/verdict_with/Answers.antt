@@ -4,12 +4,12 @@ use Rattle.tso_check.proofs.deciding.verdict_with.Goals as goal
 use Rattle.tso_check.specs.Spans.{IsVerdictOn}
 use Rattle.tso_check.specs.Verdicts.{IsVerdict}
 
-pub decide_stored_with-requires-clause-stored : goal.decide_stored_with-requires-clause-stored
-decide_stored_with-requires-clause-stored g c = λ k within. stored_of c.args.checked.now.client c.args.bytes.now c.in-Some.scanned (rw c.in-Some.is at c.in_ok-scanned.ensures)
+pub decide_stored_with-found-requires-clause-stored : goal.decide_stored_with-found-requires-clause-stored
+decide_stored_with-found-requires-clause-stored g c = λ k within. stored_of c.args.checked.now.client c.args.bytes.now c.in-Some.scanned (rw c.in-Some.is at c.in_ok-scanned.ensures)
 
 pub returns-in-Some : goal.returns-in-Some
 returns-in-Some g c =
     let client = c.args.checked.now.client in
     let bytes = c.args.bytes.now in
     let found = rw c.in-Some.is at c.in_ok-scanned.ensures in
-    if_ok (IsVerdictOn client c.in-Some.scanned) (IsVerdict client bytes) c.decide_stored_with.result (λ v on. stored_verdict client bytes c.in-Some.scanned v found on) c.decide_stored_with.ensures
+    if_ok (IsVerdictOn client c.in-Some.scanned) (IsVerdict client bytes) c.decide_stored_with-found.result (λ v on. stored_verdict client bytes c.in-Some.scanned v found on) c.decide_stored_with-found.ensures

@@ -5,5 +5,5 @@ use Rattle.tso_explore.proofs.exploring.found_first.Goals as goal
 pub returns-then-len-limit : goal.returns-then-len-limit
 returns-then-len-limit g c =
     let client = c.args.checked.now.client in
-    let states = c.in_ok-store.store.states in
-    more_than client c.args.limit states [] (begun_first client states c.in_ok-store.ensures.states) c.states_differ.ensures (omega (arith, c.len.ensures, c.if-len-limit.true))
+    let states = c.in_ok-made.made.1.states in
+    more_than client c.args.limit states [] (begun_first client states c.in_ok-made.ensures.states) c.states_differ.ensures (omega (arith, c.len.ensures, c.if-len-limit.true))
