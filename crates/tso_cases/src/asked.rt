@@ -36,7 +36,9 @@ pub fn is_kept(
     let Some(copy) = store.state(alloc, number)? else {
         return Err(Failure::Difference);
     };
-    ensure(is_same(&copy, state))?;
+    let is_copy = is_same(&copy, state);
+    drop(copy);
+    ensure(is_copy)?;
     let Some(view) = store.view(number) else {
         return Err(Failure::Difference);
     };
@@ -150,6 +152,11 @@ pub fn ask_step(
         ask_disabled(alloc, store, number, actor)?;
         return Ok(None);
     };
-    let at = ask_next(alloc, store, number, state, actor, &next)?;
-    Ok(Some((at, next)))
+    match ask_next(alloc, store, number, state, actor, &next) {
+        Ok(at) => Ok(Some((at, next))),
+        Err(failure) => {
+            drop(next);
+            Err(failure)
+        }
+    }
 }

@@ -111,11 +111,13 @@ fn ask(
     }
     let text = behind(call, ":");
     let state = state_after(alloc, checked, before(text, "/"))?;
-    if word(call, 0).starts_with("chosen") {
+    let put = if word(call, 0).starts_with("chosen") {
         put_chosen(alloc, checked, table, &state, out)
     } else {
         put_reasons(alloc, checked, table, &state, behind(text, "/"), out)
-    }
+    };
+    drop(state);
+    put
 }
 
 // A table of intervals for no states but those that calls begin with, and all that follow from these.
@@ -151,6 +153,8 @@ pub fn answer(
         _ => return Ok(false),
     }
     let table = table_of(alloc, checked, call)?;
-    ask(alloc, checked, &table, call, out)?;
+    let asked = ask(alloc, checked, &table, call, out);
+    drop(table);
+    asked?;
     Ok(true)
 }

@@ -38,12 +38,19 @@ fn go_to_start(alloc: Global, cursor: &mut Cursor<'_>, seen: &[String]) -> Resul
     ensure(!cursor.back())
 }
 
+// Goes to the end and back from the start. How many labels there are.
+fn walk_along(alloc: Global, cursor: &mut Cursor<'_>) -> Result<usize, Failure> {
+    let seen = go_forward(alloc, cursor)?;
+    go_to_start(alloc, cursor, &seen)?;
+    Ok(seen.len())
+}
+
 // Goes to the end and back. How many labels there are.
 fn walk(alloc: Global, trace: &Trace) -> Result<usize, Failure> {
     let mut cursor = Cursor::new(alloc, trace)?;
-    let seen = go_forward(alloc, &mut cursor)?;
-    go_to_start(alloc, &mut cursor, &seen)?;
-    Ok(seen.len())
+    let count = walk_along(alloc, &mut cursor);
+    drop(cursor);
+    count
 }
 
 // Writes the violation of a trace, and how many labels it has.
@@ -62,7 +69,11 @@ fn put_trace(
 ) -> Result<(), Failure> {
     let labels = labels_of(alloc, behind(call, ":"))?;
     match Trace::from_labels(alloc, checked, labels) {
-        Ok(trace) => put_walk(alloc, &trace, out),
+        Ok(trace) => {
+            let put = put_walk(alloc, &trace, out);
+            drop(trace);
+            put
+        }
         Err(TraceFault::Memory) => Err(Failure::Memory),
         Err(fault) => Ok(write!(out, "{fault}")?),
     }

@@ -75,8 +75,13 @@ fn end_of(alloc: Global, text: &str) -> Result<End, Failure> {
 // The record of a state and an end.
 fn record_in(alloc: Global, checked: &Checked, state: &str, end: &str) -> Result<Record, Failure> {
     let state = state_in(alloc, checked, state)?;
-    let end = end_of(alloc, end)?;
-    Ok(Record { state, end })
+    match end_of(alloc, end) {
+        Ok(end) => Ok(Record { state, end }),
+        Err(failure) => {
+            drop(state);
+            Err(failure)
+        }
+    }
 }
 
 // These two records, of which the first has the lesser state.
@@ -168,10 +173,27 @@ fn put_code(
     requires { IsOrdered (tree_of cert.now) }
 {
     let table = build(alloc, checked)?;
-    match judge(alloc, checked, &table, cert, found)? {
+    let judged = judge(alloc, checked, &table, cert, found);
+    drop(table);
+    match judged? {
         Some(code) => Ok(write!(out, "{code}")?),
         None => Ok(out.push_str("none")?),
     }
+}
+
+// The same of a record beside another one.
+fn put_among(
+    alloc: Global,
+    checked: &Checked,
+    found: &Record,
+    between: &str,
+    other: &Record,
+    out: &mut String,
+) -> Result<(), Failure> {
+    let cert = cert_of(alloc, checked, found, between, other)?;
+    let put = put_code(alloc, checked, &cert, found, out);
+    drop(cert);
+    put
 }
 
 // The same of a record beside that of another state.
@@ -184,8 +206,9 @@ fn put_beside(
     out: &mut String,
 ) -> Result<(), Failure> {
     let other = record_in(alloc, checked, state, "order")?;
-    let cert = cert_of(alloc, checked, found, between, &other)?;
-    put_code(alloc, checked, &cert, found, out)
+    let put = put_among(alloc, checked, found, between, &other, out);
+    drop(other);
+    put
 }
 
 // The same of the record that a text tells: its state, the other state, its end.
@@ -198,7 +221,9 @@ fn put_found(
 ) -> Result<(), Failure> {
     let rest = behind(text, "/");
     let found = record_in(alloc, checked, before(text, "/"), behind(rest, "/"))?;
-    put_beside(alloc, checked, &found, between, before(rest, "/"), out)
+    let put = put_beside(alloc, checked, &found, between, before(rest, "/"), out);
+    drop(found);
+    put
 }
 
 /// Judges a record of a client, in a certificate of it and of another state: a leaf, or a fork on a state between them. Whether the

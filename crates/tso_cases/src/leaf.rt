@@ -58,7 +58,9 @@ fn judged_in_own(
     let mut own = Packed::new(alloc);
     own.push(found)?;
     let cert = Cert::Leaf(own);
-    judged_in(alloc, checked, table, &cert, found)
+    let judged = judged_in(alloc, checked, table, &cert, found);
+    drop(cert);
+    judged
 }
 
 // Writes how many parts a record keeps of its own, and what is found of it, by itself and as the only one.
@@ -109,7 +111,9 @@ fn put_leaf(
     out: &mut String,
 ) -> Result<(), Failure> {
     let leaf = Packed::from_records(alloc, records)?;
-    put_all(alloc, checked, table, &leaf, records, call, out)
+    let put = put_all(alloc, checked, table, &leaf, records, call, out);
+    drop(leaf);
+    put
 }
 
 // The same of a certificate that is one leaf.
@@ -136,6 +140,20 @@ fn ask_spelled(alloc: Global, table: &Table, cert: &Cert, bytes: &[u8]) -> Resul
     ensure(spelled.as_slice() == bytes)
 }
 
+// The same of a certificate that is spelled so.
+fn put_spelled(
+    alloc: Global,
+    checked: &Checked,
+    table: &Table,
+    cert: &Cert,
+    bytes: &[u8],
+    call: &str,
+    out: &mut String,
+) -> Result<(), Failure> {
+    ask_spelled(alloc, table, cert, bytes)?;
+    put_cert(alloc, checked, table, cert, call, out)
+}
+
 // The same of a certificate that is read.
 fn put_decoded(
     alloc: Global,
@@ -149,8 +167,10 @@ fn put_decoded(
         Err(DecodeError::Memory) => return Err(Failure::Memory),
         Err(DecodeError::Fault(_)) => return Err(Failure::Unreadable),
     };
-    ask_spelled(alloc, &table, &cert, bytes)?;
-    put_cert(alloc, checked, &table, &cert, call, out)
+    let put = put_spelled(alloc, checked, &table, &cert, bytes, call, out);
+    drop(cert);
+    drop(table);
+    put
 }
 
 /// Writes what is found of the records of a certificate for a program, and which records have the states that a case tells.
@@ -162,5 +182,7 @@ pub fn put_records(
     out: &mut String,
 ) -> Result<(), Failure> {
     let checked = client_of(alloc, program)?;
-    put_decoded(alloc, &checked, bytes, call, out)
+    let put = put_decoded(alloc, &checked, bytes, call, out);
+    drop(checked);
+    put
 }

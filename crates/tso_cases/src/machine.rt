@@ -108,7 +108,9 @@ fn walk_from_start(
     others: &[Label],
 ) -> Result<Walked, Failure> {
     let mut machine = initial(alloc, checked)?;
-    walk(alloc, checked, &mut machine, labels, others)
+    let walked = walk(alloc, checked, &mut machine, labels, others);
+    drop(machine);
+    walked
 }
 
 // Takes the labels of a case, and tries those behind the bar.
@@ -167,6 +169,19 @@ fn put_machine(machine: &Machine, out: &mut String) -> Result<(), AllocError> {
     Ok(())
 }
 
+// Writes the machine after these labels.
+fn put_behind(
+    alloc: Global,
+    checked: &Checked,
+    machine: &mut Machine,
+    labels: &[Label],
+    out: &mut String,
+) -> Result<(), Failure> {
+    take_all(alloc, checked, machine, labels)?;
+    put_machine(machine, out)?;
+    Ok(())
+}
+
 // Writes the machine after the labels of a case.
 fn put_after(
     alloc: Global,
@@ -176,9 +191,9 @@ fn put_after(
 ) -> Result<(), Failure> {
     let labels = labels_of(alloc, behind(call, ":"))?;
     let mut machine = initial(alloc, checked)?;
-    take_all(alloc, checked, &mut machine, &labels)?;
-    put_machine(&machine, out)?;
-    Ok(())
+    let put = put_behind(alloc, checked, &mut machine, &labels, out);
+    drop(machine);
+    put
 }
 
 /// Makes a call on the machine of a client. Whether the case is one.

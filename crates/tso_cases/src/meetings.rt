@@ -1,5 +1,7 @@
 //! Several workers who check one certificate or search one client together, of whom one is held until another has come.
 
+ghost use Rattle.std.specs.Prelude.{◌≤◌};
+
 use crate::failure::{Failure, ensure};
 use crate::input::client_of;
 use crate::meeting::Meeting;
@@ -10,7 +12,7 @@ use tso_cert::{NoWatch, Watch, Workers};
 use tso_check::{CheckError, Verdict, check, check_client, check_with};
 use tso_explore::{Outcome, explore};
 use tso_flow::Checked;
-use tso_foot::build;
+use tso_foot::{Table as Footprints, build};
 use tso_pool::{Ending, search};
 use tso_table::Table;
 
@@ -86,7 +88,9 @@ pub fn put_check_client(
     out: &mut String,
 ) -> Result<(), Failure> {
     let checked = client_of(alloc, program)?;
-    let verdict = check_client(alloc, &checked, cert)?;
+    let verdict = check_client(alloc, &checked, cert);
+    drop(checked);
+    let verdict = verdict?;
     Ok(write!(out, "{verdict}")?)
 }
 
@@ -111,7 +115,7 @@ pub fn put_two_check<R: Threads + Wait + Sync>(
 }
 
 // The name of an outcome.
-fn name_of(outcome: Outcome) -> Result<&'static str, Failure> {
+fn name_of(outcome: &Outcome) -> Result<&'static str, Failure> {
     match outcome {
         Outcome::Certificate(..) => Ok("a certificate"),
         Outcome::Trace(_) => Ok("a trace"),
@@ -131,7 +135,9 @@ pub fn put_two_search<R: Threads + Wait + Sync>(
         meeting: Meeting::new(),
     };
     let outcome = explore(rt, alloc, checked, workers_of(2)?, 4_194_304, &watch);
-    out.push_str(name_of(outcome)?)?;
+    let name = name_of(&outcome);
+    drop(outcome);
+    out.push_str(name?)?;
     ensure(watch.meeting.is_held())
 }
 
@@ -149,7 +155,9 @@ pub fn put_search<R: Threads + Wait + Sync>(
     }
     let workers = workers_of(workers)?;
     let outcome = explore(rt, alloc, checked, workers, limit as u32, &NoWatch);
-    out.push_str(name_of(outcome)?)?;
+    let name = name_of(&outcome);
+    drop(outcome);
+    out.push_str(name?)?;
     Ok(())
 }
 
@@ -162,6 +170,42 @@ fn sums_of(tables: &[Table<'_>]) -> (u64, u64, u64) {
         calls = calls.saturating_add(table.log_len());
     }
     (states, open, calls)
+}
+
+// Why they end.
+fn why_of(ending: &Ending) -> Result<&'static str, Failure> {
+    match ending {
+        Ending::Quiet => Ok("quiet"),
+        Ending::Astray => Ok("astray"),
+        Ending::Full(_) => Ok("full"),
+        Ending::Violation(_) => Ok("a violation"),
+        Ending::Memory => Err(Failure::Memory),
+    }
+}
+
+// Lets so many workers search, from 1 to 64 of them, and writes how that ends.
+fn put_together<R: Threads + Wait + Sync>(
+    rt: &R,
+    alloc: Global,
+    checked: &Checked,
+    footprints: &Footprints,
+    workers: u64,
+    limit: u32,
+    out: &mut String,
+) -> Result<(), Failure>
+    requires { (1 ≤ workers) × (workers ≤ 64) }
+{
+    let (tables, ending) = search(rt, alloc, checked, footprints, workers, limit, &NoWatch)?;
+    let (states, open, calls) = sums_of(&tables);
+    drop(tables);
+    let why = why_of(&ending);
+    drop(ending);
+    let why = why?;
+    write!(
+        out,
+        "{states} states, {open} not done, {calls} calls, {why}"
+    )?;
+    Ok(())
 }
 
 /// So many workers with so many units: how many states were met, how many of them are not done, how many calls were made, and why
@@ -179,20 +223,9 @@ pub fn put_pool<R: Threads + Wait + Sync>(
     }
     let footprints = build(alloc, checked)?;
     let limit = units.min(4_194_304) as u32;
-    let (tables, ending) = search(rt, alloc, checked, &footprints, workers, limit, &NoWatch)?;
-    let (states, open, calls) = sums_of(&tables);
-    let why = match ending {
-        Ending::Quiet => "quiet",
-        Ending::Astray => "astray",
-        Ending::Full(_) => "full",
-        Ending::Violation(_) => "a violation",
-        Ending::Memory => return Err(Failure::Memory),
-    };
-    write!(
-        out,
-        "{states} states, {open} not done, {calls} calls, {why}"
-    )?;
-    Ok(())
+    let put = put_together(rt, alloc, checked, &footprints, workers, limit, out);
+    drop(footprints);
+    put
 }
 
 /// Whether there may be so many workers.

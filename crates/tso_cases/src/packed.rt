@@ -15,7 +15,9 @@ pub fn has_state(leaf: &Packed, number: usize, state: &State) -> Result<(), Fail
     requires { number < length leaf.now }
 {
     let own = leaf.state(number)?;
-    ensure(is_same(&own, state) && leaf.compare(number, state).is_eq())
+    let is_own = is_same(&own, state);
+    drop(own);
+    ensure(is_own && leaf.compare(number, state).is_eq())
 }
 
 // The number of the record of this state.
@@ -48,7 +50,9 @@ pub fn put_numbers(
 ) -> Result<(), Failure> {
     for names in items.split(';') {
         let state = state_after(alloc, checked, names)?;
-        put_number(leaf, &state, out)?;
+        let put = put_number(leaf, &state, out);
+        drop(state);
+        put?;
     }
     Ok(())
 }

@@ -166,12 +166,24 @@ fn word_of(thread: usize, calls: &[Call]) -> u64 {
 
 // Compares the searches on this history.
 fn compare_one(alloc: Global, rule: Rule, history: &History) -> Result<(), Failure> {
-    let found = linearize(alloc, history, rule.mode, rule.capacity)?;
     let is_expected = has_order(alloc, history, rule, &[], &[], 4)?;
+    let found = linearize(alloc, history, rule.mode, rule.capacity)?;
     ensure(found.is_some() == is_expected)?;
     match found {
         Some(order) => ensure(is_linearization(history, rule.mode, rule.capacity, &order)),
         None => Ok(()),
+    }
+}
+
+// The history with one more call.
+fn with_call(history: &History, thread: usize, kind: CallKind) -> Result<History, AllocError> {
+    let mut more = history.clone()?;
+    match more.on_call(thread, kind) {
+        Ok(()) => Ok(more),
+        Err(reason) => {
+            drop(more);
+            Err(reason)
+        }
     }
 }
 
@@ -200,8 +212,9 @@ fn compare(
                 let mut more = history.clone()?;
                 more.on_return(thread, *answer);
                 let next = Last::Return(thread);
-                let found = compare(alloc, rule, &more, next, calls_left, events_left - 1)?;
-                count = count.saturating_add(found);
+                let found = compare(alloc, rule, &more, next, calls_left, events_left - 1);
+                drop(more);
+                count = count.saturating_add(found?);
             }
         } else if calls_left > 0 {
             if let Last::Call(other) = last {
@@ -213,11 +226,11 @@ fn compare(
                 CallKind::Push(word_of(thread, calls.as_slice())),
                 CallKind::Pop,
             ] {
-                let mut more = history.clone()?;
-                more.on_call(thread, kind)?;
+                let more = with_call(history, thread, kind)?;
                 let next = Last::Call(thread);
-                let found = compare(alloc, rule, &more, next, calls_left - 1, events_left - 1)?;
-                count = count.saturating_add(found);
+                let found = compare(alloc, rule, &more, next, calls_left - 1, events_left - 1);
+                drop(more);
+                count = count.saturating_add(found?);
             }
         }
     }

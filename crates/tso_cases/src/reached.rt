@@ -17,10 +17,14 @@ pub struct Reached {
 impl Reached {
     /// Before any label.
     pub fn first(alloc: Global, checked: &Checked) -> Result<Reached, AllocError> {
-        Ok(Reached {
-            machine: initial(alloc, checked)?,
-            history: History::new(alloc, thread_count(&checked.client))?,
-        })
+        let history = History::new(alloc, thread_count(&checked.client))?;
+        match initial(alloc, checked) {
+            Ok(machine) => Ok(Reached { machine, history }),
+            Err(reason) => {
+                drop(history);
+                Err(reason)
+            }
+        }
     }
 
     /// Takes a label.
@@ -39,10 +43,26 @@ impl Reached {
     /// After these labels.
     pub fn after(alloc: Global, checked: &Checked, labels: &[Label]) -> Result<Reached, Failure> {
         let mut reached = Reached::first(alloc, checked)?;
-        for label in labels {
-            reached.take(alloc, checked, *label)?;
+        match reached.take_all(alloc, checked, labels) {
+            Ok(()) => Ok(reached),
+            Err(failure) => {
+                drop(reached);
+                Err(failure)
+            }
         }
-        Ok(reached)
+    }
+
+    // Takes these labels.
+    fn take_all(
+        &mut self,
+        alloc: Global,
+        checked: &Checked,
+        labels: &[Label],
+    ) -> Result<(), Failure> {
+        for label in labels {
+            self.take(alloc, checked, *label)?;
+        }
+        Ok(())
     }
 
     /// Whether an order explains the calls.

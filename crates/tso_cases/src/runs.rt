@@ -10,6 +10,16 @@ use tso_cert::{NoWatch, Workers};
 use tso_explore::{Outcome, explore};
 use tso_flow::Checked;
 
+// Whether a search has found a violation, and not a certificate.
+fn is_trace(outcome: &Outcome) -> Result<bool, Failure> {
+    match outcome {
+        Outcome::Certificate(..) => Ok(false),
+        Outcome::Trace(_) => Ok(true),
+        Outcome::LimitReached => Err(Failure::Difference),
+        Outcome::NoMemory => Err(Failure::Memory),
+    }
+}
+
 // Whether a search finds a violation, and not a certificate.
 fn is_violated<R: Threads + Wait + Sync>(
     rt: &R,
@@ -19,12 +29,10 @@ fn is_violated<R: Threads + Wait + Sync>(
     let Some(workers) = Workers::new(1) else {
         return Err(Failure::Memory);
     };
-    match explore(rt, alloc, checked, workers, 4_194_304, &NoWatch) {
-        Outcome::Certificate(..) => Ok(false),
-        Outcome::Trace(_) => Ok(true),
-        Outcome::LimitReached => Err(Failure::Difference),
-        Outcome::NoMemory => Err(Failure::Memory),
-    }
+    let outcome = explore(rt, alloc, checked, workers, 4_194_304, &NoWatch);
+    let told = is_trace(&outcome);
+    drop(outcome);
+    told
 }
 
 /// Writes how many states the runs of a client lead to, and whether one is not good. A search has to agree.

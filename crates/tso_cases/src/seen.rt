@@ -46,9 +46,23 @@ fn add_both(alloc: Global, store: &mut Store<'_>, one: &State, two: &State) -> R
     is_kept(alloc, store, first, one)
 }
 
+// The same of this state and of another one, in which two calls had returned.
+fn add_beside(
+    alloc: Global,
+    store: &mut Store<'_>,
+    state: &State,
+    one: &State,
+) -> Result<(), Failure> {
+    let two = with_seen(alloc, state, 2)?;
+    let added = add_both(alloc, store, one, &two);
+    drop(two);
+    added
+}
+
 /// Adds two states that differ in one count alone.
 pub fn ask_seen(alloc: Global, store: &mut Store<'_>, state: &State) -> Result<(), Failure> {
     let one = with_seen(alloc, state, 1)?;
-    let two = with_seen(alloc, state, 2)?;
-    add_both(alloc, store, &one, &two)
+    let added = add_beside(alloc, store, state, &one);
+    drop(one);
+    added
 }

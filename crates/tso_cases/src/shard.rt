@@ -266,7 +266,9 @@ fn act<U: Search, E: Ledger>(
     ensures parts { hand.new.share.parts ≡ hand.old.share.parts }
 {
     let kept = kept_after(bench.alloc, bench.checked, item.actors.as_slice())?;
-    act_on(bench, hand, store, &kept, item.call)
+    let reply = act_on(bench, hand, store, &kept, item.call);
+    drop(kept);
+    reply
 }
 
 // Makes these calls.
@@ -316,7 +318,9 @@ fn sums_in<U: Search, E: Ledger>(hand: Hand<'_, U, E>) -> Sums {
         budget,
         share: _share,
     } = hand;
-    sums_of(shard.table(), budget.given())
+    let sums = sums_of(shard.table(), budget.given());
+    drop(shard);
+    sums
 }
 
 // Makes calls on a shard of this number, with these ledgers of units and of entries.
@@ -403,7 +407,19 @@ fn put_replies(replies: &[Reply], sums: Sums, out: &mut String) -> Result<(), Fa
     )?)
 }
 
-// Makes the calls of a text on a shard of this number, with so many units, and writes the replies.
+// Makes calls on a shard of this number, with so many units, and writes the replies.
+fn put_calls(
+    bench: Bench<'_>,
+    number: u8,
+    limit: u32,
+    items: &[Item],
+    out: &mut String,
+) -> Result<(), Failure> {
+    let (replies, sums) = act_anew(bench, number, limit, items)?;
+    put_replies(&replies, sums, out)
+}
+
+// The same with the calls of a text.
 fn put_shard(
     alloc: Global,
     checked: &Checked,
@@ -412,15 +428,16 @@ fn put_shard(
     text: &str,
     out: &mut String,
 ) -> Result<(), Failure> {
-    let footprints = build(alloc, checked)?;
     let items = items_of(alloc, text)?;
+    let footprints = build(alloc, checked)?;
     let bench = Bench {
         alloc,
         checked,
         footprints: &footprints,
     };
-    let (replies, sums) = act_anew(bench, number, limit, &items)?;
-    put_replies(&replies, sums, out)
+    let put = put_calls(bench, number, limit, &items, out);
+    drop(footprints);
+    put
 }
 
 /// Makes calls on a shard of a client: its number, and how many units there are. Whether the case is one.

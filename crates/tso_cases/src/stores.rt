@@ -42,15 +42,25 @@ fn ask_twice(alloc: Global, store: &mut Store<'_>, first: &State) -> Result<(), 
 // The first state, which a store is asked for.
 fn ask_first(alloc: Global, checked: &Checked, store: &mut Store<'_>) -> Result<State, Failure> {
     let first = initial_state(alloc, checked)?;
-    ask_twice(alloc, store, &first)?;
-    Ok(first)
+    match ask_twice(alloc, store, &first) {
+        Ok(()) => Ok(first),
+        Err(failure) => {
+            drop(first);
+            Err(failure)
+        }
+    }
 }
 
 // All that is asked of one store, and how many states it has then.
 fn ask_all(alloc: Global, checked: &Checked, store: &mut Store<'_>) -> Result<usize, Failure> {
     let first = ask_first(alloc, checked, store)?;
-    ask_seen(alloc, store, &first)?;
-    walk(alloc, checked, store, first)?;
+    match ask_seen(alloc, store, &first) {
+        Ok(()) => walk(alloc, checked, store, first)?,
+        Err(failure) => {
+            drop(first);
+            return Err(failure);
+        }
+    }
     ask_rising(alloc, store)?;
     Ok(store.len())
 }
@@ -58,7 +68,9 @@ fn ask_all(alloc: Global, checked: &Checked, store: &mut Store<'_>) -> Result<us
 /// Walks through the states of a client, and writes how many were met.
 pub fn put_walk(alloc: Global, checked: &Checked, out: &mut String) -> Result<(), Failure> {
     let mut store = Store::new(alloc, checked, 7);
-    let states = ask_all(alloc, checked, &mut store)?;
+    let states = ask_all(alloc, checked, &mut store);
+    drop(store);
+    let states = states?;
     write!(out, "states: {states}")?;
     Ok(())
 }

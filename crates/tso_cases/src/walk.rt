@@ -125,8 +125,10 @@ pub fn walk(
         seed: 1,
     };
     for _ in 0..STEPS {
-        let drawn = ask_actors(alloc, checked, store, &walker)?;
-        walker = next_of(alloc, checked, drawn)?;
+        let drawn = ask_actors(alloc, checked, store, &walker);
+        drop(walker);
+        walker = next_of(alloc, checked, drawn?)?;
     }
+    drop(walker);
     Ok(())
 }

@@ -72,7 +72,7 @@ got_either (y ∷ xs) ys zero x e first second = first e
 got_either (y ∷ xs) ys (suc k) x e first second = got_either xs ys k x e first (λ j is at. second j (omega (arith, is)) at)
 
 -- there is an item at each place
-got : {X C : Type 0} (xs : List X) (k : ℕ) → k < length xs → ((x : X) → slice_get xs k ≡ Some x → C) → C
+pub got : {X C : Type 0} (xs : List X) (k : ℕ) → k < length xs → ((x : X) → slice_get xs k ≡ Some x → C) → C
 got [] k lt f = absurd (omega (arith, lt))
 got (x ∷ xs) zero lt f = f x refl
 got (x ∷ xs) (suc k) lt f = got xs k (omega (arith, lt)) f
@@ -162,7 +162,7 @@ recorded k states all n s e f same is at ends =
 pub no_records : (c : Client) (t : Table) (states : List State) → AreRecordsOf c t states [] []
 no_records c t states = record { count = refl; each = λ k n r at there. absurd (none-some n at) }
 
-both_records : (c : Client) (t : Table) (states : List State) (ns ms : List ℕ) (rs us : List Record) → AreRecordsOf c t states ns rs → AreRecordsOf c t states ms us → AreRecordsOf c t states (ns ++ ms) (rs ++ us)
+pub both_records : (c : Client) (t : Table) (states : List State) (ns ms : List ℕ) (rs us : List Record) → AreRecordsOf c t states ns rs → AreRecordsOf c t states ms us → AreRecordsOf c t states (ns ++ ms) (rs ++ us)
 both_records c t states ns ms rs us first second = record {
   count = length-append rs us ∙ (λ i. first.count i + second.count i) ∙ sym (length-append ns ms);
   each = λ k n r at there. got_either ns ms k n at
@@ -177,7 +177,7 @@ both_records c t states ns ms rs us first second = record {
       second.each i n r here (ap (slice_get us) (sym one) ∙ e)));
 }
 
-more_records : (c : Client) (t : Table) (states : List State) (ns : List ℕ) (rs : List Record) (n : ℕ) (r : Record) → AreRecordsOf c t states ns rs → IsRecordOf c t states n r → AreRecordsOf c t states (ns ++ n ∷ []) (rs ++ r ∷ [])
+pub more_records : (c : Client) (t : Table) (states : List State) (ns : List ℕ) (rs : List Record) (n : ℕ) (r : Record) → AreRecordsOf c t states ns rs → IsRecordOf c t states n r → AreRecordsOf c t states (ns ++ n ∷ []) (rs ++ r ∷ [])
 more_records c t states ns rs n r all one = both_records c t states ns (n ∷ []) rs (r ∷ []) all (record { count = refl; each = only })
   where
     only : (k m : ℕ) (u : Record) → slice_get (n ∷ []) k ≡ Some m → slice_get (r ∷ []) k ≡ Some u → IsRecordOf c t states m u
@@ -490,9 +490,10 @@ wider c n limit t tree le v = record { valid = v.valid; least = v.least; within 
 tree_has : (c : Client) (t : Table) (states : List State) (ns : List ℕ) (tree : Tree) → IsCut c t states ns tree → (k : ℕ) (s : State) → slice_get (tree_states tree) k ≡ Some s → (n : ℕ) × (slice_get states n ≡ Some s)
 tree_has c t states ns tree cut k s at = numbered_state c t states ns (records_of tree) k s cut.records at (λ n here there. (n, there))
 
-pub tree_of_worked : (c : Client) (w : Worked) (tree : Tree) → AreWorkedOut c w → IsNumbered w.store.states → CertificatesFit c → IsCut c w.table w.store.states w.numbers.items tree → IsTreeOf c w tree
-tree_of_worked c w tree out differ fit cut = record {
-  good = certificate_is_valid c (length w.store.states) w.table w.store.states w.numbers.items tree out.searched out.closed out.least out.rising differ cut (omega arith) out.few fit;
-  count = few_records c w.table w.store.states w.numbers.items tree out.rising differ cut;
-  states = tree_has c w.table w.store.states w.numbers.items tree cut;
+pub tree_of_worked : (c : Client) (w : Worked) (ns : List ℕ) (tree : Tree) → AreWorkedOut c w → orders.IsRising w.store.states ns → IsNumbered w.store.states → CertificatesFit c → IsCut c w.table w.store.states ns tree
+    → IsTreeOf c w tree
+tree_of_worked c w ns tree out rising differ fit cut = record {
+  good = certificate_is_valid c (length w.store.states) w.table w.store.states ns tree out.searched out.closed out.least rising differ cut (omega arith) out.few fit;
+  count = few_records c w.table w.store.states ns tree rising differ cut;
+  states = tree_has c w.table w.store.states ns tree cut;
 }

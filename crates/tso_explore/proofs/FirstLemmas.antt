@@ -1,12 +1,12 @@
 -- What the first states of a search tell.
-use Rattle.std.proofs.Common.{◌≡◌, ◌∙◌, ℕ, zero, suc, ◌<◌, ◌≤◌, Bool, true, false, List, [], ◌∷◌, length, Some, slice_get, refl, sym, ap, subst, arith}
+use Rattle.std.proofs.Common.{◌≡◌, ◌∙◌, ℕ, zero, suc, ◌<◌, ◌≤◌, ◌⊎◌, inl, inr, Bool, true, false, List, [], ◌∷◌, length, Some, slice_get, refl, sym, ap, subst, arith}
 use Rattle.std.specs.Prelude.{Err, IfOk, MatchBool, Ok, Result}
 use Rattle.std.proofs.lemmas.Option.{none-some, same_Some}
-use Rattle.tso_search.proofs.SearchLemmas.{begun_first, done_none, longer, searched_stays}
+use Rattle.tso_search.proofs.SearchLemmas.{all_searched, begun_first, done_none, longer, searched_stays}
 use Rattle.tso_explore.specs.Firsts.{IsFirstOf, IsFound, IsPaused}
 use Rattle.tso_search.specs.Goodness.{AllGood, IsGood}
 use Rattle.tso_search.specs.Reached.{IsBad, IsBadAt}
-use Rattle.tso_search.specs.Searched.{IsBegun, IsHunting, IsStarted}
+use Rattle.tso_search.specs.Searched.{AreSearched, IsBegun, IsHunting, IsSearched, IsStarted}
 use Rattle.tso_search.specs.Shortening.{IsShorter, IsTraceOf}
 use Rattle.tso_explore.specs.declared.first.First.{First}
 use Rattle.tso_explore.specs.declared.first.First.TheVariants as firsts
@@ -80,3 +80,18 @@ trace_of_shorter c long (Err e) is = tt
 pub when_true : (b : Bool) (P Q : Type 0) → MatchBool b P Q → b ≡ true → P
 when_true true P Q is e = is
 when_true false P Q is e = absurd (let clash : false ≡ true = e in cc)
+
+-- where a search has come to the last state, all are worked
+pub worked_to_end : (c : Client) (t : Table) (limit : ℕ) (states : List State) (origins : List Origin) (number : ℕ) → IsSearched c t states origins number → number ≤ length states → length states ≤ number → length states ≤ limit
+    → AreSearched c t states × (length states ≤ limit)
+worked_to_end c t limit states origins number searched low high few =
+    let same : number ≡ length states = omega (arith, low, high) in
+    (all_searched c t states origins (subst (IsSearched c t states origins) same searched), few)
+
+-- so they are where no pause ends it
+pub worked_without_pause : (c : Client) (t : Table) (limit : ℕ) (states : List State) (origins : List Origin) (number : ℕ) → IsSearched c t states origins number → number ≤ length states
+    → (length states ≤ number) ⊎ (4294967295 < length states) → length states ≤ limit → limit ≤ 4194304 → AreSearched c t states × (length states ≤ limit)
+worked_without_pause c t limit states origins number searched low over few small = elim over [
+  | inl high ↦ worked_to_end c t limit states origins number searched low high few
+  | inr more ↦ absurd (omega (arith, more, few, small))
+]

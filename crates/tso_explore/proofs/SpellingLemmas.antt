@@ -1,5 +1,6 @@
 -- Worked states that are spelled as the records of a tree.
 use Rattle.std.proofs.Common.{◌≡◌, ◌∙◌, ℕ, zero, suc, ◌+◌, ◌/◌, ◌<◌, ◌≤◌, List, [], ◌∷◌, ◌++◌, length, take, drop, get_or, Some, slice_get, refl, sym, ap, subst, append_assoc, arith}
+use Rattle.std.proofs.lemmas.Grind.{flat_map-append}
 use Rattle.std.proofs.lemmas.List.{append-nil, flat_map_more, length-append, length-drop, length-take}
 use Rattle.std.proofs.lemmas.Option.{none-some, same_Some}
 use Rattle.std.specs.List.{flat_map}
@@ -9,7 +10,7 @@ use Rattle.tso_code.specs.States.{state}
 use Rattle.tso_explore.proofs.CuttingLemmas.{all_numbers, from_drop, from_take, got_either, leaf_cut, leaf_more, no_records, strictly_rising}
 use Rattle.tso_explore.proofs.TaskLemmas.{cut_in_two, fork_of_halves}
 use Rattle.tso_explore.specs.Cutting.{AreRecordsOf, IsRecordOf}
-use Rattle.tso_explore.specs.Spelling.{AreRecorders, AreSpelledBehind, CanBeSpelled, IsForkSpelled, IsSpelledBehind, IsSpelledCut, IsStateBehind}
+use Rattle.tso_explore.specs.Spelling.{AreRecorders, AreSpelledBehind, CanBeSpelled, IsSpelledBehind, IsSpelledCut, IsStateBehind}
 use Rattle.tso_explore.specs.Tasks.{AreHalvesCut, CanBeCut, Numbered, uncut}
 use Rattle.tso_explore.specs.Worked.{AreWorkedOut}
 use Rattle.tso_explore.specs.declared.worked.Worked.{Worked}
@@ -19,6 +20,7 @@ use Rattle.tso_prog.specs.declared.client.Client.{Client}
 use Rattle.tso_rec.specs.Spelling.{a_record}
 use Rattle.tso_rec.specs.declared.record.Record.{Record}
 use Rattle.tso_state.specs.declared.state.State.{State}
+use Rattle.tso_store.specs.Orders.{IsRising}
 
 -- ---- leaves
 
@@ -70,15 +72,24 @@ fork_behind u left right o a b d e ready halves one first middle second =
           ∙ append_assoc o (1 ∷ []) (L ++ (S ++ R));
     }
 
--- the bytes of a fork, put together
-pub fork_bytes : (states : List State) (n : ℕ) (l r z a b d e : List ℕ) → z ≡ [] → a ≡ z ++ 1 ∷ [] → b ≡ a ++ l → IsStateBehind states n b d → e ≡ d ++ r → IsForkSpelled states n l r e
-fork_bytes states n l r z a b d e none one first middle last = record {
-  middle = middle.spelled;
-  at = middle.at;
-  is =
-      last ∙ ap (λ (w : List ℕ). w ++ r) (middle.is ∙ ap (λ (w : List ℕ). w ++ state middle.spelled) (first ∙ ap (λ (w : List ℕ). w ++ l) (one ∙ ap (λ (w : List ℕ). w ++ 1 ∷ []) none)))
-      ∙ ap (λ (w : List ℕ). 1 ∷ w) (append_assoc l (state middle.spelled) r);
-}
+-- the pieces of a fork, put together
+pub fork_pieces : {V : Type 0} (items : V → List ℕ) (z a b d e low high : List V) (front middle : V) → z ≡ [] → a ≡ z ++ front ∷ [] → items front ≡ 1 ∷ [] → b ≡ a ++ low → d ≡ b ++ middle ∷ [] → e ≡ d ++ high
+    → flat_map items e ≡ 1 ∷ (flat_map items low ++ (items middle ++ flat_map items high))
+fork_pieces items z a b d e low high front middle none one byte first mid last =
+    let L = flat_map items low in
+    let H = flat_map items high in
+    let fronts : a ≡ front ∷ [] = one ∙ ap (λ l. l ++ front ∷ []) none in
+    let whole : e ≡ ((front ∷ low) ++ middle ∷ []) ++ high = last ∙ ap (λ l. l ++ high) (mid ∙ ap (λ l. l ++ middle ∷ []) (first ∙ ap (λ l. l ++ low) fronts)) in
+    ap (flat_map items) whole
+    ∙ flat_map-append items ((front ∷ low) ++ middle ∷ []) high
+    ∙ ap (λ (l : List ℕ). l ++ H) (flat_map-append items (front ∷ low) (middle ∷ []) ∙ ap (λ (l : List ℕ). (items front ++ L) ++ l) (append-nil (items middle)) ∙ ap (λ (l : List ℕ). (l ++ L) ++ items middle) byte)
+    ∙ ap (λ (l : List ℕ). 1 ∷ l) (append_assoc L (items middle) H)
+
+-- the pieces of a leaf, or of what one thread has spelled
+pub one_piece : {V : Type 0} (items : V → List ℕ) (u : Numbered) (z a : List V) (bytes : V) → z ≡ [] → a ≡ z ++ bytes ∷ [] → IsSpelledCut u (items bytes) → IsSpelledCut u (flat_map items a)
+one_piece items u z a bytes none one is =
+    let whole : flat_map items a ≡ items bytes = ap (flat_map items) (one ∙ ap (λ l. l ++ bytes ∷ []) none) ∙ append-nil (items bytes) in
+    subst (IsSpelledCut u) (sym whole) is
 
 -- where nothing was there before
 pub spelled_alone : (u : Numbered) (o bytes : List ℕ) → o ≡ [] → IsSpelledBehind u o bytes → IsSpelledCut u bytes
@@ -87,12 +98,15 @@ spelled_alone u o bytes none is = record { tree = is.tree; cut = is.cut; spelled
 pub state_alone : (states : List State) (n : ℕ) (o bytes : List ℕ) → o ≡ [] → IsStateBehind states n o bytes → IsStateBehind states n [] bytes
 state_alone states n o bytes none is = let P : List ℕ → Type 0 = λ l. IsStateBehind states n l bytes in subst P none is
 
-pub fork_spelled : (u left right : Numbered) (x y l r bytes : List ℕ) → CanBeCut u → AreHalvesCut u left right → IsSpelledCut left x → IsSpelledCut right y → l ≡ x → r ≡ y
-    → IsForkSpelled u.states (get_or right.numbers 0 0) l r bytes → IsSpelledCut u bytes
-fork_spelled u left right x y l r bytes ready halves first second low high made = record {
-  tree = fork first.tree made.middle second.tree;
-  cut = fork_of_halves u left right first.tree second.tree made.middle ready halves first.cut second.cut made.at;
-  spelled = made.is ∙ ap (λ (w : List ℕ). 1 ∷ (w ++ (state made.middle ++ r))) (low ∙ first.spelled) ∙ ap (λ (w : List ℕ). 1 ∷ (spelling_of first.tree ++ (state made.middle ++ w))) (high ∙ second.spelled);
+pub fork_spelled : (u left right : Numbered) (l r middle bytes : List ℕ) → CanBeCut u → AreHalvesCut u left right → IsSpelledCut left l → IsSpelledCut right r
+    → IsStateBehind u.states (get_or right.numbers 0 0) [] middle → bytes ≡ 1 ∷ (l ++ (middle ++ r)) → IsSpelledCut u bytes
+fork_spelled u left right l r middle bytes ready halves first second between is = record {
+  tree = fork first.tree between.spelled second.tree;
+  cut = fork_of_halves u left right first.tree second.tree between.spelled ready halves first.cut second.cut between.at;
+  spelled =
+      is ∙ ap (λ (w : List ℕ). 1 ∷ (w ++ (middle ++ r))) first.spelled
+      ∙ ap (λ (w : List ℕ). 1 ∷ (spelling_of first.tree ++ (w ++ r))) between.is
+      ∙ ap (λ (w : List ℕ). 1 ∷ (spelling_of first.tree ++ (state between.spelled ++ w))) second.spelled;
 }
 
 -- ---- recorders
@@ -156,12 +170,11 @@ both_recorders states left right one two all here there first second is = record
 }
 
 -- worked states can be spelled
-pub worked_ready : (c : Client) (w : Worked) (all recorders : List (List State)) (ns : List ℕ) → AreWorkedOut c w → IsNumbered w.store.states → AreRecorders w.store.states all
-    → recorders ≡ all → ns ≡ w.numbers.items → CanBeSpelled (uncut c w.table w.store.states ns) recorders
-worked_ready c w all recorders ns out differ are same is =
+pub worked_ready : (c : Client) (w : Worked) (all recorders : List (List State)) (ns : List ℕ) → AreWorkedOut c w → IsRising w.store.states ns → IsNumbered w.store.states → AreRecorders w.store.states all
+    → recorders ≡ all → CanBeSpelled (uncut c w.table w.store.states ns) recorders
+worked_ready c w all recorders ns out rising differ are same =
     let P : List (List State) → Type 0 = λ rs. CanBeSpelled (uncut c w.table w.store.states ns) rs in
-    let Q : List ℕ → Type 0 = λ l. CanBeSpelled (uncut c w.table w.store.states l) all in
-    subst P (sym same) (subst Q (sym is) (record {
-      cut = record { searched = out.searched; closed = out.closed; numbers = all_numbers w.store.states w.numbers.items out.rising; rising = strictly_rising w.store.states w.numbers.items out.rising differ };
+    subst P (sym same) (record {
+      cut = record { searched = out.searched; closed = out.closed; numbers = all_numbers w.store.states ns rising; rising = strictly_rising w.store.states ns rising differ };
       recorders = are;
-    }))
+    })

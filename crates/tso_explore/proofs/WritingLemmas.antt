@@ -1,13 +1,15 @@
 -- Worked states that are written as a tree, part by part.
-use Rattle.std.proofs.Common.{◌≡◌, ◌∙◌, ℕ, List, [], ◌∷◌, ◌++◌, get_or, Option, refl, sym, ap, subst, append_assoc}
+use Rattle.std.proofs.Common.{◌≡◌, ◌∙◌, ℕ, ◌-◌, ◌<◌, ◌≤◌, List, [], ◌∷◌, ◌++◌, length, take, drop, get_or, Option, refl, sym, ap, subst, append_assoc, arith}
 use Rattle.std.proofs.KnownBytes.{Appends-nil, Appends-trans}
-use Rattle.std.proofs.lemmas.List.{append-nil}
+use Rattle.std.proofs.lemmas.List.{append-nil, take_rest}
 use Rattle.std.specs.Io.KnownBytes.{Appends}
+use Rattle.std.specs.List.{flat_map}
 use Rattle.tso_cert.specs.Certificates.{magic}
 use Rattle.tso_cert.specs.Trees.{fork, spelling_of}
 use Rattle.tso_code.specs.States.{state}
 use Rattle.tso_code.specs.Tables.{table}
 use Rattle.tso_explore.proofs.CuttingLemmas.{tree_of_worked}
+use Rattle.tso_explore.proofs.Sorting.{order_is_there}
 use Rattle.tso_explore.proofs.TaskLemmas.{fork_of_halves}
 use Rattle.tso_explore.specs.Spelling.{InLeft, InRight, IsPut, IsPutInPart, IsSpelledCut, IsStateBehind, Nothing, Whole}
 use Rattle.tso_explore.specs.Tasks.{AreHalvesCut, CanBeCut, Numbered, uncut}
@@ -20,17 +22,44 @@ use Rattle.tso_parts.specs.Numbers.{IsNumbered}
 use Rattle.tso_prog.specs.declared.client.Client.{Client}
 use Rattle.tso_judge.specs.Certified.{CertificatesFit}
 use Rattle.tso_state.specs.declared.state.State.{State}
+use Rattle.tso_store.specs.Orders.{IsRising}
+
+-- ---- pieces
+
+split_first : {V : Type 0} (pieces : List V) (first : V) → 0 < length pieces → first ≡ get_or pieces 0 first → pieces ≡ first ∷ drop 1 pieces
+split_first [] first some is = absurd (omega (arith, some))
+split_first (x ∷ xs) first some is = ap (λ y. y ∷ xs) (sym is)
+
+module _ {V : Type 0} (items : V → List ℕ) (a b d : Option (List ℕ)) (first : V) (pieces : List V) (slice : List ℕ) (some : 1 ≤ length pieces) (is : first ≡ get_or pieces 0 first) (same : slice ≡ items first) where
+  abbrev others : List ℕ
+  others = flat_map items (take (length pieces - 1) (drop 1 pieces))
+
+  pieces_from : flat_map items pieces ≡ slice ++ others
+  pieces_from = ap (flat_map items) (split_first pieces first (omega (arith, some)) is ∙ ap (λ l. first ∷ l) (sym (take_rest pieces 1))) ∙ ap (λ (l : List ℕ). l ++ others) (sym same)
+
+  -- of the first piece a beginning went out
+  pub piece_begun : AppendsBeginning a b slice → AppendsBeginning a b (flat_map items pieces)
+  piece_begun out = beginning_behind a a b (flat_map items pieces) [] slice others pieces_from (Appends-nil a) out
+
+  -- the first piece, and of the others a beginning
+  pub pieces_begun : Appends a b slice → AppendsBeginning b d others → AppendsBeginning a d (flat_map items pieces)
+  pieces_begun one out = beginning_behind a b d (flat_map items pieces) slice others [] (pieces_from ∙ ap (λ (l : List ℕ). slice ++ l) (sym (append-nil others))) one out
 
 -- ---- at once
 
-pub put_whole : (u : Numbered) (a b : Option (List ℕ)) (bytes slice : List ℕ) → IsSpelledCut u bytes → slice ≡ bytes → Appends a b slice → IsPut u a b
-put_whole u a b bytes slice is same out = record { tree = is.tree; cut = is.cut; appended = subst (Appends a b) (same ∙ is.spelled) out }
+pub put_whole : {V : Type 0} (items : V → List ℕ) (u : Numbered) (a b : Option (List ℕ)) (pieces slice : List V) → IsSpelledCut u (flat_map items pieces) → slice ≡ pieces → Appends a b (flat_map items slice) → IsPut u a b
+put_whole items u a b pieces slice is same out = record { tree = is.tree; cut = is.cut; appended = subst (Appends a b) (ap (flat_map items) same ∙ is.spelled) out }
 
 pub part_of_nothing : (u : Numbered) (a : Option (List ℕ)) → IsPutInPart u a a
 part_of_nothing u a = record { front = []; begun = Nothing u; appended = beginning_of_none a [] }
 
-pub part_of_whole : (u : Numbered) (a b : Option (List ℕ)) (bytes slice : List ℕ) → IsSpelledCut u bytes → slice ≡ bytes → AppendsBeginning a b slice → IsPutInPart u a b
-part_of_whole u a b bytes slice is same out = record { front = spelling_of is.tree; begun = Whole u is.tree is.cut; appended = subst (AppendsBeginning a b) (same ∙ is.spelled) out }
+pub part_of_whole : {V : Type 0} (items : V → List ℕ) (u : Numbered) (a b : Option (List ℕ)) (pieces slice : List V) → IsSpelledCut u (flat_map items pieces) → slice ≡ pieces → AppendsBeginning a b (flat_map items slice)
+    → IsPutInPart u a b
+part_of_whole items u a b pieces slice is same out = record {
+  front = spelling_of is.tree;
+  begun = Whole u is.tree is.cut;
+  appended = subst (AppendsBeginning a b) (ap (flat_map items) same ∙ is.spelled) out;
+}
 
 -- ---- a fork, part by part
 
@@ -107,38 +136,40 @@ module _ (u left right : Numbered) (halves : AreHalvesCut u left right) (a b : O
 
 -- ---- the whole
 
-pub put_same : (c : Client) (w : Worked) (ns : List ℕ) (a b : Option (List ℕ)) → ns ≡ w.numbers.items → IsPut (uncut c w.table w.store.states ns) a b → IsPut (uncut c w.table w.store.states w.numbers.items) a b
-put_same c w ns a b is put = let P : List ℕ → Type 0 = λ l. IsPut (uncut c w.table w.store.states l) a b in subst P is put
-
-pub part_same : (c : Client) (w : Worked) (ns : List ℕ) (a b : Option (List ℕ)) → ns ≡ w.numbers.items → IsPutInPart (uncut c w.table w.store.states ns) a b
-    → IsPutInPart (uncut c w.table w.store.states w.numbers.items) a b
-part_same c w ns a b is part = let P : List ℕ → Type 0 = λ l. IsPutInPart (uncut c w.table w.store.states l) a b in subst P is part
-
 module _ (c : Client) (w : Worked) (t : Table) where
-  pub written : (a b d : Option (List ℕ)) (front slice : List ℕ) → AreWorkedOut c w → IsNumbered w.store.states → CertificatesFit c → front ≡ magic ++ table t → slice ≡ front → Appends a b slice
-      → IsPut (uncut c w.table w.store.states w.numbers.items) b d → IsWritten c w t a d
-  written a b d front slice out differ fit is same first put = record {
+  abbrev all_of : List ℕ → Numbered
+  all_of ns = uncut c w.table w.store.states ns
+
+  pub written : (a b d : Option (List ℕ)) (front slice items ns : List ℕ) → AreWorkedOut c w → IsRising w.store.states items → IsNumbered w.store.states → CertificatesFit c → front ≡ magic ++ table t → slice ≡ front
+      → ns ≡ items → Appends a b slice → IsPut (all_of ns) b d → IsWritten c w t a d
+  written a b d front slice items ns out rising differ fit is same these first put = record {
     tree = put.tree;
-    made = tree_of_worked c w put.tree out differ fit put.cut;
+    made = tree_of_worked c w ns put.tree out (subst (IsRising w.store.states) (sym these) rising) differ fit put.cut;
     appended =
         subst (Appends a d) (append_assoc magic (table t) (spelling_of put.tree))
         (Appends-trans a b d (magic ++ table t) (spelling_of put.tree) (subst (Appends a b) (same ∙ is) first) put.appended);
   }
 
   pub written_none : (a : Option (List ℕ)) → IsWrittenInPart c w t a a
-  written_none a = record { front = []; begun = Nothing (uncut c w.table w.store.states w.numbers.items); appended = beginning_of_none a (magic ++ (table t ++ [])) }
+  written_none a =
+      let (ns, rising) = order_is_there w.store.states in
+      record { numbers = ns; rising = rising; front = []; begun = Nothing (all_of ns); appended = beginning_of_none a (magic ++ (table t ++ [])) }
 
-  pub written_front : (a b : Option (List ℕ)) (front slice : List ℕ) → front ≡ magic ++ table t → slice ≡ front → AppendsBeginning a b slice → IsWrittenInPart c w t a b
-  written_front a b front slice is same out = record {
+  pub written_front : (a b : Option (List ℕ)) (front slice items : List ℕ) → IsRising w.store.states items → front ≡ magic ++ table t → slice ≡ front → AppendsBeginning a b slice → IsWrittenInPart c w t a b
+  written_front a b front slice items rising is same out = record {
+    numbers = items;
+    rising = rising;
     front = [];
-    begun = Nothing (uncut c w.table w.store.states w.numbers.items);
+    begun = Nothing (all_of items);
     appended =
         beginning_behind a a b (magic ++ (table t ++ [])) [] slice [] (sym (append_assoc magic (table t) []) ∙ ap (λ (l : List ℕ). l ++ []) (sym (same ∙ is))) (Appends-nil a) out;
   }
 
-  pub written_part : (a b d : Option (List ℕ)) (front slice : List ℕ) → front ≡ magic ++ table t → slice ≡ front → Appends a b slice → IsPutInPart (uncut c w.table w.store.states w.numbers.items) b d
-      → IsWrittenInPart c w t a d
-  written_part a b d front slice is same out part = record {
+  pub written_part : (a b d : Option (List ℕ)) (front slice items ns : List ℕ) → IsRising w.store.states items → front ≡ magic ++ table t → slice ≡ front → ns ≡ items → Appends a b slice
+      → IsPutInPart (all_of ns) b d → IsWrittenInPart c w t a d
+  written_part a b d front slice items ns rising is same these out part = record {
+    numbers = ns;
+    rising = subst (IsRising w.store.states) (sym these) rising;
     front = part.front;
     begun = part.begun;
     appended =

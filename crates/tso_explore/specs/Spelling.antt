@@ -42,12 +42,6 @@ pub record IsStateBehind (states : List State) (n : ℕ) (old new : List ℕ) : 
   pub at : slice_get states n ≡ Some spelled
   pub is : new ≡ old ++ state spelled
 
--- the bytes of a fork: those of its halves, and between them the spelling of the state with this number
-pub record IsForkSpelled (states : List State) (n : ℕ) (left right bytes : List ℕ) : Type 0 where
-  pub middle : State
-  pub at : slice_get states n ≡ Some middle
-  pub is : bytes ≡ 1 ∷ (left ++ (state middle ++ right))
-
 -- the spellings of the records of the first k of these states stand behind bytes
 pub record AreSpelledBehind (u : Numbered) (k : ℕ) (old new : List ℕ) : Type 0 where
   pub records : List Record

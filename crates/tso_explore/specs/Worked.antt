@@ -30,12 +30,11 @@ abbrev pub IsEnded : Client → ℕ → Table → Sheet → Ended → Type 0
 IsEnded c limit t store endings.Worked = AreSearched c t store.states × (length store.states ≤ limit)
 IsEnded c limit t store (endings.Early why) = IsStopped c limit why
 
--- the states are worked by the least closed table, and the numbers are those of all of them, in the order of the states
+-- the states are worked by the least closed table
 pub record AreWorkedOut (c : Client) (w : Worked) : Type 0 where
   pub closed : IsClosed c w.table
   pub least : IsLeastClosed c w.table
   pub searched : AreSearched c w.table w.store.states
-  pub rising : IsRising w.store.states w.numbers.items
   pub few : length w.store.states ≤ 4194304
 
 -- what is found: no more worked states than the limit allows; the trace of an error of this client; that more can be reached
@@ -53,14 +52,21 @@ pub record IsTreeOf (c : Client) (w : Worked) (tree : Tree) : Type 0 where
   pub count : record_count tree ≡ length w.store.states
   pub states : (k : ℕ) (s : State) → slice_get (tree_states tree) k ≡ Some s → (n : ℕ) × (slice_get w.store.states n ≡ Some s)
 
+-- there is such a tree
+pub record HasTree (c : Client) (w : Worked) : Type 0 where
+  pub tree : Tree
+  pub made : IsTreeOf c w tree
+
 -- known bytes grow by the spelling of such a tree with a table
 pub record IsWritten (c : Client) (w : Worked) (t : Table) (old new : Option (List ℕ)) : Type 0 where
   pub tree : Tree
   pub made : IsTreeOf c w tree
   pub appended : Appends old new (certificate t tree)
 
--- they grow by a beginning of one, as far as it was made
+-- they grow by a beginning of one, as far as it was made: one of all the states, in their order
 pub record IsWrittenInPart (c : Client) (w : Worked) (t : Table) (old new : Option (List ℕ)) : Type 0 where
+  pub numbers : List ℕ
+  pub rising : IsRising w.store.states numbers
   pub front : List ℕ
-  pub begun : IsFront (uncut c w.table w.store.states w.numbers.items) front
+  pub begun : IsFront (uncut c w.table w.store.states numbers) front
   pub appended : AppendsBeginning old new (magic ++ (table t ++ front))

@@ -514,10 +514,7 @@ fn found_first<'c, R: Wait, W: Watch>(
         return Ok(Some(Finding::LimitReached));
     }
     match found_early(rt, alloc, checked, &table, &mut store, limit, watch) {
-        Ok(Some(ended)) => {
-            let finding = finding_of(alloc, checked, table, store, ended, limit)?;
-            Ok(Some(finding))
-        }
+        Ok(Some(ended)) => Ok(Some(finding_of(checked, table, store, ended, limit))),
         Ok(None) => {
             drop(store);
             drop(table);
@@ -532,32 +529,15 @@ fn found_first<'c, R: Wait, W: Watch>(
 }
 
 // What a search found that all states of this store are worked by.
-fn worked_out<'c>(
-    alloc: Global,
-    checked: &Checked,
-    table: Table,
-    store: Store<'c>,
-    limit: u32,
-) -> Result<Finding<'c>, AllocError>
+fn worked_out<'c>(checked: &Checked, table: Table, store: Store<'c>, limit: u32) -> Finding<'c>
     requires closed { IsClosed checked.now.client table }
     requires least { IsLeastClosed checked.now.client table }
     requires searched { AreSearched checked.now.client table store.states }
     requires few { length store.states ≤ limit }
     requires limit { limit ≤ 4194304 }
-    ensures { IfOk result (IsFinding checked.now.client limit) }
+    ensures { IsFinding checked.now.client limit result }
 {
-    match store.rising(alloc) {
-        Ok(numbers) => Ok(Finding::Worked(Worked {
-            table,
-            store,
-            numbers,
-        })),
-        Err(reason) => {
-            drop(store);
-            drop(table);
-            Err(reason)
-        }
-    }
+    Finding::Worked(Worked { table, store })
 }
 
 // What a search found that stopped early.
@@ -573,25 +553,24 @@ fn finding_for<'c>(checked: &'c Checked, why: Stopped, limit: u32) -> Finding<'c
 
 // What a search found that ended so.
 fn finding_of<'c>(
-    alloc: Global,
     checked: &'c Checked,
     table: Table,
     store: Store<'c>,
     ended: Ended,
     limit: u32,
-) -> Result<Finding<'c>, AllocError>
+) -> Finding<'c>
     requires closed { IsClosed checked.now.client table }
     requires least { IsLeastClosed checked.now.client table }
     requires ended { IsEnded checked.now.client limit table store ended }
     requires limit { limit ≤ 4194304 }
-    ensures { IfOk result (IsFinding checked.now.client limit) }
+    ensures { IsFinding checked.now.client limit result }
 {
     match ended {
-        Ended::Worked => worked_out(alloc, checked, table, store, limit),
+        Ended::Worked => worked_out(checked, table, store, limit),
         Ended::Early(why) => {
             drop(store);
             drop(table);
-            Ok(finding_for(checked, why, limit))
+            finding_for(checked, why, limit)
         }
     }
 }
@@ -616,7 +595,7 @@ fn explored<'c, R: Wait, W: Watch>(
         return Ok(Finding::LimitReached);
     }
     match found_from(rt, alloc, checked, &table, &mut store, limit, watch) {
-        Ok(ended) => finding_of(alloc, checked, table, store, ended, limit),
+        Ok(ended) => Ok(finding_of(checked, table, store, ended, limit)),
         Err(reason) => {
             drop(store);
             drop(table);
@@ -769,10 +748,7 @@ fn explored_together<'c, R: Threads + Wait + Sync, W: Watch + Sync>(
     match found_together(
         rt, alloc, checked, &table, &mut store, ending, workers, limit,
     ) {
-        Ok(Some(ended)) => {
-            let finding = finding_of(alloc, checked, table, store, ended, limit)?;
-            Ok(Some(finding))
-        }
+        Ok(Some(ended)) => Ok(Some(finding_of(checked, table, store, ended, limit))),
         Ok(None) => {
             drop(store);
             drop(table);
@@ -852,13 +828,14 @@ pub fn tree_for<R: Threads + Sync>(
 {
     worked.store.states_differ();
     certificates_fit(checked);
+    let numbers = worked.store.rising(alloc)?;
     let cert = cut_by(
         rt,
         alloc,
         checked,
         &worked.table,
         &worked.store,
-        worked.numbers.as_slice(),
+        numbers.as_slice(),
         workers.count(),
     )?;
     Ok(cert)
@@ -879,13 +856,8 @@ fn certificate_of<R: Threads + Sync>(
 {
     match tree_for(rt, alloc, checked, &worked, workers) {
         Ok(cert) => {
-            let Worked {
-                table,
-                store,
-                numbers,
-            } = worked;
+            let Worked { table, store } = worked;
             drop(store);
-            drop(numbers);
             Outcome::Certificate(table, cert)
         }
         Err(_) => {

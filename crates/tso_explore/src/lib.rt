@@ -8,6 +8,7 @@ mod ended;
 mod ends;
 mod exploring;
 mod first;
+mod laws;
 mod merging;
 mod outcome;
 mod recording;
@@ -18,6 +19,7 @@ mod writing;
 
 pub use enclosing::intervals_for;
 pub use exploring::{explore, find, tree_for};
+pub use laws::has_tree;
 pub use outcome::Outcome;
 pub use worked::{Finding, Worked};
 pub use writing::write;

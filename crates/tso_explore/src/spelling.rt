@@ -1,7 +1,8 @@
 //! The spelling of worked states as the records of a tree, before there is one.
 
-ghost use Rattle.std.specs.Prelude.{◌≡◌, ◌<◌, ◌≤◌, [], get_or, IfOk, IfSome, OnOk, length};
-ghost use Rattle.tso_explore.specs.Spelling.{AreSpelledBehind, CanBeSpelled, IsForkSpelled, IsSpelledBehind, IsSpelledCut, IsStateBehind};
+ghost use Rattle.std.specs.List.{flat_map};
+ghost use Rattle.std.specs.Prelude.{◌≡◌, ◌<◌, ◌≤◌, ◌++◌, ◌∷◌, [], get_or, IfOk, IfSome, OnOk, length};
+ghost use Rattle.tso_explore.specs.Spelling.{AreSpelledBehind, CanBeSpelled, IsSpelledBehind, IsSpelledCut, IsStateBehind};
 ghost use Rattle.tso_explore.specs.Cutting.{AreNumbers, AreRising};
 ghost use Rattle.tso_explore.specs.Tasks.{AreHalvesCut, uncut};
 ghost use Rattle.tso_explore.specs.Unspelled.{numbers_of};
@@ -137,23 +138,33 @@ fn spelled(
     Ok(out)
 }
 
-// The bytes of a fork, from those of its halves and the number of its state.
+// The spelling of a kept state.
+fn state_bytes(alloc: Global, store: &Store<'_>, number: u32) -> Result<Vec<u8>, AllocError>
+    requires { number < length store.now.states }
+    ensures { IfOk result (λ bytes. IsStateBehind store.now.states number [] bytes.items) }
+{
+    let mut bytes = Vec::new(alloc);
+    put_state(alloc, store, number, &mut bytes)?;
+    Ok(bytes)
+}
+
+// The pieces of a fork, from those of its halves and the bytes of its state.
 fn fork_of(
     alloc: Global,
-    store: &Store<'_>,
-    left: &[u8],
-    number: u32,
-    right: &[u8],
-) -> Result<Vec<u8>, AllocError>
-    requires { number < length store.now.states }
-    ensures { IfOk result (λ bytes. IsForkSpelled store.now.states number left.now right.now bytes.items) }
+    left: Vec<Vec<u8>>,
+    middle: Vec<u8>,
+    right: Vec<Vec<u8>>,
+) -> Result<Vec<Vec<u8>>, AllocError>
+    ensures { IfOk result (λ pieces. flat_map (λ v. v.items) pieces.items ≡ 1 ∷ (flat_map (λ v. v.items) left.items ++ (middle.items ++ flat_map (λ v. v.items) right.items))) }
 {
-    let mut out = Vec::new(alloc);
-    out.push(1)?;
-    out.extend_from_slice(left)?;
-    put_state(alloc, store, number, &mut out)?;
-    out.extend_from_slice(right)?;
-    Ok(out)
+    let (mut low, mut high) = (left, right);
+    let mut pieces = Vec::new(alloc);
+    let front = Vec::from_slice(alloc, &[1])?;
+    pieces.push(front)?;
+    pieces.append(&mut low)?;
+    pieces.push(middle)?;
+    pieces.append(&mut high)?;
+    Ok(pieces)
 }
 
 /// States that are to be spelled, by as many threads as there are recorders.
@@ -205,34 +216,36 @@ impl<'a> Unspelled<'a> {
         requires some { 0 < length self.now.numbers.now }
         ensures { IfOk result (λ bytes. IsStateBehind self.now.store.now.states (get_or self.now.numbers.now 0 0) [] bytes.items) }
     {
-        let mut bytes = Vec::new(self.alloc);
-        put_state(self.alloc, self.store, self.numbers[0], &mut bytes)?;
-        Ok(bytes)
+        state_bytes(self.alloc, self.store, self.numbers[0])
     }
 }
 
 impl<'a> Task for Unspelled<'a> {
+    ghost use Rattle.std.specs.List.{flat_map};
     ghost use Rattle.tso_explore.specs.Spelling.{CanBeSpelled, IsSpelledCut};
     ghost use Rattle.tso_explore.specs.Tasks.{AreHalvesCut};
     ghost use Rattle.tso_explore.specs.Unspelled.{numbers_of};
 
-    type Output = Vec<u8>;
+    type Output = Vec<Vec<u8>>;
 
     ghost is_ready = { λ p. CanBeSpelled (numbers_of p) p.recorders.now };
 
-    ghost is_output = { λ p bytes. IsSpelledCut (numbers_of p) bytes.items };
+    ghost is_output = { λ p pieces. IsSpelledCut (numbers_of p) (flat_map (λ v. v.items) pieces.items) };
 
     ghost are_halves = { λ p left right. AreHalvesCut (numbers_of p) (numbers_of left) (numbers_of right) };
 
-    fn run(&self) -> Result<Vec<u8>, AllocError> {
-        spelled(
+    fn run(&self) -> Result<Vec<Vec<u8>>, AllocError> {
+        let mut pieces = Vec::new(self.alloc);
+        let bytes = spelled(
             self.alloc,
             self.checked,
             self.table,
             self.store,
             &self.recorders[0],
             self.numbers,
-        )
+        )?;
+        pieces.push(bytes)?;
+        Ok(pieces)
     }
 
     fn halves(&self) -> Option<(Self, Self)> {
@@ -269,24 +282,24 @@ impl<'a> Task for Unspelled<'a> {
         &self,
         _left: &Self,
         right: &Self,
-        first: Vec<u8>,
-        second: Vec<u8>,
-    ) -> Result<Vec<u8>, AllocError> {
-        let (low, high) = (first.as_slice(), second.as_slice());
-        let bytes = fork_of(self.alloc, self.store, low, right.numbers[0], high)?;
-        Ok(bytes)
+        first: Vec<Vec<u8>>,
+        second: Vec<Vec<u8>>,
+    ) -> Result<Vec<Vec<u8>>, AllocError> {
+        let middle = state_bytes(self.alloc, self.store, right.numbers[0])?;
+        let pieces = fork_of(self.alloc, first, middle, second)?;
+        Ok(pieces)
     }
 }
 
-/// The spelling of the tree of these states, by as many threads as there are recorders.
+/// The spelling of the tree of these states in pieces, by as many threads as there are recorders.
 ///
 /// Errors: where a growth was refused.
 pub fn spelled_by<R: Threads + Sync>(
     rt: &R,
     unspelled: &Unspelled<'_>,
-) -> Result<Vec<u8>, AllocError>
+) -> Result<Vec<Vec<u8>>, AllocError>
     requires ready { CanBeSpelled (numbers_of unspelled.now) unspelled.now.recorders.now }
-    ensures { IfOk result (λ bytes. IsSpelledCut (numbers_of unspelled.now) bytes.items) }
+    ensures { IfOk result (λ pieces. IsSpelledCut (numbers_of unspelled.now) (flat_map (λ v. v.items) pieces.items)) }
 {
     run_by(rt, unspelled, unspelled.recorders.len() as u64)
 }

@@ -11,8 +11,6 @@ use tso_trace::Trace;
 pub struct Worked<'c> {
     pub table: Table,
     pub store: Store<'c>,
-    /// The numbers of the states, in the order of the states.
-    pub numbers: Vec<u32>,
 }
 
 impl<'c> Worked<'c> {

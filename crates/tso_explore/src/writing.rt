@@ -1,6 +1,7 @@
 //! Worked states that are written as a certificate, before there is a tree of their records.
 
 ghost use Rattle.std.specs.Io.KnownBytes.{Appends};
+ghost use Rattle.std.specs.List.{flat_map};
 ghost use Rattle.std.specs.Prelude.{◌≡◌, ◌++◌, IfOk, OnErr, OnOk};
 ghost use Rattle.tso_cert.specs.Certificates.{magic};
 ghost use Rattle.tso_code.specs.Tables.{table as spelled_table};
@@ -9,6 +10,7 @@ ghost use Rattle.tso_explore.specs.Tasks.{uncut};
 ghost use Rattle.tso_explore.specs.Unspelled.{numbers_of};
 ghost use Rattle.tso_explore.specs.Worked.{AreWorkedOut, IsWritten, IsWrittenInPart};
 ghost use Rattle.tso_list.specs.Beginnings.{AppendsBeginning};
+ghost use Rattle.tso_store.specs.Orders.{IsRising};
 
 use crate::recording::recorders_by;
 use crate::spelling::{Unspelled, spelled_by};
@@ -49,6 +51,21 @@ fn put_bytes<W: Write>(bytes: &[u8], out: &mut W) -> Result<(), WriteError>
     }
 }
 
+// Writes these pieces, one behind the other.
+fn put_pieces<W: Write>(pieces: &[Vec<u8>], out: &mut W) -> Result<(), WriteError>
+    ensures ok { OnOk result (Appends (W.contents out.old) (W.contents out.new) (flat_map (λ v. v.items) pieces.now)) }
+    ensures err { OnErr result (AppendsBeginning (W.contents out.old) (W.contents out.new) (flat_map (λ v. v.items) pieces.now)) }
+{
+    match pieces {
+        [] => Ok(()),
+        [first, rest @ ..] => {
+            put_bytes(first.as_slice(), out)?;
+            put_pieces(rest, out)?;
+            Ok(())
+        }
+    }
+}
+
 // Writes the tree of these states at once.
 fn put_slab<R: Threads + Sync, W: Write>(
     rt: &R,
@@ -59,8 +76,8 @@ fn put_slab<R: Threads + Sync, W: Write>(
     ensures ok { OnOk result (IsPut (numbers_of whole.now) (W.contents out.old) (W.contents out.new)) }
     ensures err { OnErr result (IsPutInPart (numbers_of whole.now) (W.contents out.old) (W.contents out.new)) }
 {
-    let bytes = spelled_by(rt, whole)?;
-    put_bytes(bytes.as_slice(), out)?;
+    let pieces = spelled_by(rt, whole)?;
+    put_pieces(pieces.as_slice(), out)?;
     Ok(())
 }
 
@@ -101,18 +118,20 @@ fn halvings_of(count: usize, workers: Workers) -> u32 {
     64u32.saturating_sub(slabs.leading_zeros())
 }
 
-// Writes the tree of worked states behind the front of a certificate.
+// Writes the tree of worked states, whose numbers are these in the order of the states, behind the front of a certificate.
 fn put_worked<R: Threads + Sync, W: Write>(
     rt: &R,
     alloc: Global,
     checked: &Checked,
     worked: &Worked<'_>,
+    numbers: &[u32],
     workers: Workers,
     out: &mut W,
 ) -> Result<(), WriteError>
     requires worked { AreWorkedOut checked.now.client worked.now }
-    ensures ok { OnOk result (IsPut (uncut checked.now.client worked.now.table worked.now.store.states worked.now.numbers.items) (W.contents out.old) (W.contents out.new)) }
-    ensures err { OnErr result (IsPutInPart (uncut checked.now.client worked.now.table worked.now.store.states worked.now.numbers.items) (W.contents out.old) (W.contents out.new)) }
+    requires rising { IsRising worked.now.store.states numbers.now }
+    ensures ok { OnOk result (IsPut (uncut checked.now.client worked.now.table worked.now.store.states numbers.now) (W.contents out.old) (W.contents out.new)) }
+    ensures err { OnErr result (IsPutInPart (uncut checked.now.client worked.now.table worked.now.store.states numbers.now) (W.contents out.old) (W.contents out.new)) }
 {
     worked.store.states_differ();
     let recorders = recorders_by(rt, alloc, &worked.store, workers.count())?;
@@ -122,16 +141,16 @@ fn put_worked<R: Threads + Sync, W: Write>(
         table: &worked.table,
         store: &worked.store,
         recorders: recorders.as_slice(),
-        numbers: worked.numbers.as_slice(),
+        numbers,
     };
-    let halvings = halvings_of(worked.numbers.len(), workers);
+    let halvings = halvings_of(numbers.len(), workers);
     put_slabs(rt, &whole, halvings, out)?;
     Ok(())
 }
 
 /// Writes worked states as a certificate with this table, by so many workers: what goes out is what `tso_cert::encode` spells of
-/// the table and of a tree of the states' records. It takes memory for the bytes of some 1,000 records where there is one worker,
-/// else of some 65,000.
+/// the table and of a tree of the states' records. It takes memory for the order of the states, and for the bytes of some 1,000 records
+/// where there is one worker, else of some 65,000.
 ///
 /// Errors: `Io` where a write fails, and `Memory`; a beginning of such bytes has gone out then, perhaps none of them, and nothing
 /// else.
@@ -151,7 +170,9 @@ pub fn write<R: Threads + Sync, W: Write>(
     worked.store.states_differ();
     certificates_fit(checked);
     let front = front_of(alloc, table)?;
+    let numbers = worked.store.rising(alloc)?;
     put_bytes(front.as_slice(), out)?;
-    put_worked(rt, alloc, checked, worked, workers, out)?;
+    let rising = numbers.as_slice();
+    put_worked(rt, alloc, checked, worked, rising, workers, out)?;
     Ok(())
 }

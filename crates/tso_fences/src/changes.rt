@@ -7,9 +7,8 @@ use crate::sites::{Form, KINDS, Site, procedure_of};
 use crate::unread::{free_register, is_read_behind};
 use std::alloc::{AllocError, Global};
 use std::fmt;
-use tso_client::{CheckError, checked_of};
 use tso_flow::{Location, ProcedureKind};
-use tso_front::Failure;
+use tso_front::{Failure, fault_of};
 use tso_list::Seq;
 use tso_prog::{Address, Client, Code, Instruction, LockedOperation, Procedure, Register, Step};
 
@@ -213,10 +212,9 @@ fn plain_form(alloc: Global, author: &Author<'_>, site: &Site) -> Result<Plain, 
 
 // The text, if it is not refused.
 fn attempted(alloc: Global, text: Vec<u8>) -> Result<Attempt, Failure> {
-    match checked_of(alloc, &text) {
-        Ok(_) => Ok(Attempt::Text(text)),
-        Err(CheckError::Program(fault)) => Ok(Attempt::Untried(Reason::Refused(fault.code))),
-        Err(CheckError::Memory) => Err(Failure::Memory),
+    match fault_of(alloc, &text)? {
+        Some(fault) => Ok(Attempt::Untried(Reason::Refused(fault.code))),
+        None => Ok(Attempt::Text(text)),
     }
 }
 

@@ -260,5 +260,7 @@ pub fn fences<R: Threads + Wait + Sync, D: Finder, S: Session>(
     asked: &Fences<'_>,
 ) -> Result<Fenced, Failure> {
     let checked = checked_of(session.alloc(), text)?;
-    ask_of(rt, finder, session, text, asked, &checked.client)
+    let asked = ask_of(rt, finder, session, text, asked, &checked.client);
+    drop(checked);
+    asked
 }

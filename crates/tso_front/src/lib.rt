@@ -18,5 +18,5 @@ pub use host::HostFiles;
 pub use json::{json_argument, json_line, number_or_null};
 pub use paths::{both_apart, read_apart, written_apart};
 pub use session::{Out, Session, Streams, reported};
-pub use variant::{Variant, variant_arguments, variant_of};
+pub use variant::{Variant, fault_of, variant_arguments, variant_of};
 pub use words::{Ended, VERSION, ended_words, program_argument, started, with_flag, with_option};

@@ -5,6 +5,7 @@ use crate::words::with_option;
 use clap::{ArgMatches, Command};
 use std::alloc::{AllocError, Global};
 use tso_client::{CheckError, checked_of};
+use tso_prog::Fault;
 
 const CALLS: &str =
     "--client has the calls of one to four threads, with | between two threads; --before has those of the prologue, or none.
@@ -104,6 +105,20 @@ pub fn variant_arguments<'a>(
     with_option(alloc, command, "mode", "MODE", help)
 }
 
+/// The first fault of a program text, if it has one.
+///
+/// Errors: where a growth was refused.
+pub fn fault_of(alloc: Global, text: &[u8]) -> Result<Option<Fault>, AllocError> {
+    match checked_of(alloc, text) {
+        Ok(checked) => {
+            drop(checked);
+            Ok(None)
+        }
+        Err(CheckError::Program(fault)) => Ok(Some(fault)),
+        Err(CheckError::Memory) => Err(AllocError),
+    }
+}
+
 /// What the words put in place of a text's calls.
 pub fn variant_of<'a>(matches: &ArgMatches<'a>) -> Variant<'a> {
     Variant {
@@ -200,12 +215,9 @@ impl<'a> Variant<'a> {
         let draft = self.draft_of(alloc, &text)?;
         let head_lines = draft.head_lines;
         let text = self.completed(draft)?;
-        match checked_of(alloc, &text) {
-            Err(CheckError::Program(fault)) if fault.line > head_lines => {
-                Err(misused(alloc, CALLS))
-            }
-            Err(CheckError::Memory) => Err(Failure::Memory),
-            Err(CheckError::Program(_)) | Ok(_) => Ok(text),
+        match fault_of(alloc, &text)? {
+            Some(fault) if fault.line > head_lines => Err(misused(alloc, CALLS)),
+            _ => Ok(text),
         }
     }
 }

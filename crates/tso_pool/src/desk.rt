@@ -55,11 +55,12 @@ impl<'c> Desk<'c> {
         ensures client { IfOk result (λ d. d.client ≡ checked.now.client) }
         ensures states { IfOk result (λ d. d.states ≡ []) }
     {
+        let finds = no_finds(alloc)?;
         Ok(Desk {
             worker,
             store: Store::new(alloc, checked, 0),
             paths: Paths::new(alloc),
-            finds: no_finds(alloc)?,
+            finds,
         })
     }
 

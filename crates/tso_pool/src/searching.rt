@@ -86,7 +86,9 @@ fn first_ticket<U: Search, E: Ledger, R: Wait, W: Watch>(
     ensures ending { IfErr result (IsEndingOf team.now.checked.now.client) }
 {
     let mut desk = Desk::new(team.alloc, team.checked, NO_WORKER)?;
-    first_number(team, &mut desk, share)
+    let ticket = first_number(team, &mut desk, share);
+    drop(desk);
+    ticket
 }
 
 // Makes the initial state known, and hands out its ticket.

@@ -40,6 +40,31 @@ fn held_by(desk: &mut Desk<'_>, table: &Table<'_>, ticket: Ticket) -> Result<Opt
     }
 }
 
+// The same from a shard, where it is claimed.
+fn take_from<U: Search, E: Ledger>(
+    desk: &mut Desk<'_>,
+    shard: &mut Shard<'_, U, E>,
+    ticket: Ticket,
+    share: &mut Share<E>,
+) -> Result<Option<u32>, Ending>
+    requires part { 0 < share.old.parts }
+    requires client { shard.old.sheet.client ≡ desk.old.client }
+    ensures parts { share.new.parts ≡ share.old.parts }
+    ensures worker { desk.new.worker ≡ desk.old.worker }
+    ensures client { desk.new.client ≡ desk.old.client }
+    ensures there { IfOk result (λ o. IfSome o (λ held. held < length desk.new.states)) }
+    ensures counted { OnOk result (share.new.amount ≡ share.old.amount + 1) }
+    ensures uncounted { OnErr result (share.new.amount ≡ share.old.amount) }
+    ensures ending { IfErr result (IsEndingOf desk.old.client) }
+{
+    let held = held_by(desk, shard.table(), ticket)?;
+    match shard.claim(ticket.number.place, share) {
+        Ok(true) => Ok(held),
+        Ok(false) => Ok(None),
+        Err(_) => Err(Ending::Memory),
+    }
+}
+
 /// The state of a ticket, claimed for the caller, by one entry of its shard's log: where the desk has it. `None` where no state
 /// waits there.
 pub fn take<U: Search, E: Ledger, R: Wait, W: Watch>(
@@ -63,12 +88,9 @@ pub fn take<U: Search, E: Ledger, R: Wait, W: Watch>(
     };
     let mut shard = lock(cell, team.rt);
     shard.is_of(team.checked, team.table);
-    let held = held_by(desk, shard.table(), ticket)?;
-    match shard.claim(ticket.number.place, share) {
-        Ok(true) => Ok(held),
-        Ok(false) => Ok(None),
-        Err(_) => Err(Ending::Memory),
-    }
+    let taken = take_from(desk, &mut shard, ticket, share);
+    drop(shard);
+    taken
 }
 
 // Takes a unit for a new state. False where none is left.
@@ -286,14 +308,19 @@ pub fn file<U: Search, E: Ledger, R: Wait, W: Watch>(
     ensures ending { IfErr result (IsEndingOf team.now.checked.now.client) }
 {
     let Some(cell) = team.shards.get(number.shard as usize) else {
+        drop(filed);
         return Err(Ending::Astray);
     };
     let mut shard = lock(cell, team.rt);
     if shard.table().number() != number.shard {
+        drop(shard);
+        drop(filed);
         return Err(Ending::Astray);
     }
     shard.is_of(team.checked, team.table);
-    match shard.finish(number.place, state, filed, near, share) {
+    let finished = shard.finish(number.place, state, filed, near, share);
+    drop(shard);
+    match finished {
         Ok(()) => Ok(()),
         Err(FinishError::NotReady) => Err(Ending::Astray),
         Err(FinishError::Memory) => Err(Ending::Memory),

@@ -311,7 +311,9 @@ fn work_anew<U: Search, E: Ledger, R: Wait, W: Watch>(
     ensures ending { IfErr result (IsEndingOf team.now.checked.now.client) }
 {
     let mut desk = Desk::new(team.alloc, team.checked, number)?;
-    work_on(team, &mut desk, seat, share)
+    let worked = work_on(team, &mut desk, seat, share);
+    drop(desk);
+    worked
 }
 
 /// Works tickets until as many are worked as were handed out, or an ending is noted. It notes an ending of its own, and lets the

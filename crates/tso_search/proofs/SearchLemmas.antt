@@ -127,6 +127,8 @@ kept_stays c old new s a stays k =
 
 pub worked_stays : (c : Client) (t : Table) (old new : List State) (s : State) → Extends old new → IsWorked c t old s → IsWorked c t new s
 worked_stays c t old new s stays w = record {
+  set = w.set;
+  chosen = w.chosen;
   moves = λ choices chosen k d lt. kept_stays c old new s _ stays (w.moves choices chosen k d lt);
   unstopped = w.unstopped;
   explained = w.explained;
@@ -226,6 +228,8 @@ searched_moves c t limit old new origins origins' number set s searched good on 
 
     this : IsWorked c t new s
     this = record {
+      set = set;
+      chosen = is;
       moves = chosen_followed c t s set old new number well is here followed;
       unstopped = λ over. (good number s here).unstopped;
       explained = λ over. (good number s here).explained;
@@ -460,6 +464,8 @@ done_now c t limit old new origins origins' n set s begun good on here is follow
   state = s;
   at = on.stays n s here;
   worked = record {
+    set = set;
+    chosen = is;
     moves = chosen_followed c t s set old new n (begun.met n s here).plausible.well_formed is here followed;
     unstopped = λ over. (good n s here).unstopped;
     explained = λ over. (good n s here).explained;
@@ -574,6 +580,8 @@ pub closed_moves : (c : Client) (t : Table) (states : List State) (n set : ℕ) 
 closed_moves c t states n set s begun here is some followed x at =
     let well : IsWellFormed c s = (begun.met n s here).plausible.well_formed in
     let this : IsWorked c t states s = record {
+      set = set;
+      chosen = is;
       moves = chosen_followed c t s set states states n well is here followed;
       unstopped = λ over. absurd (some (over_chooses_none c t s set is over));
       explained = λ over. absurd (some (over_chooses_none c t s set is over));
@@ -585,6 +593,8 @@ pub closed_end : (c : Client) (t : Table) (states : List State) (n : ℕ) (s : S
 closed_end c t states n s here is good x at =
     let one : good.state ≡ s = same_Some good.state s (sym good.at ∙ here) in
     let this : IsWorked c t states s = record {
+      set = 0;
+      chosen = is;
       moves = nobody_followed c t s states is;
       unstopped = λ over. subst HasNoStopped one good.good.unstopped;
       explained = λ over. subst (λ (y : State). HasOrder c.mode c.capacity y.history) one good.good.explained;

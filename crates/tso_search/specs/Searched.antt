@@ -1,6 +1,7 @@
 -- What a search keeps, and why it stops.
 use Rattle.std.specs.Prelude.{◌≡◌, ◌+◌, ◌<◌, ◌≤◌, ℕ, All, Bool, IsTrue, List, [], ◌∷◌, length, Some, slice_get}
 use Rattle.tso_choose.specs.Choices.{AreChosen}
+use Rattle.tso_choose.specs.Choosing.{IsChoice}
 use Rattle.tso_choose.specs.Closures.{has_bit}
 use Rattle.tso_choose.specs.Sets.{actor_at}
 use Rattle.tso_choose.specs.declared.choice.Choice.{Choice}
@@ -21,9 +22,11 @@ use Rattle.tso_state.specs.Views.{state_of}
 use Rattle.tso_state.specs.declared.actor.Actor.{Actor}
 use Rattle.tso_state.specs.declared.state.State.{State}
 
--- the states after the steps of all chosen actors are kept; where no actor has a step, no thread is stopped and an order
--- explains the calls
+-- a set is chosen, and the states after the steps of all chosen actors are kept; where no actor has a step, no thread is stopped and
+-- an order explains the calls
 pub record IsWorked (c : Client) (t : Table) (states : List State) (s : State) : Type 0 where
+  pub set : ℕ
+  pub chosen : IsChoice c t s set
   pub moves : (choices : List Choice) → AreChosen c t s choices → All (λ (x : Choice). IsKeptAfter c states s x.actor) choices
   pub unstopped : IsOver c s → HasNoStopped s
   pub explained : IsOver c s → HasOrder c.mode c.capacity s.history

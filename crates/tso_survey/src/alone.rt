@@ -32,10 +32,10 @@ Status:
 
 // All the words.
 fn command<'a>(alloc: Global) -> Result<Command<'a>, AllocError> {
+    let cert = cert_argument(alloc).required_unless_present("collect")?;
     let command = Command::new(alloc, "tsoq-check")
         .version(VERSION)
         .after_help(HELP);
-    let cert = cert_argument(alloc).required_unless_present("collect")?;
     collect_arguments(alloc, check_arguments(alloc, command, cert)?)
 }
 

@@ -79,17 +79,45 @@ impl Cases {
         list: &str,
     ) -> Result<Cases, Failure> {
         let mut cases = Cases::new(alloc);
-        for (number, line) in list.lines().enumerate() {
-            if line.trim().is_empty() {
-                continue;
-            }
-            let calls = Calls::of_line(alloc, line)?;
-            match cases.put(alloc, base, asking, calls) {
-                Err(Failure::Usage(_)) => return Err(no_client(alloc, number.saturating_add(1))),
-                put => put?,
+        match cases.put_lines(alloc, base, asking, list) {
+            Ok(()) => Ok(cases),
+            Err(failure) => {
+                drop(cases);
+                Err(failure)
             }
         }
-        Ok(cases)
+    }
+
+    // Puts those of a list at the end, a line each.
+    fn put_lines(
+        &mut self,
+        alloc: Global,
+        base: &[u8],
+        asking: &Asking<'_>,
+        list: &str,
+    ) -> Result<(), Failure> {
+        for (number, line) in list.lines().enumerate() {
+            if !line.trim().is_empty() {
+                self.put_numbered(alloc, base, asking, line, number.saturating_add(1))?;
+            }
+        }
+        Ok(())
+    }
+
+    // Puts that of a line at the end, which has this number.
+    fn put_numbered(
+        &mut self,
+        alloc: Global,
+        base: &[u8],
+        asking: &Asking<'_>,
+        line: &str,
+        number: usize,
+    ) -> Result<(), Failure> {
+        let calls = Calls::of_line(alloc, line)?;
+        match self.put(alloc, base, asking, calls) {
+            Err(Failure::Usage(_)) => Err(no_client(alloc, number)),
+            put => put,
+        }
     }
 }
 

@@ -44,6 +44,18 @@ pub fn cert_argument<'a>(alloc: Global) -> Arg<'a> {
     Arg::new(alloc, "CERT").help("the certificate")
 }
 
+// The words of a check behind that which names the program.
+fn arguments_behind<'a>(
+    alloc: Global,
+    command: Command<'a>,
+    cert: Arg<'a>,
+) -> Result<Command<'a>, AllocError> {
+    let command = command.arg(cert)?;
+    let command = command.arg(workers_argument(alloc, "how many workers check, 1 to 64"))?;
+    let command = command.arg(json_argument(alloc))?;
+    variant_arguments(alloc, command)
+}
+
 /// The command with the words of a check, of which one names the certificate.
 ///
 /// Errors: where a growth was refused.
@@ -54,11 +66,14 @@ pub fn check_arguments<'a>(
 ) -> Result<Command<'a>, AllocError> {
     let command = command
         .about("decides a certificate: where it is accepted, every run of the program is good")
-        .arg(program_argument(alloc))?;
-    let command = command.arg(cert)?;
-    let command = command.arg(workers_argument(alloc, "how many workers check, 1 to 64"))?;
-    let command = command.arg(json_argument(alloc))?;
-    variant_arguments(alloc, command)
+        .arg(program_argument(alloc));
+    match command {
+        Ok(command) => arguments_behind(alloc, command, cert),
+        Err(reason) => {
+            drop(cert);
+            Err(reason)
+        }
+    }
 }
 
 /// How many workers the words ask for.

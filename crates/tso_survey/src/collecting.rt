@@ -74,10 +74,9 @@ fn by_certificate<R: Threads + Wait + Sync>(
 
 // What is said of a client by its trace.
 fn violated_by(trace: Trace) -> Decided {
-    Decided::Violated {
-        violation: trace.violation(),
-        labels: trace.labels.len(),
-    }
+    let (violation, labels) = (trace.violation(), trace.labels.len());
+    drop(trace);
+    Decided::Violated { violation, labels }
 }
 
 // What a trace says of a client.
@@ -92,7 +91,9 @@ fn traced(alloc: Global, checked: &Checked, trace: &[u8]) -> Result<Decided, Fai
 // What a trace says of a text.
 fn by_trace(alloc: Global, text: &[u8], trace: &[u8]) -> Result<Decided, Failure> {
     let checked = checked_of(alloc, text)?;
-    traced(alloc, &checked, trace)
+    let decided = traced(alloc, &checked, trace);
+    drop(checked);
+    decided
 }
 
 impl<'a> Collector<'a> {

@@ -101,20 +101,34 @@ impl Decided {
     }
 }
 
+// That all its runs are good, by a certificate of so many records, if they were counted.
+fn put_accepted<W: fmt::Write>(f: &mut fmt::Formatter<W>, records: Option<u64>) -> fmt::Result {
+    match records {
+        Some(records) => write!(f, "certificate: {records} records"),
+        None => write!(f, "accepted"),
+    }
+}
+
+// That one is not, by a trace of so many labels.
+fn put_violated<W: fmt::Write>(
+    f: &mut fmt::Formatter<W>,
+    violation: Violation,
+    labels: usize,
+) -> fmt::Result {
+    match violation {
+        Violation::Fault(thread) => {
+            write!(f, "violation: fault in thread {thread}, {labels} labels")
+        }
+        Violation::NoOrder => write!(f, "violation: no order, {labels} labels"),
+    }
+}
+
 /// As the line of a client says it, behind its calls.
 impl fmt::Display for Decided {
     fn fmt<W: fmt::Write>(&self, f: &mut fmt::Formatter<W>) -> fmt::Result {
         match self {
-            Decided::Accepted { records, .. } => match records {
-                Some(records) => write!(f, "certificate: {records} records"),
-                None => write!(f, "accepted"),
-            },
-            Decided::Violated { violation, labels } => match violation {
-                Violation::Fault(thread) => {
-                    write!(f, "violation: fault in thread {thread}, {labels} labels")
-                }
-                Violation::NoOrder => write!(f, "violation: no order, {labels} labels"),
-            },
+            Decided::Accepted { records, .. } => put_accepted(f, *records),
+            Decided::Violated { violation, labels } => put_violated(f, *violation, *labels),
             Decided::Limit => write!(f, "limit reached"),
             Decided::Missing => write!(f, "missing"),
             Decided::Rejected(verdict) => write!(f, "{verdict}"),

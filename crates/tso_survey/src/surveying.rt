@@ -517,7 +517,8 @@ fn survey_into<R: Threads + Wait + Sync, D: Finder, S: Session>(
 
 // Refuses a text that is no program.
 fn check_program(alloc: Global, base: &[u8]) -> Result<(), Failure> {
-    let _checked = checked_of(alloc, base)?;
+    let checked = checked_of(alloc, base)?;
+    drop(checked);
     Ok(())
 }
 

@@ -88,11 +88,6 @@ pub record IsSpelledFrom (form : Form) (c : Client) (w : Worked) (bytes : List â
   pub made : IsTreeOf c w tree
   pub with_table : IsSpelledWith form c tree bytes
 
--- there is such a tree
-pub record HasTree (c : Client) (w : Worked) : Type 0 where
-  pub tree : Tree
-  pub made : IsTreeOf c w tree
-
 -- there is such a tree, and a file, if there is one, has taken bytes that spell it, and no others
 pub record HasTakenFrom (form : Form) (c : Client) (w : Worked) (o : Option Taken) : Type 0 where
   pub tree : Tree

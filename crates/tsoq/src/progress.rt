@@ -73,8 +73,8 @@ impl<'a, L: Listener> Progress<'a, L> {
     }
 }
 
-/// The parts of a search's time: until its last state was left, until its certificate or trace was composed, and until that
-/// was written.
+/// The parts of a search's time: until its last state was left, until its trace was composed or it was known that there is a
+/// certificate, and until that was written.
 #[derive(Clone, Copy)]
 pub struct Times {
     searched: Duration,

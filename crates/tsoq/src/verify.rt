@@ -7,7 +7,7 @@ ghost use Rattle.tso_trace.specs.Grammar.{trace_text};
 ghost use Rattle.tso_trace.specs.Runs.{first_fault, violation_of};
 ghost use Rattle.tsoq.specs.Reports.{IsOfLabels, IsOfRecords, IsReport, IsTold};
 ghost use Rattle.tsoq.specs.Statuses.{status_of_search};
-ghost use Rattle.tsoq.specs.Written.{HasTaken, HasTakenFrom, HasTakenTree, HasTree, IsAllGood, IsAsked, IsAskedFor, IsFiled, IsSpelledFrom, IsSpelledWith, IsTableFor, IsWritable, bytes_of, count_of};
+ghost use Rattle.tsoq.specs.Written.{HasTaken, HasTakenFrom, HasTakenTree, IsAllGood, IsAsked, IsAskedFor, IsFiled, IsSpelledFrom, IsSpelledWith, IsTableFor, IsWritable, bytes_of, count_of};
 
 use crate::command::Search;
 use crate::counted::Taken;
@@ -16,14 +16,13 @@ use crate::form::Form;
 use crate::progress::{Listener, Progress};
 use crate::report::Report;
 use std::alloc::{AllocError, Global};
-use std::io::sink;
 use std::mem;
 use std::sync::Wait;
 use std::thread::Threads;
 use tso_cert::{Cert, Workers, build_intervals};
 use tso_client::checked_of;
 use tso_coverage::{Facts, told};
-use tso_explore::{Finding, Worked, find, intervals_for, tree_for};
+use tso_explore::{Finding, Worked, find, has_tree, intervals_for, tree_for};
 use tso_flow::Checked;
 use tso_foot::Table;
 use tso_front::{Failure, Files};
@@ -351,25 +350,6 @@ fn worked_in_form<R: Threads + Sync, F: Files>(
     }
 }
 
-// Spells worked states and keeps nothing of it: that it could be done shows that there is a certificate.
-fn spelled_in_vain<R: Threads + Sync>(
-    rt: &R,
-    alloc: Global,
-    checked: &Checked,
-    worked: &Worked<'_>,
-    workers: Workers,
-) -> Result<(), Failure>
-    requires worked { AreWorkedOut checked.now.client worked.now }
-    ensures { OnOk result (HasTree checked.now.client worked.now) }
-{
-    let mut nowhere = sink();
-    let table = &worked.table;
-    match tso_explore::write(rt, alloc, checked, worked, table, workers, &mut nowhere) {
-        Ok(()) => Ok(()),
-        Err(_) => Err(Failure::Memory),
-    }
-}
-
 // Writes worked states to this path, if there is one, and says what the file has taken.
 fn write_worked<R: Threads + Sync, F: Files>(
     rt: &R,
@@ -383,9 +363,8 @@ fn write_worked<R: Threads + Sync, F: Files>(
     ensures taken { IfOk result (HasTakenFrom search.now.form checked.now.client worked.now) }
     ensures asked { IfOk result (λ taken. IsAsked (is_some search.now.cert) taken None) }
 {
-    let workers = search.workers;
     let Some(path) = search.cert else {
-        spelled_in_vain(rt, alloc, checked, worked, workers)?;
+        has_tree(checked, worked);
         return Ok(None);
     };
     let taken = worked_in_form(
@@ -396,7 +375,7 @@ fn write_worked<R: Threads + Sync, F: Files>(
         search.form,
         checked,
         worked,
-        workers,
+        search.workers,
     )?;
     Ok(Some(taken))
 }

@@ -1,7 +1,7 @@
-use Rattle.tso_explore.proofs.SpellingLemmas.{fork_bytes}
+use Rattle.tso_explore.proofs.SpellingLemmas.{fork_pieces}
 use Rattle.tso_explore.proofs.spelling.fork_of.Goals as goal
 
 pub returns : goal.returns
 returns c =
-    fork_bytes c.args.store.now.states c.args.number c.args.left.now c.args.right.now c.new-out.result.items c.push.new.self.items c.extend_from_slice.new.self.items c.put_state.new.out.items c.extend_from_slice-2.new.self.items
-    c.new-out.ensures.items c.in_ok-push.ensures.items c.in_ok-extend_from_slice.ensures.items c.in_ok-put_state.ensures c.in_ok-extend_from_slice-2.ensures.items
+    fork_pieces (λ v. v.items) c.new-pieces.result.items c.push.new.self.items c.append.new.self.items c.push-2.new.self.items c.append-2.new.self.items c.args.left.items c.args.right.items c.in_ok-front.front c.args.middle
+    c.new-pieces.ensures.items c.in_ok-push.ensures.items c.in_ok-front.ensures.items c.in_ok-append.ensures.items c.in_ok-push-2.ensures.items c.in_ok-append-2.ensures.items
