@@ -1,5 +1,10 @@
 //! Other calls than those that a program text has.
 
+ghost use Rattle.std.specs.Prelude.{IfOk, MatchOption};
+ghost use Rattle.tso_client.specs.Headline.{DenotesChecked};
+ghost use Rattle.tso_client.specs.Programs.{IsRefused};
+ghost use Rattle.tso_prog.specs.declared.client.Client.{Client};
+
 use crate::failure::{Failure, misused};
 use crate::words::with_option;
 use clap::{ArgMatches, Command};
@@ -108,7 +113,9 @@ pub fn variant_arguments<'a>(
 /// The first fault of a program text, if it has one.
 ///
 /// Errors: where a growth was refused.
-pub fn fault_of(alloc: Global, text: &[u8]) -> Result<Option<Fault>, AllocError> {
+pub fn fault_of(alloc: Global, text: &[u8]) -> Result<Option<Fault>, AllocError>
+    ensures { IfOk result (λ found. MatchOption found ((c : Client) × DenotesChecked text.now c) (IsRefused text.now)) }
+{
     match checked_of(alloc, text) {
         Ok(checked) => {
             drop(checked);
