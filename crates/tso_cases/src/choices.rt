@@ -5,12 +5,12 @@ use crate::failure::Failure;
 use crate::followed::put_followed;
 use crate::input::{before, behind, index_at, word};
 use std::alloc::{AllocError, Global};
+use tso_cells::{Hull, widened};
 use tso_choose::{Choice, choose, chosen};
 use tso_flow::Checked;
 use tso_foot::{ArrayTable, Masks, Table, build, is_closed};
 use tso_indep::{Reason, holds};
 use tso_state::{State, is_well_formed};
-use tso_widen::{Hull, widened};
 
 const REASONS: [Reason; 6] = [
     Reason::Own,

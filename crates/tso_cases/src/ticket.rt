@@ -1,8 +1,8 @@
 //! Tickets that are offered and found at seats.
 
 ghost use Rattle.std.specs.Prelude.{◌≡◌, IfOk, OnOk};
-ghost use Rattle.tso_ticket.specs.Linked.{AreLinked, places};
-ghost use Rattle.tso_ticket.specs.Seats.{place_of};
+ghost use Rattle.tso_pool.specs.Linked.{AreLinked, places};
+ghost use Rattle.tso_pool.specs.Seats.{place_of};
 
 use crate::failure::Failure;
 use crate::input::{behind, index_at, number_at, word};
@@ -11,7 +11,7 @@ use std::sync::Wait;
 use std::sync::atomic::{AtomicU64, Ordering};
 use std::thread;
 use std::thread::Threads;
-use tso_ticket::{Seat, seats, tickets_left};
+use tso_pool::{Seat, seats, tickets_left};
 
 // So many seats, at most 64.
 fn row_of(alloc: Global, call: &str) -> Result<Vec<Seat<u64>>, Failure>

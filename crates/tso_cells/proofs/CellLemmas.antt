@@ -7,9 +7,9 @@ use Rattle.std.proofs.lemmas.List.Sums.{sum_by-cons}
 use Rattle.std.proofs.lemmas.Option.{none-some, same_Some}
 use Rattle.tso_cells.specs.Cells.{cut, greatest_index, has_all_of, has_cell, holds, holds_all, index_interval, is_cell, least_index, operand_cells, size_of}
 use Rattle.tso_cells.specs.declared.table.Cells.{Cells}
-use Rattle.tso_interval.proofs.Lying.{register_in}
-use Rattle.tso_interval.specs.Intervals.{has, lie_in}
-use Rattle.tso_interval.specs.declared.interval.Interval.{Interval}
+use Rattle.tso_cells.proofs.Lying.{register_in}
+use Rattle.tso_cells.specs.Intervals.{has, lie_in}
+use Rattle.tso_cells.specs.declared.interval.Interval.{Interval}
 use Rattle.tso_line.specs.Proper.{is_near}
 use Rattle.tso_line.specs.declared.instruction.Address.{Address}
 use Rattle.tso_line.specs.declared.instruction.Register.{Register}

@@ -6,9 +6,9 @@ use Rattle.tso_cells.proofs.CellLemmas.{operand_has}
 use Rattle.tso_cells.specs.Cells.{has_cell, own_reads, own_writes}
 use Rattle.tso_cells.specs.declared.table.Cells.{Cells}
 use Rattle.tso_flow.specs.declared.location.ProcedureKind.{ProcedureKind}
-use Rattle.tso_interval.proofs.Lying.{in_range}
-use Rattle.tso_interval.specs.Intervals.{lie_in}
-use Rattle.tso_interval.specs.declared.interval.Interval.{Interval}
+use Rattle.tso_cells.proofs.Lying.{in_range}
+use Rattle.tso_cells.specs.Intervals.{lie_in}
+use Rattle.tso_cells.specs.declared.interval.Interval.{Interval}
 use Rattle.tso_line.specs.Proper.{is_in_range, is_narrow_source, is_near}
 use Rattle.tso_line.specs.declared.instruction.Instruction.{Instruction}
 use Rattle.tso_line.specs.declared.instruction.Instruction.TheVariants as the

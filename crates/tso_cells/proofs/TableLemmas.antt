@@ -14,12 +14,12 @@ use Rattle.tso_flow.specs.Calls.{calls_of_client}
 use Rattle.tso_flow.specs.Paths.{goes_on, goes_on_from}
 use Rattle.tso_flow.specs.declared.location.ProcedureKind.{ProcedureKind}
 use Rattle.tso_flow.specs.declared.location.ProcedureKind.TheVariants as procedures
-use Rattle.tso_interval.proofs.Lying.{any_word, next_hands}
-use Rattle.tso_interval.proofs.Starting.{first_lie}
-use Rattle.tso_interval.specs.Intervals.{IsInside, all_words, has, lie_in}
-use Rattle.tso_interval.specs.Laws.{RegistersLie}
-use Rattle.tso_interval.specs.Moved.{moved}
-use Rattle.tso_interval.specs.declared.interval.Interval.{Interval}
+use Rattle.tso_cells.proofs.Lying.{any_word, next_hands}
+use Rattle.tso_cells.proofs.Starting.{first_lie}
+use Rattle.tso_cells.specs.Intervals.{IsInside, all_words, has, lie_in}
+use Rattle.tso_cells.specs.IntervalLaws.{RegistersLie}
+use Rattle.tso_cells.specs.Moved.{moved}
+use Rattle.tso_cells.specs.declared.interval.Interval.{Interval}
 use Rattle.tso_line.specs.declared.instruction.CallKind.{CallKind}
 use Rattle.tso_line.specs.declared.instruction.CallKind.TheVariants as kinds
 use Rattle.tso_line.specs.declared.instruction.Instruction.{Instruction}

@@ -12,10 +12,10 @@ use Rattle.tso_cells.specs.declared.table.Cells.{Cells}
 use Rattle.tso_cells.specs.declared.table.Item.{Item}
 use Rattle.tso_flow.specs.Calls.{as_thread}
 use Rattle.tso_flow.specs.Paths.{goes_on, is_at, next_of, target_of}
-use Rattle.tso_interval.specs.Intervals.{IsInside, has, lie_in}
-use Rattle.tso_interval.specs.Laws.{AreFirst}
-use Rattle.tso_interval.specs.Moved.{moved}
-use Rattle.tso_interval.specs.declared.interval.Interval.{Interval}
+use Rattle.tso_cells.specs.Intervals.{IsInside, has, lie_in}
+use Rattle.tso_cells.specs.IntervalLaws.{AreFirst}
+use Rattle.tso_cells.specs.Moved.{moved}
+use Rattle.tso_cells.specs.declared.interval.Interval.{Interval}
 use Rattle.tso_line.specs.declared.instruction.CallKind.{CallKind}
 use Rattle.tso_line.specs.declared.instruction.CallKind.TheVariants.{Push, Pop}
 use Rattle.tso_line.specs.declared.instruction.Instruction.{Instruction}

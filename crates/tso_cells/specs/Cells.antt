@@ -2,9 +2,9 @@
 use Rattle.std.specs.Prelude.{ℕ, ◌+◌, ◌-◌, ◌==◌, ◌&&◌, nat_lt, nat_le, if◌then◌else◌, Bool, List, [], ◌∷◌, length, Option, Some, None, slice_get, ℤ, pos, negsuc}
 use Rattle.std.specs.List.{list_all, list_any}
 use Rattle.tso_cells.specs.declared.table.Cells.{Cells}
-use Rattle.tso_interval.specs.Intervals.{alone}
-use Rattle.tso_interval.specs.Moved.{interval_of}
-use Rattle.tso_interval.specs.declared.interval.Interval.{Interval}
+use Rattle.tso_cells.specs.Intervals.{alone}
+use Rattle.tso_cells.specs.Moved.{interval_of}
+use Rattle.tso_cells.specs.declared.interval.Interval.{Interval}
 use Rattle.tso_line.specs.declared.instruction.Address.{Address}
 use Rattle.tso_line.specs.declared.instruction.Instruction.{Instruction}
 use Rattle.tso_line.specs.declared.instruction.Instruction.TheVariants as the

@@ -3,7 +3,7 @@ use Rattle.std.proofs.Common.{rules}
 use Rattle.tso_cells.specs.contracts.table.CellsPartialEq.TheImpl as cells_impl
 use Rattle.tso_cells.specs.contracts.table.IntervalTablePartialEq.TheImpl as table_impl
 use Rattle.tso_cells.specs.contracts.table.ItemPartialEq.TheImpl as item_impl
-use Rattle.tso_interval.specs.contracts.interval.IntervalPartialEq.TheImpl as interval_impl
+use Rattle.tso_cells.specs.contracts.interval.IntervalPartialEq.TheImpl as interval_impl
 use Rattle.tso_list.specs.Same.{IsExact, same_three, same_two}
 use lib.Pointwise.{pointwise_decides}
 

@@ -9,10 +9,10 @@ use Rattle.tso_flow.specs.Calls.{calls_of_client}
 use Rattle.tso_flow.specs.Paths.{goes_on}
 use Rattle.tso_flow.specs.declared.location.ProcedureKind.{ProcedureKind}
 use Rattle.tso_flow.specs.declared.location.ProcedureKind.TheVariants as procedures
-use Rattle.tso_interval.specs.Intervals.{IsInside, all_words, has}
-use Rattle.tso_interval.specs.Laws.{AreFirst}
-use Rattle.tso_interval.specs.Moved.{moved}
-use Rattle.tso_interval.specs.declared.interval.Interval.{Interval}
+use Rattle.tso_cells.specs.Intervals.{IsInside, all_words, has}
+use Rattle.tso_cells.specs.IntervalLaws.{AreFirst}
+use Rattle.tso_cells.specs.Moved.{moved}
+use Rattle.tso_cells.specs.declared.interval.Interval.{Interval}
 use Rattle.tso_line.specs.declared.instruction.CallKind.{CallKind}
 use Rattle.tso_line.specs.declared.instruction.CallKind.TheVariants.{Push, Pop}
 use Rattle.tso_line.specs.declared.instruction.Instruction.{Instruction}

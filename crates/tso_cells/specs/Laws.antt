@@ -5,7 +5,7 @@ use Rattle.tso_cells.specs.Inductive.{IsInductive, items_of, registers_at}
 use Rattle.tso_cells.specs.declared.table.Cells.{Cells}
 use Rattle.tso_cells.specs.declared.table.IntervalTable.{IntervalTable}
 use Rattle.tso_cells.specs.declared.table.Item.{Item}
-use Rattle.tso_interval.specs.Intervals.{lie_in}
+use Rattle.tso_cells.specs.Intervals.{lie_in}
 use Rattle.tso_machine.specs.Activations.{Activation}
 use Rattle.tso_machine.specs.Places.{first_memory}
 use Rattle.tso_machine.specs.Programs.{program_of}

@@ -1,4 +1,14 @@
+pub mod Intervals
+pub mod Moved
+pub mod IntervalLaws
 pub mod Cells
 pub mod Exactness
 pub mod Inductive
 pub mod Laws
+pub mod Growing
+pub mod Rows
+pub mod Spans
+pub mod Columns
+pub mod Starts
+pub mod Hulls
+pub mod Widened

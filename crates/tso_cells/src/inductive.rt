@@ -5,12 +5,13 @@ ghost use Rattle.tso_cells.specs.Inductive.{AreInside, Foresees, HandsOn, HasOwn
 ghost use Rattle.tso_cells.specs.declared.table.Item.{Item};
 ghost use Rattle.tso_flow.specs.Paths.{is_at};
 
+use crate::interval::Interval;
 use crate::lists::{are_cells, holds_all};
+use crate::moving::moved;
 use crate::own::{own_reads, own_writes};
 use crate::starts::are_starts;
 use crate::table::{IntervalTable, Item};
 use tso_flow::{Checked, jump_target, next_position};
-use tso_interval::{Interval, moved};
 use tso_prog::{Array, Step};
 
 // Whether the least word of an interval is at most its greatest.

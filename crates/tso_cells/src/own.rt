@@ -3,9 +3,10 @@
 ghost use Rattle.std.specs.Prelude.{◌≡◌, option_to_list, Some};
 ghost use Rattle.tso_cells.specs.Cells.{cut, greatest_index, index_interval, least_index, operand_cells, own_reads, own_writes};
 
+use crate::interval::Interval;
 use crate::lists::array_len;
+use crate::moving::register_number;
 use crate::table::Cells;
-use tso_interval::{Interval, register_number};
 use tso_line::{Address, Instruction, Register};
 use tso_prog::{Array, Step};
 

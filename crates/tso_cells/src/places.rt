@@ -4,13 +4,13 @@ ghost use Rattle.std.specs.Prelude.{◌≡◌, ◌+◌, ◌<◌, length, MatchOp
 ghost use Rattle.tso_cells.specs.Cells.{has_cell, is_cell};
 ghost use Rattle.tso_cells.specs.Inductive.{registers_at};
 ghost use Rattle.tso_cells.specs.Laws.{lies};
-ghost use Rattle.tso_interval.specs.Intervals.{lie_in};
+ghost use Rattle.tso_cells.specs.Intervals.{lie_in};
 ghost use Rattle.tso_machine.specs.Activations.{activation};
 ghost use Rattle.tso_machine.specs.Places.{first_place};
 
+use crate::interval::Interval;
 use crate::table::{Cells, IntervalTable, Item};
 use tso_flow::ProcedureKind;
-use tso_interval::Interval;
 use tso_machine::Frame;
 use tso_prog::Array;
 

@@ -3,10 +3,11 @@
 ghost use Rattle.std.specs.Prelude.{◌≡◌, ◌↔◌, All, IsTrue};
 ghost use Rattle.tso_cells.specs.Inductive.{AreStarts, HasArgument, HasZero, HaveArguments, HaveZeros, registers_at};
 ghost use Rattle.tso_flow.specs.Calls.{calls_of_client};
-ghost use Rattle.tso_interval.specs.Laws.{AreFirst};
+ghost use Rattle.tso_cells.specs.IntervalLaws.{AreFirst};
 
+use crate::interval::{ALL_WORDS, Interval};
+use crate::moving::register_number;
 use crate::table::{IntervalTable, Item};
-use tso_interval::{ALL_WORDS, Interval, register_number};
 use tso_list::Seq;
 use tso_prog::{CallKind, Client, Register};
 

@@ -4,8 +4,8 @@ ghost use Rattle.std.specs.Prelude.{◌≡◌};
 ghost use Rattle.tso_cells.specs.Cells.{has_all_of};
 ghost use Rattle.tso_cells.specs.Inductive.{items_of};
 
+use crate::interval::Interval;
 use tso_flow::ProcedureKind;
-use tso_interval::Interval;
 use tso_list::Seq;
 
 /// Cells of an array, from one index to another, both of them with it.

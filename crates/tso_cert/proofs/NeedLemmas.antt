@@ -23,8 +23,8 @@ use Rattle.tso_line.specs.declared.instruction.Instruction.{Instruction}
 use Rattle.tso_line.specs.declared.instruction.Instruction.TheVariants as the
 use Rattle.tso_machine.specs.Instructions.{instructions_of}
 use Rattle.tso_prog.specs.declared.client.Client.{Client}
-use Rattle.tso_widen.specs.Columns.{IsNeed, read_array, written_array}
-use Rattle.tso_widen.specs.Widened.{NamesNeeded, NamesOnlyNeeded}
+use Rattle.tso_cells.specs.Columns.{IsNeed, read_array, written_array}
+use Rattle.tso_cells.specs.Widened.{NamesNeeded, NamesOnlyNeeded}
 
 has_own : (k : ℕ) → has_array (2 ^ k) k ≡ true
 has_own k = ap (λ n. n == 1) (bit_at-pow_same k)

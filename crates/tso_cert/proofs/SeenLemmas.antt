@@ -14,8 +14,8 @@ use Rattle.tso_flow.specs.declared.location.ProcedureKind.{ProcedureKind}
 use Rattle.tso_flow.specs.declared.location.ProcedureKind.TheVariants as procedures
 use Rattle.tso_foot.specs.Within.{core_lies}
 use Rattle.tso_foot.specs.declared.table.Table.TheVariants.{Intervals}
-use Rattle.tso_interval.specs.Intervals.{IsInside, has, lie_in}
-use Rattle.tso_interval.specs.declared.interval.Interval.{Interval}
+use Rattle.tso_cells.specs.Intervals.{IsInside, has, lie_in}
+use Rattle.tso_cells.specs.declared.interval.Interval.{Interval}
 use Rattle.tso_machine.specs.Activations.{activation}
 use Rattle.tso_machine.specs.Instructions.{instructions_of}
 use Rattle.tso_machine.specs.declared.frame.Frame.{Frame}
@@ -23,9 +23,9 @@ use Rattle.tso_prog.specs.declared.client.Client.{Client}
 use Rattle.tso_state.specs.declared.state.Core.{Core}
 use Rattle.tso_state.specs.declared.state.Core.TheVariants.{Idle, Running, Stopped}
 use Rattle.tso_state.specs.declared.state.State.{State}
-use Rattle.tso_widen.specs.Hulls.{KeepsWords, empty_hull, rows_of}
-use Rattle.tso_widen.specs.Widened.{AreHeld, Holds, IsHeld}
-use Rattle.tso_widen.specs.declared.hulls.Hull.{Hull}
+use Rattle.tso_cells.specs.Hulls.{KeepsWords, empty_hull, rows_of}
+use Rattle.tso_cells.specs.Widened.{AreHeld, Holds, IsHeld}
+use Rattle.tso_cells.specs.declared.hulls.Hull.{Hull}
 
 known : {X : Type 0} (xs : List X) (n : ℕ) → n < length xs → (x : X) × (slice_get xs n ≡ Some x)
 known [] n lt = absurd (omega (arith, lt))

@@ -3,8 +3,8 @@ use Rattle.std.specs.Prelude.{◌≡◌, ℕ, IsTrue, List, length, Some, slice_
 use Rattle.tso_flow.specs.declared.location.ProcedureKind.{ProcedureKind}
 use Rattle.tso_foot.specs.Within.{IsWithin}
 use Rattle.tso_foot.specs.declared.table.Table.{Table}
-use Rattle.tso_interval.specs.Intervals.{lie_in}
-use Rattle.tso_interval.specs.declared.interval.Interval.{Interval}
+use Rattle.tso_cells.specs.Intervals.{lie_in}
+use Rattle.tso_cells.specs.declared.interval.Interval.{Interval}
 use Rattle.tso_machine.specs.declared.frame.Frame.{Frame}
 use Rattle.tso_state.specs.Views.{running_procedure}
 use Rattle.tso_state.specs.WellFormed.{IsThreadAt, calls_by}
@@ -12,8 +12,8 @@ use Rattle.tso_state.specs.declared.state.Core.{Core}
 use Rattle.tso_state.specs.declared.state.Core.TheVariants.{Idle, Running, Stopped}
 use Rattle.tso_state.specs.declared.state.State.{State}
 use Rattle.tso_state.specs.declared.state.Thread.{Thread}
-use Rattle.tso_widen.specs.Hulls.{KeepsWords, rows_of}
-use Rattle.tso_widen.specs.declared.hulls.Hull.{Hull}
+use Rattle.tso_cells.specs.Hulls.{KeepsWords, rows_of}
+use Rattle.tso_cells.specs.declared.hulls.Hull.{Hull}
 
 -- the words of its fifteen registers lie in the row at its position, if there is one
 pub record IsSeen (hull : Hull) (name : ProcedureKind) (f : Frame) : Type 0 where

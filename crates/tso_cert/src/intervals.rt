@@ -7,20 +7,19 @@ ghost use Rattle.tso_cert.specs.Seen.{AreSeen, AreWithin, CoreIsSeen, Keeps, Sta
 ghost use Rattle.tso_cert.specs.Trees.{tree_of};
 ghost use Rattle.tso_foot.specs.Narrower.{IsNarrowerThanClosed};
 ghost use Rattle.tso_foot.specs.declared.table.Table.TheVariants.{Intervals};
-ghost use Rattle.tso_interval.specs.Intervals.{lie_in};
-ghost use Rattle.tso_interval.specs.declared.interval.Interval.{Interval as AnInterval};
+ghost use Rattle.tso_cells.specs.Intervals.{lie_in};
+ghost use Rattle.tso_cells.specs.declared.interval.Interval.{Interval as AnInterval};
 ghost use Rattle.tso_rec.specs.Records.{states_of};
 ghost use Rattle.tso_state.specs.declared.state.State.{State as AState};
-ghost use Rattle.tso_widen.specs.Hulls.{empty_hull, rows_of};
+ghost use Rattle.tso_cells.specs.Hulls.{empty_hull, rows_of};
 
 use crate::cert::Cert;
 use std::alloc::{AllocError, Global};
-use tso_cells::IntervalTable;
+use tso_cells::{Hull, IntervalTable, widened};
 use tso_compact::{begun_calls, running_procedure};
 use tso_flow::{Checked, ProcedureKind};
 use tso_rec::Packed;
 use tso_state::{Core, Viewed};
-use tso_widen::{Hull, widened};
 
 // Fifteen registers at a position of a procedure.
 fn take_registers(hull: &mut Hull, procedure: ProcedureKind, position: usize, registers: &[u64; 15])

@@ -2,7 +2,6 @@ pub mod Goodness
 pub mod NumberedLemmas
 pub mod NeighbourLemmas
 pub mod OneAnswer
-pub mod OneText
 pub mod OneVerdict
 pub mod RisingByNumbers
 pub mod RisingLemmas

@@ -1,6 +1,6 @@
 -- A text and bytes have one answer, want of memory aside.
 use Rattle.std.proofs.Common.{◌≡◌, ◌∙◌, ℕ, ◌⊎◌, inl, inr, List, Some, Result, Ok, Err, refl, sym, ap, subst}
-use Rattle.tso_check.proofs.OneText.{one_first, same_client}
+use Rattle.tso_client.proofs.OneText.{one_first, same_client}
 use Rattle.tso_check.proofs.OneVerdict.{one_verdict}
 use Rattle.tso_check.proofs.VerdictLemmas.{accepted}
 use Rattle.tso_client.specs.Headline.{DenotesChecked, IsVerified}

@@ -21,7 +21,7 @@ ghost use Rattle.tso_state.specs.declared.state.State.{State as AState};
 use crate::deciding::verdict_on;
 use crate::verdict::Verdict;
 use std::alloc::{AllocError, Global};
-use tso_cells::IntervalTable;
+use tso_cells::{Hull, IntervalTable};
 use tso_cert::{
     Cert, build_intervals, decode, encode, encode_before, intervals_of, read_table, take_state,
 };
@@ -31,7 +31,6 @@ use tso_foot::Table;
 use tso_prog::Client;
 use tso_scan::{Scanned, scan};
 use tso_store::Store;
-use tso_widen::Hull;
 
 /// Why a certificate was not upgraded.
 #[derive(Clone, Copy, Debug, PartialEq, Eq)]

@@ -2,6 +2,7 @@ pub mod Coded
 pub mod Exactness
 pub mod Following
 pub mod Looser
+pub mod OneText
 pub mod Pairs
 pub mod Placed
 pub mod Prologues
@@ -9,3 +10,18 @@ pub mod Reordered
 pub mod SameCode
 pub mod Serving
 pub mod Theorems
+pub mod Agreeing
+pub mod CellPlaces
+pub mod Certificate
+pub mod Conditions
+pub mod Doing
+pub mod Frames
+pub mod Held
+pub mod Litmus
+pub mod OneOf
+pub mod PairCertificate
+pub mod PairChoices
+pub mod PairStates
+pub mod Same
+pub mod States
+pub mod Written

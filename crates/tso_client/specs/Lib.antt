@@ -6,3 +6,10 @@ pub mod Goodness
 pub mod Prologues
 pub mod Renamings
 pub mod Served
+pub mod Accesses
+pub mod Cells
+pub mod Comparisons
+pub mod Litmus
+pub mod Meanings
+pub mod Small
+pub mod Threads

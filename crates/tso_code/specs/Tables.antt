@@ -8,7 +8,7 @@ use Rattle.tso_foot.specs.declared.masks.Masks.{Masks}
 use Rattle.tso_foot.specs.declared.table.ArrayTable.{ArrayTable}
 use Rattle.tso_foot.specs.declared.table.Table.{Table}
 use Rattle.tso_foot.specs.declared.table.Table.TheVariants.{Arrays, Intervals}
-use Rattle.tso_interval.specs.declared.interval.Interval.{Interval}
+use Rattle.tso_cells.specs.declared.interval.Interval.{Interval}
 use Rattle.tso_code.specs.Fields.{at1, at2, at3, items_at, list, list_at, ListFits}
 use Rattle.tso_code.specs.Numbers.{Reading, number, IsPlace, IsWord, place_at, word_at}
 

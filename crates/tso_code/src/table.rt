@@ -5,9 +5,8 @@ ghost use Rattle.tso_code.specs.Tables.{ArrayTableFits, CellsFit, IntervalFits, 
 
 use crate::code::{Code, ReadError, read_fifteen, read_place, write_items, write_number};
 use std::alloc::{AllocError, Global};
-use tso_cells::{Cells, IntervalTable, Item};
+use tso_cells::{Cells, Interval, IntervalTable, Item};
 use tso_foot::{ArrayTable, Masks, Table};
-use tso_interval::Interval;
 use tso_list::Seq;
 
 impl Code for Masks {

@@ -17,9 +17,9 @@ use tso_choose::choose;
 use tso_fifo::linearize;
 use tso_flow::Checked;
 use tso_foot::Table;
-use tso_rec::{End, Kept, Packed, Shelf};
+use tso_rec::{End, Kept, Packed, Recorder, Shelf};
 use tso_state::State;
-use tso_store::{Recorder, Store, View};
+use tso_store::{Store, View};
 
 /// The most records of a leaf.
 pub const LEAF: usize = 64;
@@ -167,7 +167,7 @@ pub fn cut(
     requires rising { AreRising store.now.states numbers.now }
     ensures { IfOk result (λ cert. IsCut checked.now.client table.now store.now.states numbers.now (trees.tree_of cert)) }
 {
-    let recorder = store.recorder(alloc)?;
+    let recorder = Recorder::new(alloc, store)?;
     let mut ends = Shelf::new(alloc);
     tree_of(alloc, checked, table, store, &recorder, &mut ends, numbers)
 }

@@ -9,11 +9,10 @@ ghost use Rattle.tso_state.specs.declared.state.State.{State as AState};
 
 use crate::worked::Worked;
 use std::alloc::{AllocError, Global};
-use tso_cells::IntervalTable;
+use tso_cells::{Hull, IntervalTable};
 use tso_cert::{intervals_of, take_state};
 use tso_flow::Checked;
 use tso_store::Store;
-use tso_widen::Hull;
 
 // The registers of a state in a store are seen, if it has so many.
 fn take_number(hull: &mut Hull, store: &Store<'_>, number: u32)

@@ -182,8 +182,13 @@ fn stopped(
             if !hunts {
                 return Ok(Stopped::Trace(trace));
             }
-            let by_depth = hunted(alloc, checked, table)?;
-            Ok(Stopped::Trace(shorter(trace, by_depth)))
+            match hunted(alloc, checked, table) {
+                Ok(by_depth) => Ok(Stopped::Trace(shorter(trace, by_depth))),
+                Err(reason) => {
+                    drop(trace);
+                    Err(reason)
+                }
+            }
         }
         Stop::Limit => Ok(Stopped::LimitReached),
         Stop::Memory => Err(AllocError),
@@ -685,14 +690,22 @@ fn found_together<R: Threads + Sync>(
 {
     match ending {
         Ending::Quiet => ended_by_all(rt, alloc, checked, table, store, workers, limit),
-        Ending::Violation(kept) => match trace_along(alloc, checked, &kept)? {
-            Some(trace) => Ok(Some(Ended::Early(Stopped::Trace(trace)))),
-            None => Ok(None),
-        },
-        Ending::Full(kept) => match over_with(alloc, checked, store, &kept, limit)? {
-            Some(why) => Ok(Some(Ended::Early(why))),
-            None => Ok(None),
-        },
+        Ending::Violation(kept) => {
+            let found = trace_along(alloc, checked, &kept);
+            drop(kept);
+            match found? {
+                Some(trace) => Ok(Some(Ended::Early(Stopped::Trace(trace)))),
+                None => Ok(None),
+            }
+        }
+        Ending::Full(kept) => {
+            let found = over_with(alloc, checked, store, &kept, limit);
+            drop(kept);
+            match found? {
+                Some(why) => Ok(Some(Ended::Early(why))),
+                None => Ok(None),
+            }
+        }
         Ending::Astray => Ok(None),
         Ending::Memory => Err(AllocError),
     }

@@ -70,6 +70,23 @@ fn add_tables(
     Ok(())
 }
 
+// Adds the states of all tables, and has the store learn where the next steps of their threads lead.
+fn fill(
+    alloc: Global,
+    checked: &Checked,
+    footprints: &Footprints,
+    store: &mut Store<'_>,
+    tables: &[Table<'_>],
+) -> Result<(), AllocError>
+    requires client { store.old.client ≡ checked.now.client }
+    requires begun { HasBegun checked.now.client store.old.states }
+    ensures begun { OnOk result (HasBegun checked.now.client store.new.states) }
+    ensures client { store.new.client ≡ store.old.client }
+{
+    add_tables(alloc, checked, footprints, store, tables)?;
+    store.learn()
+}
+
 /// A store of the initial state and those of the tables, which has learnt where the next steps of their threads lead.
 ///
 /// Errors: where a growth was refused.
@@ -83,7 +100,11 @@ pub fn merged<'a>(
     ensures begun { IfOk result (λ store. HasBegun checked.now.client store.states) }
 {
     let mut store = started(alloc, checked)?;
-    add_tables(alloc, checked, footprints, &mut store, tables)?;
-    store.learn()?;
-    Ok(store)
+    match fill(alloc, checked, footprints, &mut store, tables) {
+        Ok(()) => Ok(store),
+        Err(reason) => {
+            drop(store);
+            Err(reason)
+        }
+    }
 }

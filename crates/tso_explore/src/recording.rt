@@ -6,7 +6,8 @@ ghost use Rattle.tso_explore.specs.Spelling.{AreRecorders};
 use std::alloc::{AllocError, Global};
 use std::thread::Threads;
 use tso_cert::{Task, run_by};
-use tso_store::{Recorder, Store};
+use tso_rec::Recorder;
+use tso_store::Store;
 
 // So many recorders of a store's states, and at least one.
 fn recorders_of<'s>(
@@ -17,10 +18,10 @@ fn recorders_of<'s>(
     ensures { IfOk result (λ all. AreRecorders store.now.states all.items) }
 {
     let mut all = Vec::new(alloc);
-    let first = store.recorder(alloc)?;
+    let first = Recorder::new(alloc, store)?;
     all.push(first)?;
     for _number in 1..count {
-        let recorder = store.recorder(alloc)?;
+        let recorder = Recorder::new(alloc, store)?;
         all.push(recorder)?;
     }
     Ok(all)

@@ -30,6 +30,21 @@ fn next_of(
     }
 }
 
+// The same in its place.
+fn moved(
+    alloc: Global,
+    checked: &Checked,
+    kept: Kept,
+    actor: Actor,
+) -> Result<Option<Kept>, AllocError>
+    requires { IsKept checked.now.client kept }
+    ensures { IfOk result (λ o. IfSome o (IsKept checked.now.client)) }
+{
+    let next = next_of(alloc, checked, &kept, actor);
+    drop(kept);
+    next
+}
+
 /// The state to which these actors' steps lead, one after another from the initial one. `None` where one of them has no step.
 ///
 /// Errors: where a growth was refused.
@@ -38,7 +53,7 @@ pub fn walked(alloc: Global, checked: &Checked, actors: &[u8]) -> Result<Option<
 {
     let mut kept = Kept::initial(alloc, checked)?;
     for actor in actors {
-        match next_of(alloc, checked, &kept, actor_at(*actor as usize))? {
+        match moved(alloc, checked, kept, actor_at(*actor as usize))? {
             Some(next) => kept = next,
             None => return Ok(None),
         }
@@ -60,6 +75,65 @@ fn labels_of(
     }
 }
 
+// Puts the labels of an actor's step behind others. Whether it has one.
+fn put_step(
+    alloc: Global,
+    checked: &Checked,
+    kept: &Kept,
+    actor: Actor,
+    all: &mut Vec<Label>,
+) -> Result<bool, AllocError> {
+    match labels_of(alloc, checked, kept, actor)? {
+        Some(more) => {
+            all.extend_from_slice(more.as_slice())?;
+            Ok(true)
+        }
+        None => Ok(false),
+    }
+}
+
+// Puts the labels of an actor's step behind others, and takes the step. `None` where it has none.
+fn labelled(
+    alloc: Global,
+    checked: &Checked,
+    kept: Kept,
+    actor: Actor,
+    all: &mut Vec<Label>,
+) -> Result<Option<Kept>, AllocError>
+    requires { IsKept checked.now.client kept }
+    ensures { IfOk result (λ o. IfSome o (IsKept checked.now.client)) }
+{
+    match put_step(alloc, checked, &kept, actor, all) {
+        Ok(true) => moved(alloc, checked, kept, actor),
+        Ok(false) => {
+            drop(kept);
+            Ok(None)
+        }
+        Err(reason) => {
+            drop(kept);
+            Err(reason)
+        }
+    }
+}
+
+// Puts the labels of these actors' steps behind others, one after another from the initial state. Whether each has one.
+fn put_steps(
+    alloc: Global,
+    checked: &Checked,
+    actors: &[u8],
+    all: &mut Vec<Label>,
+) -> Result<bool, AllocError> {
+    let mut kept = Kept::initial(alloc, checked)?;
+    for actor in actors {
+        match labelled(alloc, checked, kept, actor_at(*actor as usize), all)? {
+            Some(next) => kept = next,
+            None => return Ok(false),
+        }
+    }
+    drop(kept);
+    Ok(true)
+}
+
 // The labels of these actors' steps, one after another from the initial state. `None` where one of them has no step.
 fn labels_along(
     alloc: Global,
@@ -67,19 +141,10 @@ fn labels_along(
     actors: &[u8],
 ) -> Result<Option<Vec<Label>>, AllocError> {
     let mut all = Vec::new(alloc);
-    let mut kept = Kept::initial(alloc, checked)?;
-    for actor in actors {
-        let actor = actor_at(*actor as usize);
-        let Some(more) = labels_of(alloc, checked, &kept, actor)? else {
-            return Ok(None);
-        };
-        all.extend_from_slice(more.as_slice())?;
-        match next_of(alloc, checked, &kept, actor)? {
-            Some(next) => kept = next,
-            None => return Ok(None),
-        }
+    if put_steps(alloc, checked, actors, &mut all)? {
+        return Ok(Some(all));
     }
-    Ok(Some(all))
+    Ok(None)
 }
 
 /// The trace of the run along the actors that are kept with a state. `None` where this run is good, or none.

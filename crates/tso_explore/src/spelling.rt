@@ -16,8 +16,8 @@ use tso_cert::{ALONE, Task, run_by};
 use tso_code::{Code, write_number};
 use tso_flow::Checked;
 use tso_foot::Table;
-use tso_rec::{End, Shelf};
-use tso_store::{Recorder, Store};
+use tso_rec::{End, Recorder, Shelf};
+use tso_store::Store;
 
 // Puts the records of these states at the end, without their count.
 fn put_records(

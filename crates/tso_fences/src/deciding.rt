@@ -86,12 +86,27 @@ fn rule_some<R: Threads + Wait + Sync, D: Finder, S: Session>(
     Ok(worst(calls, findings)?)
 }
 
-// The second where a client has a run that is not good, or nothing stood against the first; else the first.
+// Whether the second is to stand: where a client has a run that is not good, or nothing stood against the first.
+fn is_worse(first: &Ruling, second: &Ruling) -> bool {
+    first.standing() == Standing::Right || second.standing() == Standing::Wrong
+}
+
+// The one of two that is to stand.
 fn worse(first: Ruling, second: Ruling) -> Ruling {
-    if first.standing() == Standing::Right || second.standing() == Standing::Wrong {
+    if is_worse(&first, &second) {
+        drop(first);
         second
     } else {
+        drop(second);
         first
+    }
+}
+
+// The same, where there is a second.
+fn worse_of(first: Ruling, second: Option<Ruling>) -> Ruling {
+    match second {
+        Some(second) => worse(first, second),
+        None => first,
     }
 }
 
@@ -105,8 +120,12 @@ fn rule_surveyed<R: Threads + Wait + Sync, D: Finder, S: Session>(
 ) -> Result<Ruling, Failure> {
     let mut ruling = Ruling::Each(surveyed.calls.len());
     for calls in surveyed.calls.chunks(finder.width().max(1)) {
-        if let Some(worst) = rule_some(rt, finder, session, surveyed, text, calls)? {
-            ruling = worse(ruling, worst);
+        match rule_some(rt, finder, session, surveyed, text, calls) {
+            Ok(worst) => ruling = worse_of(ruling, worst),
+            Err(failure) => {
+                drop(ruling);
+                return Err(failure);
+            }
         }
         if ruling.standing() == Standing::Wrong {
             break;

@@ -231,7 +231,9 @@ fn ask<R: Threads + Wait + Sync, D: Finder, S: Session>(
         company: clients.company(client),
     };
     let ruling = rule_one(rt, finder, session, clients, text)?;
-    conclude(rt, finder, session, clients, asked, &author, &ruling)
+    let fenced = conclude(rt, finder, session, clients, asked, &author, &ruling);
+    drop(ruling);
+    fenced
 }
 
 // The same of the client of the text.

@@ -1,5 +1,6 @@
 //! Plain instructions that do what a locked one does, but for its lock.
 
+use crate::lines::lines_of;
 use std::alloc::{AllocError, Global};
 use tso_line::register_word;
 use tso_list::Seq;
@@ -52,10 +53,10 @@ pub fn cell_text(
     format!(in alloc; "qword ptr [{name}{index}{displacement}]")
 }
 
-// Puts a line at the end.
-fn put(lines: &mut Vec<Seq<u8>>, line: String) -> Result<(), AllocError> {
-    lines.push(Seq::from_vec(line.into_bytes()))?;
-    Ok(())
+// The lines of a text.
+fn as_lines(alloc: Global, text: String) -> Result<Vec<Seq<u8>>, AllocError> {
+    let lines = lines_of(alloc, text.as_str().as_bytes())?;
+    Ok(lines.into_vec())
 }
 
 /// One line.
@@ -63,7 +64,7 @@ fn put(lines: &mut Vec<Seq<u8>>, line: String) -> Result<(), AllocError> {
 /// Errors: where a growth was refused.
 pub fn one_line(alloc: Global, line: String) -> Result<Vec<Seq<u8>>, AllocError> {
     let mut lines = Vec::new(alloc);
-    put(&mut lines, line)?;
+    lines.push(Seq::from_vec(line.into_bytes()))?;
     Ok(lines)
 }
 
@@ -86,11 +87,10 @@ pub fn add_lines(
 ) -> Result<Vec<Seq<u8>>, AllocError> {
     let (cell, register) = (locked.cell.as_str(), register_word(locked.register));
     let free = register_word(free);
-    let mut lines = one_line(alloc, format!(in alloc; "mov {free}, {cell}")?)?;
-    put(&mut lines, format!(in alloc; "add {register}, {free}")?)?;
-    put(&mut lines, format!(in alloc; "mov {cell}, {register}")?)?;
-    put(&mut lines, format!(in alloc; "mov {register}, {free}")?)?;
-    Ok(lines)
+    let text = format!(in alloc;
+        "mov {free}, {cell}\nadd {register}, {free}\nmov {cell}, {register}\nmov {register}, {free}"
+    )?;
+    as_lines(alloc, text)
 }
 
 /// A load, a comparison and a store in place of `lock cmpxchg`: the same values and flags, by way of a register that is free and of
@@ -105,13 +105,10 @@ pub fn compare_lines(
 ) -> Result<Vec<Seq<u8>>, AllocError> {
     let (cell, register) = (locked.cell.as_str(), register_word(locked.register));
     let free = register_word(free);
-    let mut lines = one_line(alloc, format!(in alloc; "mov {free}, {cell}")?)?;
-    put(&mut lines, format!(in alloc; "cmp rax, {free}")?)?;
-    put(&mut lines, format!(in alloc; "jne {label}")?)?;
-    put(&mut lines, format!(in alloc; "mov {cell}, {register}")?)?;
-    put(&mut lines, format!(in alloc; "{label}:")?)?;
-    put(&mut lines, format!(in alloc; "mov rax, {free}")?)?;
-    Ok(lines)
+    let text = format!(in alloc;
+        "mov {free}, {cell}\ncmp rax, {free}\njne {label}\nmov {cell}, {register}\n{label}:\nmov rax, {free}"
+    )?;
+    as_lines(alloc, text)
 }
 
 // Whether a word stands in a text.

@@ -32,9 +32,7 @@ pub fn standing_of(decided: &Decided) -> Standing {
     match decided {
         Decided::Accepted { .. } => Standing::Right,
         Decided::Violated { .. } => Standing::Wrong,
-        Decided::Limit | Decided::Missing | Decided::Rejected(_) | Decided::Untraced(_) => {
-            Standing::Open
-        }
+        Decided::Limit | Decided::Missing | Decided::Refused(_) => Standing::Open,
     }
 }
 

@@ -24,22 +24,55 @@ pub struct Fences<'a> {
     pub json: bool,
 }
 
+/// A number that goes with a survey alone.
+#[derive(Clone, Copy)]
+struct Bound {
+    name: &'static str,
+    least: i64,
+    most: i64,
+    help: &'static str,
+}
+
+const BOUNDS: [Bound; 4] = [
+    Bound {
+        name: "threads",
+        least: 1,
+        most: 4,
+        help: "with --survey: how many threads a client has at most; 3 if not said",
+    },
+    Bound {
+        name: "calls",
+        least: 1,
+        most: 12,
+        help: "with --survey: how many calls its threads have at most; 4 if not said",
+    },
+    Bound {
+        name: "producers",
+        least: 0,
+        most: 4,
+        help: "with --survey: how many threads push at most; all if not said",
+    },
+    Bound {
+        name: "consumers",
+        least: 0,
+        most: 4,
+        help: "with --survey: how many threads pop at most; all if not said",
+    },
+];
+
 // The command with a number that goes with a survey alone.
 fn with_bound<'a>(
     alloc: Global,
     command: Command<'a>,
-    name: &'a str,
-    least: i64,
-    most: i64,
-    help: &'a str,
+    bound: Bound,
 ) -> Result<Command<'a>, AllocError> {
-    let bound = Arg::new(alloc, name)
-        .long(name)
+    let arg = Arg::new(alloc, bound.name)
+        .long(bound.name)
         .value_name("N")
         .action(ArgAction::Set)
-        .value_parser(value_parser!(u64).range(least..=most))
-        .help(help);
-    command.arg(bound.requires_arg("survey")?)
+        .value_parser(value_parser!(u64).range(bound.least..=bound.most))
+        .help(bound.help);
+    command.arg(arg.requires_arg("survey")?)
 }
 
 // The command with the flag of a survey.
@@ -55,15 +88,11 @@ fn with_survey<'a>(alloc: Global, command: Command<'a>) -> Result<Command<'a>, A
 
 // The words for the clients of a survey.
 fn survey_arguments<'a>(alloc: Global, command: Command<'a>) -> Result<Command<'a>, AllocError> {
-    let command = with_survey(alloc, command)?;
-    let help = "with --survey: how many threads a client has at most; 3 if not said";
-    let command = with_bound(alloc, command, "threads", 1, 4, help)?;
-    let help = "with --survey: how many calls its threads have at most; 4 if not said";
-    let command = with_bound(alloc, command, "calls", 1, 12, help)?;
-    let help = "with --survey: how many threads push at most; all if not said";
-    let command = with_bound(alloc, command, "producers", 0, 4, help)?;
-    let help = "with --survey: how many threads pop at most; all if not said";
-    with_bound(alloc, command, "consumers", 0, 4, help)
+    let mut command = with_survey(alloc, command)?;
+    for bound in BOUNDS {
+        command = with_bound(alloc, command, bound)?;
+    }
+    Ok(command)
 }
 
 // The command with the number of fences that are added.
@@ -78,6 +107,13 @@ fn with_add<'a>(alloc: Global, command: Command<'a>) -> Result<Command<'a>, Allo
     command.arg(add)
 }
 
+// The words for what is asked, and how it is printed.
+fn own_arguments<'a>(alloc: Global, command: Command<'a>) -> Result<Command<'a>, AllocError> {
+    let command = command.arg(program_argument(alloc))?;
+    let command = with_add(alloc, command)?;
+    command.arg(json_argument(alloc))
+}
+
 /// The command with its words.
 ///
 /// Errors: where a growth was refused.
@@ -85,9 +121,7 @@ pub fn fences_arguments<'a>(
     alloc: Global,
     command: Command<'a>,
 ) -> Result<Command<'a>, AllocError> {
-    let command = command.arg(program_argument(alloc))?;
-    let command = with_add(alloc, command)?;
-    let command = command.arg(json_argument(alloc))?;
+    let command = own_arguments(alloc, command)?;
     let command = variant_arguments(alloc, command)?;
     survey_arguments(alloc, command)
 }

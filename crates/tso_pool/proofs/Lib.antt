@@ -1,3 +1,10 @@
 pub mod DeskLemmas
 pub mod EndLemmas
 pub mod NumberLemmas
+pub mod Closes
+pub mod Kept
+pub mod Links
+pub mod Meeting
+pub mod Tallies
+pub mod Tried
+pub mod Unlinks

@@ -1,3 +1,7 @@
 pub mod Endings
 pub mod Numbering
 pub mod Desks
+pub mod Hands
+pub mod Linked
+pub mod Seats
+pub mod Victims

@@ -3,6 +3,7 @@
 ghost use Rattle.std.specs.Prelude.{◌≡◌, ◌+◌, ◌<◌, IfOk, vec_len};
 
 use crate::ending::Ending;
+use crate::seat::Seat;
 use crate::team::Team;
 use crate::ticket::Ticket;
 use crate::working::work;
@@ -13,7 +14,6 @@ use std::thread;
 use std::thread::Threads;
 use tso_cert::Watch;
 use tso_table::Search;
-use tso_ticket::Seat;
 
 // What a worker begins with.
 #[derive(Drop)]

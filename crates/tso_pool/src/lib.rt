@@ -1,32 +1,44 @@
-//! Workers that search the states of one client together, over tables that they share.
+//! Workers that search the states of one client together, over tables that they share, and the tickets that they hand to one
+//! another: none is lost, and none is given twice.
 #![tactic(auto)]
 
+mod closing;
 mod crew;
 mod desk;
 mod ending;
 mod finds;
 mod gathering;
 mod judging;
+mod linking;
 mod locking;
 mod moves;
 mod progress;
 mod resting;
+mod rule;
 mod searching;
+mod seat;
 mod sharing;
+mod stealing;
 mod team;
 mod ticket;
+mod victim;
 mod working;
 
+pub use closing::tickets_left;
 pub use crew::work_all;
 pub use desk::Desk;
 pub use ending::Ending;
 pub use gathering::gather;
 pub use judging::judge_end;
+pub use linking::seats;
 pub use moves::Moves;
 pub use progress::Progress;
 pub use resting::Resting;
+pub use rule::{Hand, Once};
 pub use searching::search;
+pub use seat::Seat;
 pub use sharing::{file, intern, take};
 pub use team::Team;
 pub use ticket::Ticket;
+pub use victim::Victim;
 pub use working::{offer, work};

@@ -8,8 +8,10 @@ use crate::crew::work_all;
 use crate::desk::Desk;
 use crate::ending::Ending;
 use crate::gathering::gather;
+use crate::linking::seats;
 use crate::progress::Progress;
 use crate::resting::Resting;
+use crate::seat::Seat;
 use crate::sharing::intern;
 use crate::team::Team;
 use crate::ticket::Ticket;
@@ -24,7 +26,6 @@ use tso_cert::Watch;
 use tso_flow::Checked;
 use tso_foot::Table as Footprints;
 use tso_table::{ALLOTMENT, Budget, SHARDS, Search, Shard, Table};
-use tso_ticket::{Seat, seats};
 
 // The number of no worker: whoever takes a ticket of its desk takes the state from its shard.
 const NO_WORKER: u64 = 64;

@@ -8,12 +8,13 @@ ghost use Rattle.tso_pool.specs.Endings.{IsEndingOf};
 ghost use Rattle.tso_rec.specs.declared.record.End.TheVariants as ends;
 ghost use Rattle.tso_state.specs.WellFormed.{IsWellFormed};
 ghost use Rattle.tso_store.specs.Sheets.{CanStep};
-ghost use Rattle.tso_ticket.specs.Seats.{place_of};
+ghost use Rattle.tso_pool.specs.Seats.{place_of};
 
 use crate::desk::Desk;
 use crate::ending::Ending;
 use crate::judging::judge_end;
 use crate::moves::Moves;
+use crate::seat::Seat;
 use crate::sharing::{file, intern, take};
 use crate::team::Team;
 use crate::ticket::Ticket;
@@ -28,7 +29,6 @@ use tso_rec::End;
 use tso_state::Actor;
 use tso_store::View;
 use tso_table::{Filed, Number, Numbers, Search};
-use tso_ticket::Seat;
 
 /// Hands out a ticket. It can't be lost: where the deque refuses it, it is on the own list.
 pub fn offer(seat: &mut Seat<Ticket>, ticket: Ticket) -> Result<(), AllocError>

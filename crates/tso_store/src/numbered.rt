@@ -16,7 +16,6 @@ use crate::moved::{add_keys, add_parts};
 use crate::parts::Parts;
 use crate::ranking::{compare_at, key_at, rising};
 use crate::ranks::{Ranks, ranks_of};
-use crate::recorder::Recorder;
 use crate::sought::{Found, Sought, find_step};
 use crate::stepped::step_key;
 use crate::view::{View, copy_of};
@@ -321,13 +320,12 @@ impl<'a> Store<'a> {
         rising(alloc, &self.parts, &self.keys, &ranks)
     }
 
-    /// What makes records of the states, with each part in memory once for all of them.
-    ///
-    /// Errors: where a growth was refused.
-    pub fn recorder(&self, alloc: Global) -> Result<Recorder<'_>, AllocError>
-        ensures { IfOk result (λ r. r ≡ self.now.states) }
+    /// The parts of the states, and for each state, in their order, the numbers of its parts.
+    pub fn keyed_parts(&self) -> (&Parts, &Pool<Key>)
+        ensures states { states_at result.0.now result.1.now ≡ self.now.states }
+        ensures kept { AreKept self.now.client result.0.now result.1.now }
     {
-        Recorder::of_parts(alloc, &self.parts, &self.keys)
+        (&self.parts, &self.keys)
     }
 
     /// Two states with different numbers differ. This function does nothing when it runs.

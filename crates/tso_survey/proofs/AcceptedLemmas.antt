@@ -1,7 +1,7 @@
 -- The client of a text that was verified, and of one that a verified client covers.
 use Rattle.std.proofs.Common.{◌≡◌, ◌∙◌, ℕ, List, Result, Ok, sym, subst}
 use Rattle.std.proofs.Math.Logic.{∥∥₁_map}
-use Rattle.tso_check.proofs.OneText.{same_client}
+use Rattle.tso_client.proofs.OneText.{same_client}
 use Rattle.tso_client.specs.Headline.{DenotesChecked, EachRunIsGood, IsVerified}
 use Rattle.tso_client.proofs.Serving.{goodness_goes_down}
 use Rattle.tso_client.specs.Clients.{ClientCovers}

@@ -5,9 +5,8 @@ use crate::calls::Calls;
 use serde_json::{Value, json};
 use std::alloc::{AllocError, Global};
 use std::fmt;
-use tso_check::Verdict;
 use tso_front::number_or_null;
-use tso_trace::{TraceFault, Violation};
+use tso_trace::Violation;
 
 /// What is said of one client of a survey.
 #[derive(Drop)]
@@ -26,10 +25,8 @@ pub enum Decided {
     Limit,
     /// There is neither a certificate nor a trace of it.
     Missing,
-    /// Its certificate is refused.
-    Rejected(Verdict),
-    /// Its trace is refused.
-    Untraced(TraceFault),
+    /// Its certificate or its trace is refused, and why.
+    Refused(String),
 }
 
 // A violation by its words, and the thread of a fault.
@@ -88,10 +85,7 @@ impl Decided {
             }
             Decided::Limit => plain_object(alloc, calls, "limit reached"),
             Decided::Missing => plain_object(alloc, calls, "missing"),
-            Decided::Rejected(_) | Decided::Untraced(_) => {
-                let why = self.to_string(alloc)?;
-                refused_object(alloc, calls, why.as_str())
-            }
+            Decided::Refused(why) => refused_object(alloc, calls, why.as_str()),
         }
     }
 
@@ -131,8 +125,7 @@ impl fmt::Display for Decided {
             Decided::Violated { violation, labels } => put_violated(f, *violation, *labels),
             Decided::Limit => write!(f, "limit reached"),
             Decided::Missing => write!(f, "missing"),
-            Decided::Rejected(verdict) => write!(f, "{verdict}"),
-            Decided::Untraced(fault) => write!(f, "{fault}"),
+            Decided::Refused(why) => write!(f, "{why}"),
         }
     }
 }

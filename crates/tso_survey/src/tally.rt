@@ -104,9 +104,7 @@ impl Tally {
             Decided::Violated { .. } => self.note_violated(calls)?,
             Decided::Limit => self.limits = self.limits.saturating_add(1),
             Decided::Missing => self.missing = self.missing.saturating_add(1),
-            Decided::Rejected(_) | Decided::Untraced(_) => {
-                self.refused = self.refused.saturating_add(1);
-            }
+            Decided::Refused(_) => self.refused = self.refused.saturating_add(1),
         }
         Ok(())
     }

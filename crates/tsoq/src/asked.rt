@@ -39,27 +39,36 @@ impl Replay<'_> {
     }
 }
 
-// The command with the options for what is shown beside each label.
-fn with_views<'a>(alloc: Global, command: Command<'a>) -> Result<Command<'a>, AllocError> {
-    let help = "prints the instruction beside each label, with its line";
-    let command = with_flag(alloc, command, "source", help)?;
-    let help = "prints registers and flags after each label";
-    let command = with_flag(alloc, command, "registers", help)?;
-    let help = "prints memory and store buffers after each label";
-    with_flag(alloc, command, "buffers", help)
-}
+// What can be shown, by its word, and what is said of it.
+const FLAGS: [(&str, &str); 6] = [
+    (
+        "source",
+        "prints the instruction beside each label, with its line",
+    ),
+    ("registers", "prints registers and flags after each label"),
+    (
+        "buffers",
+        "prints memory and store buffers after each label",
+    ),
+    (
+        "brief",
+        "prints no steps between registers, and a locked instruction as one line",
+    ),
+    (
+        "history",
+        "prints the calls with their answers, and how far they have an order",
+    ),
+    ("partial", "shows also a run in which nothing is wrong"),
+];
 
 /// The command with the options for what is shown.
 ///
 /// Errors: where a growth was refused.
 pub fn with_flags<'a>(alloc: Global, command: Command<'a>) -> Result<Command<'a>, AllocError> {
-    let command = with_views(alloc, command)?;
-    let help = "prints no steps between registers, and a locked instruction as one line";
-    let command = with_flag(alloc, command, "brief", help)?;
-    let help = "prints the calls with their answers, and how far they have an order";
-    let command = with_flag(alloc, command, "history", help)?;
-    let help = "shows also a run in which nothing is wrong";
-    let command = with_flag(alloc, command, "partial", help)?;
+    let mut command = command;
+    for (name, help) in FLAGS {
+        command = with_flag(alloc, command, name, help)?;
+    }
     let help = "writes the run as a page that a browser shows";
     with_option(alloc, command, "html", "OUT", help)
 }

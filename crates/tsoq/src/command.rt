@@ -17,7 +17,7 @@ use tso_front::{
     program_argument, variant_arguments, variant_of, with_flag, with_option, written_apart,
 };
 use tso_say::{Topic, find};
-use tso_survey::{Check, cert_argument, check_arguments, check_of, workers_argument, workers_of};
+use tso_verdict::{Check, cert_argument, check_arguments, check_of, workers_argument, workers_of};
 
 /// What is searched, how far, and where what is found is written.
 #[derive(Clone, Copy)]
@@ -161,14 +161,28 @@ fn replay_command<'a>(alloc: Global) -> Result<Command<'a>, AllocError> {
     variant_arguments(alloc, command)
 }
 
-// The program's words with one command more, of which words can be asked for that say why.
+// A command of which words can be asked for that say why.
+fn told<'a>(
+    alloc: Global,
+    command: Result<Command<'a>, AllocError>,
+) -> Result<Command<'a>, AllocError> {
+    let help = "says on standard error, behind the promised lines, why";
+    with_flag(alloc, command?, "verbose", help)
+}
+
+// The program's words with one such command more.
 fn with_command<'a>(
     alloc: Global,
     program: Command<'a>,
-    command: Command<'a>,
+    command: Result<Command<'a>, AllocError>,
 ) -> Result<Command<'a>, AllocError> {
-    let help = "says on standard error, behind the promised lines, why";
-    program.subcommand(with_flag(alloc, command, "verbose", help)?)
+    match told(alloc, command) {
+        Ok(command) => program.subcommand(command),
+        Err(reason) => {
+            drop(program);
+            Err(reason)
+        }
+    }
 }
 
 // The commands on a certificate.
@@ -176,9 +190,9 @@ fn with_certificate_commands<'a>(
     alloc: Global,
     program: Command<'a>,
 ) -> Result<Command<'a>, AllocError> {
-    let program = with_command(alloc, program, check_command(alloc)?)?;
-    let program = with_command(alloc, program, upgrade_command(alloc)?)?;
-    with_command(alloc, program, coverage_command(alloc)?)
+    let program = with_command(alloc, program, check_command(alloc))?;
+    let program = with_command(alloc, program, upgrade_command(alloc))?;
+    with_command(alloc, program, coverage_command(alloc))
 }
 
 // The commands on one client.
@@ -186,15 +200,15 @@ fn with_client_commands<'a>(
     alloc: Global,
     program: Command<'a>,
 ) -> Result<Command<'a>, AllocError> {
-    let program = with_command(alloc, program, verify_command(alloc)?)?;
+    let program = with_command(alloc, program, verify_command(alloc))?;
     let program = with_certificate_commands(alloc, program)?;
-    with_command(alloc, program, replay_command(alloc)?)
+    with_command(alloc, program, replay_command(alloc))
 }
 
 // The commands on several clients.
 fn with_queue_commands<'a>(alloc: Global, program: Command<'a>) -> Result<Command<'a>, AllocError> {
-    let program = with_command(alloc, program, survey_command(alloc, states(alloc))?)?;
-    with_command(alloc, program, fences_command(alloc, states(alloc))?)
+    let program = with_command(alloc, program, survey_command(alloc, states(alloc)))?;
+    with_command(alloc, program, fences_command(alloc, states(alloc)))
 }
 
 // All the words.
@@ -206,7 +220,7 @@ fn command<'a>(alloc: Global) -> Result<Command<'a>, AllocError> {
         .subcommand_required(true);
     let program = with_client_commands(alloc, program)?;
     let program = with_queue_commands(alloc, program)?;
-    let program = with_command(alloc, program, parse_command(alloc)?)?;
+    let program = with_command(alloc, program, parse_command(alloc))?;
     program.subcommand(explain_command(alloc)?)
 }
 

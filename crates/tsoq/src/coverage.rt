@@ -3,7 +3,7 @@
 use clap::{ArgMatches, Command};
 use std::alloc::{AllocError, Global};
 use tso_front::{Failure, with_flag};
-use tso_survey::{Check, cert_argument, check_arguments, check_of};
+use tso_verdict::{Check, cert_argument, check_arguments, check_of};
 
 const HELP: &str =
     "Reads FILE, a program text, and CERT, a certificate, and trusts neither: it is checked first, as `tsoq check`

@@ -12,10 +12,9 @@ use std::thread::Threads;
 use tso_cert::decode;
 use tso_check::Verdict;
 use tso_client::checked_of;
-use tso_coverage::{Facts, facts_object, listed, marked, told};
 use tso_flow::Checked;
 use tso_front::{Failure, Session, misused};
-use tso_survey::{Check, put_verdict, verdict_on};
+use tso_verdict::{Check, Facts, facts_object, listed, marked, put_verdict, told, verdict_on};
 
 const PLAIN: &str = "--json has the marks of all lines, and goes without --source\n";
 
@@ -99,7 +98,7 @@ fn tell<S: Session>(session: &mut S, program: &[u8], cert: &[u8]) {
     }
 }
 
-/// Decides a certificate for a program text as `tso_survey::check_bytes` does, prints the verdict and gives it. Where it is accepted, it
+/// Decides a certificate for a program text as `tso_verdict::check_bytes` does, prints the verdict and gives it. Where it is accepted, it
 /// says on standard error what its records show, and where a register lies outside of its interval, which one.
 ///
 /// Errors: those of `check_bytes`.

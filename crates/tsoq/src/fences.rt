@@ -10,7 +10,8 @@ use std::sync::Wait;
 use std::thread::Threads;
 use tso_fences::{Fences, Wrong, fences, fences_arguments, fences_of};
 use tso_front::{Failure, Session};
-use tso_survey::{asking_of, workers_argument, workers_of};
+use tso_survey::asking_of;
+use tso_verdict::{workers_argument, workers_of};
 
 /// What is asked about fences, by how many workers, and how many states a search may meet.
 #[derive(Clone, Copy)]

@@ -2,12 +2,11 @@
 
 use std::alloc::{AllocError, Global};
 use std::fmt;
-use tso_cells::{IntervalTable, registers_at};
+use tso_cells::{Interval, IntervalTable, register_number, registers_at};
 use tso_cert::{Cert, decode};
 use tso_compact::{begun_calls, running_procedure};
 use tso_flow::{LOCATIONS, Location, ProcedureKind};
 use tso_foot::Table;
-use tso_interval::{Interval, register_number};
 use tso_line::register_word;
 use tso_machine::Frame;
 use tso_prog::Register;

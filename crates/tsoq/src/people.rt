@@ -237,6 +237,13 @@ pub fn tell_cause<S: Session>(session: &mut S, trace: &Trace) {
     }
 }
 
+// Says why a run is not good, if one was found.
+fn tell_outcome<S: Session>(session: &mut S, outcome: &Outcome) {
+    if let Outcome::Trace(trace) = outcome {
+        tell_cause(session, trace);
+    }
+}
+
 // Searches a client by one worker, and says why a run of it is not good, if one is found.
 fn tell_searched<R: Threads + Wait + Sync, S: Session>(
     rt: &R,
@@ -248,9 +255,8 @@ fn tell_searched<R: Threads + Wait + Sync, S: Session>(
         return;
     };
     let outcome = explore(rt, session.alloc(), checked, one, limit.count(), &NoWatch);
-    if let Outcome::Trace(trace) = &outcome {
-        tell_cause(session, trace);
-    }
+    tell_outcome(session, &outcome);
+    drop(outcome);
 }
 
 // Puts an option with its value, between these marks, at the end, if it has one.

@@ -110,14 +110,28 @@ pub fn found_of<R: Threads + Wait + Sync>(
     let checked = checked_of(alloc, text)?;
     match explore(rt, alloc, &checked, alone(), limit.count(), &NoWatch) {
         Outcome::Certificate(table, cert) => {
-            certified(alloc, text, checked, &table, &cert, writes)
+            let found = certified(alloc, text, checked, &table, &cert, writes);
+            drop(cert);
+            drop(table);
+            found
         }
-        Outcome::Trace(trace) => violated(alloc, &trace, writes),
-        Outcome::LimitReached => Ok(Finding {
-            decided: Decided::Limit,
-            bytes: None,
-        }),
-        Outcome::NoMemory => Err(Failure::Memory),
+        Outcome::Trace(trace) => {
+            let found = violated(alloc, &trace, writes);
+            drop(trace);
+            drop(checked);
+            found
+        }
+        Outcome::LimitReached => {
+            drop(checked);
+            Ok(Finding {
+                decided: Decided::Limit,
+                bytes: None,
+            })
+        }
+        Outcome::NoMemory => {
+            drop(checked);
+            Err(Failure::Memory)
+        }
     }
 }
 

@@ -26,7 +26,7 @@ use tso_flow::Checked;
 use tso_front::{Failure, Files, STREAM, Session, Streams, json_line, reported, started};
 use tso_say::{Topic, explanation};
 use tso_show::Replayed;
-use tso_survey::{Check, check_bytes, put_verdict, verdict_status};
+use tso_verdict::{Check, check_bytes, put_verdict, verdict_status};
 
 /// A trace text has at most 64 MiB, so one byte more shows that it is too long.
 pub const TRACE_BYTES: usize = 64 * 1024 * 1024;

@@ -12,9 +12,9 @@ use std::thread::Threads;
 use tso_cert::Workers;
 use tso_front::{Failure, Session};
 use tso_survey::{
-    Asking, Calls, Collector, Conclusion, Finder, Finding, asking_arguments, asking_of, listed,
-    survey, workers_argument, workers_of,
+    Asking, Calls, Conclusion, Finder, Finding, asking_arguments, asking_of, listed, survey,
 };
+use tso_verdict::{Collector, workers_argument, workers_of};
 
 /// How many clients are searched for each of several workers before their lines are printed.
 const ROUND: usize = 16;

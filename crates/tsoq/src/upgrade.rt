@@ -13,7 +13,7 @@ use tso_front::{
     Failure, Files, Variant, program_argument, read_apart, variant_arguments, variant_of,
     written_apart,
 };
-use tso_survey::cert_argument;
+use tso_verdict::cert_argument;
 
 /// Which certificate is upgraded, for which program, and where the new one is written.
 #[derive(Clone, Copy)]

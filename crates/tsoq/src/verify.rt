@@ -21,12 +21,12 @@ use std::sync::Wait;
 use std::thread::Threads;
 use tso_cert::{Cert, Workers, build_intervals};
 use tso_client::checked_of;
-use tso_coverage::{Facts, told};
 use tso_explore::{Finding, Worked, find, has_tree, intervals_for, tree_for};
 use tso_flow::Checked;
 use tso_foot::Table;
 use tso_front::{Failure, Files};
 use tso_trace::Trace;
+use tso_verdict::{Facts, told};
 
 /// What a search found, and the trace of it, if it is one.
 #[derive(Drop)]
@@ -509,7 +509,9 @@ pub fn verify<R: Threads + Wait + Sync, F: Files, L: Listener + Sync>(
     watch.answer();
     match finding {
         Finding::Worked(worked) => {
-            let made = certified_all(rt, alloc, files, search, &checked, worked, verbose)?;
+            let made = certified_all(rt, alloc, files, search, &checked, worked, verbose);
+            drop(checked);
+            let made = made?;
             let Certification {
                 report,
                 taken,
@@ -524,10 +526,17 @@ pub fn verify<R: Threads + Wait + Sync, F: Files, L: Listener + Sync>(
             })
         }
         Finding::Trace(trace) => {
+            drop(checked);
             let found = violated(alloc, files, search.trace, trace)?;
             Ok(found)
         }
-        Finding::LimitReached => Err(Failure::Limit),
-        Finding::NoMemory => Err(Failure::Memory),
+        Finding::LimitReached => {
+            drop(checked);
+            Err(Failure::Limit)
+        }
+        Finding::NoMemory => {
+            drop(checked);
+            Err(Failure::Memory)
+        }
     }
 }

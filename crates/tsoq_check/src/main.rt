@@ -4,7 +4,7 @@
 use std::io;
 use std::process::ExitCode;
 use tso_front::HostFiles;
-use tso_survey::run_check_process;
+use tso_verdict::run_check_process;
 
 fn main(rt: HostRuntime) -> ExitCode {
     let mut files = HostFiles { rt: &rt };

@@ -1,7 +1,7 @@
 use Rattle.std.proofs.Common.{◌≡◌, ◌∙◌, List, ap, get_or, subst, sym}
 use Rattle.std.proofs.Math.Seq.{map-set_same}
-use Rattle.tso_ticket.specs.Linked.{AreLinked}
-use Rattle.tso_ticket.specs.Seats.{Place, place_of}
+use Rattle.tso_pool.specs.Linked.{AreLinked}
+use Rattle.tso_pool.specs.Seats.{Place, place_of}
 use Rattle.tso_cases.proofs.ticket.offer_first.Goals as goal
 
 pub returns-in_ok-offer_all : goal.returns-in_ok-offer_all

@@ -1,5 +1,5 @@
 use Rattle.std.proofs.Common.{◌≡◌, drop}
-use Rattle.tso_interval.specs.Intervals.{lie_in}
+use Rattle.tso_cells.specs.Intervals.{lie_in}
 use Rattle.tso_cells.proofs.places.lie_in.Given as goal
 
 abbrev pub invariant-loop-n : goal.invariant-loop-n

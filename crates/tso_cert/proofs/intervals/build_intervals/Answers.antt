@@ -2,7 +2,7 @@ use Rattle.std.proofs.Common.{subst}
 use Rattle.tso_cert.specs.Lookup.{tree_states}
 use Rattle.tso_cert.specs.Seen.{Keeps}
 use Rattle.tso_cert.specs.Trees.{tree_of}
-use Rattle.tso_widen.specs.declared.hulls.Hull.{Hull}
+use Rattle.tso_cells.specs.declared.hulls.Hull.{Hull}
 use Rattle.tso_cert.proofs.intervals.build_intervals.Goals as goal
 
 pub intervals_of-requires : goal.intervals_of-requires

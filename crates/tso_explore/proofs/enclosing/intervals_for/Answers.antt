@@ -1,6 +1,6 @@
 use Rattle.std.proofs.Common.{subst}
 use Rattle.tso_cert.specs.Seen.{Keeps}
-use Rattle.tso_widen.specs.declared.hulls.Hull.{Hull}
+use Rattle.tso_cells.specs.declared.hulls.Hull.{Hull}
 use Rattle.tso_explore.proofs.enclosing.intervals_for.Goals as goal
 
 pub intervals_of-requires : goal.intervals_of-requires

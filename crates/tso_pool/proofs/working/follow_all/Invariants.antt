@@ -1,7 +1,7 @@
 use Rattle.std.proofs.Common.{◌≡◌, ◌+◌, length}
 use Rattle.tso_parts.specs.Numbers.{Extends}
 use Rattle.tso_pool.specs.Desks.{AreNumberedAt}
-use Rattle.tso_ticket.specs.Seats.{place_of}
+use Rattle.tso_pool.specs.Seats.{place_of}
 use Rattle.tso_pool.proofs.working.follow_all.Given as goal
 
 abbrev pub invariant-loop-choice : goal.invariant-loop-choice

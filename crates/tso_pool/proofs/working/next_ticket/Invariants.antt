@@ -1,5 +1,5 @@
 use Rattle.std.proofs.Common.{◌≡◌}
-use Rattle.tso_ticket.specs.Seats.{place_of}
+use Rattle.tso_pool.specs.Seats.{place_of}
 use Rattle.tso_pool.proofs.working.next_ticket.Given as goal
 
 abbrev pub invariant-loop : goal.invariant-loop

@@ -2,5 +2,5 @@ use Rattle.tso_cert.specs.Trees.{tree_of}
 use Rattle.tso_check.proofs.Goodness.{each_run_is_good}
 use Rattle.tsoq.proofs.round.found_of.Goals as goal
 
-pub certified-requires-clause-good : goal.certified-requires-clause-good
-certified-requires-clause-good g c = each_run_is_good c.in_ok-checked.checked.client c.in-Certificate.table (tree_of c.in-Certificate.cert) c.in-Certificate.ensures.valid
+pub certified-found-requires-clause-good : goal.certified-found-requires-clause-good
+certified-found-requires-clause-good g c = each_run_is_good c.in_ok-checked.checked.client c.in-Certificate.table (tree_of c.in-Certificate.cert) c.in-Certificate.ensures.valid

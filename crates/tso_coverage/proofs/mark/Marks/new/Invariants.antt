@@ -1,6 +1,0 @@
-use Rattle.std.proofs.Common.{◌≡◌, replicate}
-use Rattle.tso_coverage.specs.declared.mark.Mark.TheVariants.{NeverMet}
-use Rattle.tso_coverage.proofs.mark.Marks.new.Given as goal
-
-abbrev pub invariant-loop : goal.invariant-loop
-invariant-loop l = l.marks ≡ replicate l.counter NeverMet

@@ -1,4 +1,0 @@
-pub mod Calls
-pub mod Counted
-pub mod Levels
-pub mod Marks

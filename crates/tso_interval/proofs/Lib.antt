@@ -1,2 +1,0 @@
-pub mod Lying
-pub mod Starting

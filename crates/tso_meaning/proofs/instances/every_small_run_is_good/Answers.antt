@@ -1,5 +1,0 @@
-use Rattle.tso_meaning.proofs.Certificate as lemmas
-use Rattle.tso_meaning.proofs.instances.every_small_run_is_good.Goals as goal
-
-pub returns : goal.returns
-returns c = lemmas.every_small_run_is_good

@@ -1,5 +1,0 @@
-use Rattle.tso_meaning.proofs.Litmus as lemmas
-use Rattle.tso_meaning.proofs.instances.locks_hold_here.Goals as goal
-
-pub returns : goal.returns
-returns c = lemmas.locks_hold_here

@@ -1,4 +1,0 @@
-pub mod Adding
-pub mod Filing
-pub mod Fronts
-pub mod Views

@@ -1,3 +1,0 @@
-pub mod Agreement
-pub mod Logs
-pub mod Registers

@@ -1,0 +1,5 @@
+pub mod Calls
+pub mod Counted
+pub mod Levels
+pub mod Marks
+pub mod Statuses

@@ -1,0 +1,204 @@
+//! What is said of a certificate's records.
+
+ghost use Rattle.std.specs.Prelude.{◌≡◌, IfOk};
+ghost use Rattle.tso_cert.specs.Lookup.{tree_states};
+ghost use Rattle.tso_cert.specs.Trees.{records_of, tree_of};
+ghost use Rattle.tso_verdict.specs.Calls.{refused_in};
+ghost use Rattle.tso_verdict.specs.Levels.{most_in};
+ghost use Rattle.tso_flow.specs.declared.location.ProcedureKind.TheVariants as procedures;
+ghost use Rattle.tso_rec.specs.Records.{ends_of};
+
+use crate::call::{Reach, Reached};
+use crate::coverage::{Coverage, Refused, counted};
+use crate::mark::{Mark, Marks};
+use std::alloc::{AllocError, Global};
+use std::fmt;
+use tso_cert::Cert;
+use tso_line::CallKind;
+use tso_list::Seq;
+use tso_machine::calls_of;
+use tso_prog::{Array, Client, Procedure};
+
+/// An instruction by its line, with what records show of it.
+#[derive(Clone, Copy, Debug, PartialEq, Eq)]
+pub struct LineMark {
+    /// From 1.
+    pub line: u32,
+    pub mark: Mark,
+}
+
+/// A call of the client, with how far it comes.
+#[derive(Clone, Copy, Debug, PartialEq, Eq)]
+pub struct ReachedCall {
+    /// From 0; of the prologue's calls the number behind those of all threads.
+    pub thread: usize,
+    /// From 0.
+    pub call: usize,
+    pub kind: CallKind,
+    pub is_of_prologue: bool,
+    pub reach: Reach,
+}
+
+/// As `call 0 of thread 1 (pop)`.
+impl fmt::Display for ReachedCall {
+    fn fmt<W: fmt::Write>(&self, f: &mut fmt::Formatter<W>) -> fmt::Result {
+        let (thread, call) = (self.thread, self.call);
+        if self.is_of_prologue {
+            write!(f, "call {call} of the prologue")?;
+        } else {
+            write!(f, "call {call} of thread {thread}")?;
+        }
+        match self.kind {
+            CallKind::Push(word) => write!(f, " (push {word})"),
+            CallKind::Pop => f.write_str(" (pop)"),
+        }
+    }
+}
+
+/// What is said of a certificate's records.
+#[derive(Debug, Drop)]
+pub struct Facts {
+    pub records: u64,
+    /// How many records have an order of the calls.
+    pub ends: u64,
+    /// All instructions, those of push first.
+    pub lines: Vec<LineMark>,
+    /// The calls that have returned in no record.
+    pub calls: Vec<ReachedCall>,
+    pub refused: Refused,
+    /// The names of the arrays in which an index went round.
+    pub rounds: Vec<String>,
+    pub most_items: usize,
+}
+
+// Adds the instructions of a procedure.
+fn add_lines(
+    lines: &mut Vec<LineMark>,
+    procedure: &Procedure,
+    marks: &Marks,
+) -> Result<(), AllocError> {
+    for (line, mark) in procedure
+        .lines
+        .as_slice()
+        .iter()
+        .zip(marks.marks.as_slice())
+    {
+        lines.push(LineMark {
+            line: *line,
+            mark: *mark,
+        })?;
+    }
+    Ok(())
+}
+
+// The instructions of both procedures.
+fn lines_of(
+    alloc: Global,
+    client: &Client,
+    coverage: &Coverage,
+) -> Result<Vec<LineMark>, AllocError> {
+    let mut lines = Vec::new(alloc);
+    add_lines(&mut lines, &client.push, &coverage.push)?;
+    add_lines(&mut lines, &client.pop, &coverage.pop)?;
+    Ok(lines)
+}
+
+// Adds the calls of a thread that have not returned.
+fn add_calls(
+    calls: &mut Vec<ReachedCall>,
+    client: &Client,
+    thread: usize,
+    reached: &Reached,
+) -> Result<(), AllocError> {
+    let kinds = calls_of(client, thread);
+    for (call, (kind, reach)) in kinds.iter().zip(reached.calls.as_slice()).enumerate() {
+        if *reach != Reach::Returned {
+            calls.push(ReachedCall {
+                thread,
+                call,
+                kind: *kind,
+                is_of_prologue: thread >= client.threads.len(),
+                reach: *reach,
+            })?;
+        }
+    }
+    Ok(())
+}
+
+// The calls of all threads that have not returned.
+fn calls_left(
+    alloc: Global,
+    client: &Client,
+    threads: &[Reached],
+) -> Result<Vec<ReachedCall>, AllocError> {
+    let mut calls = Vec::new(alloc);
+    for (thread, reached) in threads.iter().enumerate() {
+        add_calls(&mut calls, client, thread, reached)?;
+    }
+    Ok(calls)
+}
+
+// The name of an array, whose bytes are ASCII.
+fn name_of(alloc: Global, array: &Array) -> Result<String, AllocError> {
+    let mut name = String::new(alloc);
+    for byte in array.name.as_slice() {
+        name.push(char::from(*byte))?;
+    }
+    Ok(name)
+}
+
+// The names of the arrays that are marked.
+fn names_of(
+    alloc: Global,
+    arrays: &[Array],
+    marked: &Seq<bool>,
+) -> Result<Vec<String>, AllocError> {
+    let mut names = Vec::new(alloc);
+    for (array, is_marked) in arrays.iter().zip(marked.as_slice()) {
+        if *is_marked {
+            names.push(name_of(alloc, array)?)?;
+        }
+    }
+    Ok(names)
+}
+
+impl Facts {
+    /// What was counted of a client's records.
+    ///
+    /// Errors: where a growth was refused.
+    pub fn of(alloc: Global, client: &Client, coverage: &Coverage) -> Result<Facts, AllocError>
+        ensures refused { IfOk result (λ facts. facts.refused ≡ coverage.now.refused) }
+        ensures most { IfOk result (λ facts. facts.most_items ≡ coverage.now.most_items) }
+    {
+        Ok(Facts {
+            records: coverage.records,
+            ends: coverage.ends,
+            lines: lines_of(alloc, client, coverage)?,
+            calls: calls_left(alloc, client, &coverage.threads)?,
+            refused: coverage.refused,
+            rounds: names_of(alloc, client.arrays.as_slice(), &coverage.rounds.arrays)?,
+            most_items: coverage.most_items,
+        })
+    }
+
+    /// What the records of a certificate show.
+    ///
+    /// Errors: where a growth was refused.
+    pub fn counted(alloc: Global, client: &Client, cert: &Cert) -> Result<Facts, AllocError>
+        ensures push { IfOk result (λ facts. facts.refused.push ≡ refused_in procedures.Push (tree_states (tree_of cert.now))) }
+        ensures pop { IfOk result (λ facts. facts.refused.pop ≡ refused_in procedures.Pop (tree_states (tree_of cert.now))) }
+        ensures most { IfOk result (λ facts. facts.most_items ≡ most_in (ends_of (records_of (tree_of cert.now)))) }
+    {
+        let coverage = counted(alloc, client, cert)?;
+        Facts::of(alloc, client, &coverage)
+    }
+
+    /// What records show of the instruction on a line, if there is one.
+    pub fn mark_at(&self, line: usize) -> Option<Mark> {
+        let found = self
+            .lines
+            .iter()
+            .find(|marked| marked.line as usize == line)?;
+        Some(found.mark)
+    }
+}

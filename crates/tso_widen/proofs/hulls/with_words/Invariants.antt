@@ -1,5 +1,0 @@
-use Rattle.tso_widen.proofs.HullLemmas.{IsTakingWords}
-use Rattle.tso_widen.proofs.hulls.with_words.Given as goal
-
-abbrev pub invariant-loop-k : goal.invariant-loop-k
-invariant-loop-k l = IsTakingWords l.row l.words l.after l.k

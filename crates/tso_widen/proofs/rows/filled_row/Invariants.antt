@@ -1,5 +1,0 @@
-use Rattle.tso_widen.proofs.Filling.{IsFillingRow}
-use Rattle.tso_widen.proofs.rows.filled_row.Given as goal
-
-abbrev pub invariant-loop-k : goal.invariant-loop-k
-invariant-loop-k l = IsFillingRow l.row l.after l.k

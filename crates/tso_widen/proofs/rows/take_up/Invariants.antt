@@ -1,5 +1,0 @@
-use Rattle.tso_widen.proofs.TakingUp.{IsTaking}
-use Rattle.tso_widen.proofs.rows.take_up.Given as goal
-
-abbrev pub invariant-loop-k : goal.invariant-loop-k
-invariant-loop-k l = IsTaking l.growth l.initial.row l.row l.other l.k l.is_grown
