@@ -4,7 +4,7 @@ use crate::failure::Failure;
 use crate::input::{client_of, file_at, number_at, word};
 use crate::{
     actors, arithmetic, choices, cursors, events, judged, leaf, machine, meetings, plain, runs,
-    shard, states, stores, ticket, writing,
+    states, ticket,
 };
 use std::alloc::Global;
 use std::rt::Files;
@@ -26,10 +26,7 @@ fn answer_alone(alloc: Global, call: &str, out: &mut String) -> Result<bool, Fai
     if ticket::answer(alloc, call, out)? {
         return Ok(true);
     }
-    if plain::answer(alloc, call, out)? {
-        return Ok(true);
-    }
-    writing::answer(alloc, call, out)
+    plain::answer(alloc, call, out)
 }
 
 // Makes a call on a client alone. Whether the case is one.
@@ -54,17 +51,7 @@ fn answer_of_client(
     if cursors::answer(alloc, checked, call, out)? {
         return Ok(true);
     }
-    if judged::answer(alloc, checked, call, out)? {
-        return Ok(true);
-    }
-    if shard::answer(alloc, checked, call, out)? {
-        return Ok(true);
-    }
-    match word(call, 0) {
-        "walk" => stores::put_walk(alloc, checked, out)?,
-        _ => return Ok(false),
-    }
-    Ok(true)
+    judged::answer(alloc, checked, call, out)
 }
 
 // Makes a call on a client with workers.

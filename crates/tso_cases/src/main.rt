@@ -7,13 +7,11 @@
 mod actors;
 mod all_runs;
 mod arithmetic;
-mod asked;
 mod choices;
 mod cursors;
 mod dispatch;
 mod events;
 mod failure;
-mod filing;
 mod followed;
 mod input;
 mod judged;
@@ -27,14 +25,9 @@ mod packed;
 mod plain;
 mod reached;
 mod runs;
-mod seen;
-mod shard;
 mod sketch;
 mod states;
-mod stores;
 mod ticket;
-mod walk;
-mod writing;
 
 use crate::dispatch::answer;
 use crate::failure::Failure;

@@ -9,7 +9,7 @@ use crate::table::Cells;
 use tso_prog::{Array, Step};
 
 /// A read or a write.
-#[derive(Clone, Copy, Debug, PartialEq, Eq)]
+#[derive(Clone, Copy, PartialEq, Eq)]
 pub enum Access {
     Read,
     Write,

@@ -7,7 +7,7 @@ ghost use Rattle.tso_cells.specs.Intervals.{IsInside, has};
 use crate::interval::Interval;
 
 /// How an interval grows that has to hold another one: no further than it must, or to the whole at once.
-#[derive(Clone, Copy, Debug, PartialEq, Eq)]
+#[derive(Clone, Copy, PartialEq, Eq)]
 pub enum Growth {
     Least,
     Whole,

@@ -15,7 +15,7 @@ use tso_list::Seq;
 
 /// For each position of each procedure the least intervals that have the words which were seen in its registers there. An
 /// interval with its first word above its last stands for "nothing was seen". Any rows may stand in a hull.
-#[derive(Debug, Drop)]
+#[derive(Drop)]
 pub struct Hull {
     /// In the order of registers.
     pub push: Seq<[Interval; 15]>,

@@ -4,7 +4,7 @@ ghost use Rattle.std.specs.Prelude.{◌≡◌, ◌↔◌, IsTrue};
 ghost use Rattle.tso_cells.specs.Intervals.{has, IsInside, all_words, alone, below_both, raised};
 
 /// The words from one to another, both of them with it. Where the first is above the second there is none.
-#[derive(Clone, Copy, Debug, PartialEq, Eq)]
+#[derive(Clone, Copy, PartialEq, Eq)]
 pub struct Interval {
     pub lo: u64,
     pub hi: u64,

@@ -9,7 +9,7 @@ use tso_flow::ProcedureKind;
 use tso_list::Seq;
 
 /// Cells of an array, from one index to another, both of them with it.
-#[derive(Clone, Copy, Debug, PartialEq, Eq)]
+#[derive(Clone, Copy, PartialEq, Eq)]
 pub struct Cells {
     /// The number of the array.
     pub array: usize,
@@ -27,7 +27,7 @@ impl Cells {
 }
 
 /// What is known of a call at an instruction: where its registers lie, and which cells it may still read and write.
-#[derive(Debug, PartialEq, Eq, Drop)]
+#[derive(PartialEq, Eq, Drop)]
 pub struct Item {
     /// In the order of registers.
     pub registers: [Interval; 15],
@@ -36,7 +36,7 @@ pub struct Item {
 }
 
 /// An item for each instruction of each procedure. A table may be made of any items.
-#[derive(Debug, PartialEq, Eq, Drop)]
+#[derive(PartialEq, Eq, Drop)]
 pub struct IntervalTable {
     pub push: Seq<Item>,
     pub pop: Seq<Item>,

@@ -7,7 +7,7 @@ use std::alloc::{AllocError, AllocFailed};
 use std::io;
 
 /// The first fault of bytes, read from the front.
-#[derive(Clone, Copy, Debug, PartialEq, Eq)]
+#[derive(Clone, Copy, PartialEq, Eq)]
 pub enum Fault {
     /// The bytes stop being the beginning of a certificate before a limit is passed, or end too soon, or go on after its end.
     K01,
@@ -16,7 +16,7 @@ pub enum Fault {
 }
 
 /// Why bytes were not decoded.
-#[derive(Clone, Copy, Debug, PartialEq, Eq)]
+#[derive(Clone, Copy, PartialEq, Eq)]
 pub enum DecodeError {
     Fault(Fault),
     /// Memory ran out before a fault was met.
@@ -24,7 +24,7 @@ pub enum DecodeError {
 }
 
 /// Why a certificate was not written.
-#[derive(Debug, Drop)]
+#[derive(Drop)]
 pub enum WriteError {
     /// A write failed.
     Io(io::Error),

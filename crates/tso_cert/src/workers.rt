@@ -4,7 +4,7 @@ ghost use Rattle.std.specs.Prelude.{◌≡◌, ◌↔◌, ◌≤◌, IfSome, IsT
 use std::sync::Wait;
 
 /// A number of workers, from 1 to 64.
-#[derive(Clone, Copy, Debug, PartialEq, Eq)]
+#[derive(Clone, Copy, PartialEq, Eq)]
 pub struct Workers {
     count: u64,
 }
@@ -41,7 +41,7 @@ pub trait Watch {
 }
 
 /// A watch that does nothing.
-#[derive(Clone, Copy, Debug)]
+#[derive(Clone, Copy)]
 pub struct NoWatch;
 
 impl Watch for NoWatch {

@@ -20,8 +20,7 @@ use Rattle.tso_flow.specs.declared.location.ProcedureKind.{ProcedureKind}
 use Rattle.tso_foot.specs.declared.table.Table.{Table}
 use Rattle.tso_foot.specs.Within.{IsWithin}
 use Rattle.tso_hist.specs.Views.{history_view}
-use Rattle.tso_judge.specs.Conditions.{HasNoStopped, IsKeptAfter, SuccessorsAreKept}
-use Rattle.tso_judge.specs.Judging.{AreMet}
+use Rattle.tso_rec.specs.Conditions.{AreMet, HasNoStopped, IsKeptAfter, SuccessorsAreKept}
 use Rattle.tso_machine.proofs.Ranked.{ranked}
 use Rattle.tso_machine.specs.Activations.{Activation, activation}
 use Rattle.tso_machine.specs.Places.{first_memory}

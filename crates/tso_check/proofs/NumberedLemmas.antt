@@ -14,7 +14,7 @@ use Rattle.tso_compact.specs.Plans.{IsStep}
 use Rattle.tso_foot.specs.Within.{IsWithin}
 use Rattle.tso_foot.specs.declared.table.Table.{Table}
 use Rattle.tso_judge.proofs.JudgeLemmas.{all_met, alone_first, not_kept, not_within}
-use Rattle.tso_judge.specs.Conditions.{IsKeptAfter, SuccessorsAreKept}
+use Rattle.tso_rec.specs.Conditions.{IsKeptAfter, SuccessorsAreKept}
 use Rattle.tso_judge.specs.Judging.{IsJudgedAlone}
 use Rattle.tso_judge.specs.Valid.{HasInitial}
 use Rattle.tso_judge.specs.declared.code.Code.{Code}

@@ -12,7 +12,7 @@ use Rattle.tso_check.specs.declared.verdict.Verdict.TheVariants.{Accepted, Rejec
 use Rattle.tso_foot.specs.declared.table.Table.{Table}
 use Rattle.tso_foot.specs.Within.{IsWithin}
 use Rattle.tso_judge.proofs.OneFault.{not_both, one_fault}
-use Rattle.tso_judge.specs.Conditions.{SuccessorsAreKept}
+use Rattle.tso_rec.specs.Conditions.{SuccessorsAreKept}
 use Rattle.tso_judge.specs.Judging.{IsFirstFault}
 use Rattle.tso_judge.specs.declared.code.Code.{Code}
 use Rattle.tso_prog.specs.declared.client.Client.{Client}

@@ -17,8 +17,8 @@ use Rattle.tso_check.specs.declared.judging.Bad.{Bad}
 use Rattle.tso_check.specs.declared.verdict.Verdict.{Verdict}
 use Rattle.tso_foot.specs.Closed.{IsClosed}
 use Rattle.tso_foot.specs.Within.{IsWithin}
-use Rattle.tso_judge.specs.Conditions.{SuccessorsAreKept}
-use Rattle.tso_judge.specs.Judging.{AreMet, IsFirstFault}
+use Rattle.tso_rec.specs.Conditions.{AreMet, SuccessorsAreKept}
+use Rattle.tso_judge.specs.Judging.{IsFirstFault}
 use Rattle.tso_judge.specs.Valid.{HasInitial}
 use Rattle.tso_judge.specs.declared.code.Code.{Code}
 use Rattle.tso_judge.specs.declared.code.Code.TheVariants as faults

@@ -36,7 +36,7 @@ use Rattle.tso_foot.specs.declared.table.Table.TheVariants.{Arrays, Intervals}
 use Rattle.tso_indep.specs.Reasons.{holds, is_far, is_reason, is_reason_if, kind_in}
 use Rattle.tso_indep.specs.declared.reason.Reason.{Reason}
 use Rattle.tso_indep.specs.declared.reason.Reason.TheVariants as reasons
-use Rattle.tso_judge.specs.Conditions.{HaveReasons}
+use Rattle.tso_rec.specs.Conditions.{HaveReasons}
 use Rattle.tso_judge.specs.Valid.{IsValidCertificate, IsValidRecord, IsValidTree}
 use Rattle.tso_judge.specs.declared.code.Code.{Code}
 use Rattle.tso_prog.specs.declared.client.Client.{Client}

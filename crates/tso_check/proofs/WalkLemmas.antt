@@ -10,8 +10,8 @@ use Rattle.tso_check.specs.Verdicts.{AreJudged, IsFirstBadRecord}
 use Rattle.tso_check.specs.declared.judging.Bad.{Bad}
 use Rattle.tso_foot.specs.declared.table.Table.{Table}
 use Rattle.tso_foot.specs.Within.{IsWithin}
-use Rattle.tso_judge.specs.Conditions.{SuccessorsAreKept}
-use Rattle.tso_judge.specs.Judging.{AreMet, IsFirstFault}
+use Rattle.tso_rec.specs.Conditions.{AreMet, SuccessorsAreKept}
+use Rattle.tso_judge.specs.Judging.{IsFirstFault}
 use Rattle.tso_judge.specs.declared.code.Code.{Code}
 use Rattle.tso_prog.specs.declared.client.Client.{Client}
 use Rattle.tso_rec.specs.Records.{ends_of, states_of}

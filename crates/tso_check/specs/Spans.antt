@@ -8,7 +8,7 @@ use Rattle.tso_check.specs.declared.verdict.Verdict.{Verdict}
 use Rattle.tso_foot.specs.Closed.{IsClosed}
 use Rattle.tso_foot.specs.declared.table.Table.{Table}
 use Rattle.tso_foot.specs.Within.{IsWithin}
-use Rattle.tso_judge.specs.Conditions.{SuccessorsAreKept}
+use Rattle.tso_rec.specs.Conditions.{SuccessorsAreKept}
 use Rattle.tso_judge.specs.Judging.{IsFirstFault}
 use Rattle.tso_judge.specs.Valid.{HasInitial, IsValidRecord}
 use Rattle.tso_judge.specs.declared.code.Code.{Code}

@@ -19,7 +19,7 @@ use Rattle.tso_foot.specs.Closed.{IsClosed}
 use Rattle.tso_foot.specs.declared.table.Table.{Table}
 use Rattle.tso_foot.specs.Within.{IsWithin}
 use Rattle.tso_judge.specs.Codes.{code_text}
-use Rattle.tso_judge.specs.Conditions.{SuccessorsAreKept}
+use Rattle.tso_rec.specs.Conditions.{SuccessorsAreKept}
 use Rattle.tso_judge.specs.Judging.{IsFirstFault}
 use Rattle.tso_judge.specs.declared.code.Code.{Code}
 use Rattle.tso_judge.specs.declared.code.Code.TheVariants as faults

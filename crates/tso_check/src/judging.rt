@@ -12,7 +12,7 @@ use std::alloc::AllocError;
 use tso_judge::Code;
 
 /// The first record that is not valid: its number, counted from 0, and the first condition that it fails.
-#[derive(Clone, Copy, Debug)]
+#[derive(Clone, Copy)]
 pub struct Bad {
     pub place: u64,
     pub code: Code,

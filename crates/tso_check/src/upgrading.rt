@@ -33,7 +33,7 @@ use tso_scan::{Scanned, scan};
 use tso_store::Store;
 
 /// Why a certificate was not upgraded.
-#[derive(Clone, Copy, Debug, PartialEq, Eq)]
+#[derive(Clone, Copy, PartialEq, Eq)]
 pub enum UpgradeError {
     /// `check` does not accept it, and answers this.
     NotAccepted(Result<Verdict, CheckError>),
@@ -42,7 +42,7 @@ pub enum UpgradeError {
 }
 
 /// A certificate with a table of intervals.
-#[derive(Debug, Drop)]
+#[derive(Drop)]
 pub struct Renewed {
     pub bytes: Vec<u8>,
     /// How many records it has.

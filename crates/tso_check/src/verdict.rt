@@ -8,7 +8,7 @@ use std::fmt;
 use tso_judge::Code;
 
 /// The verdict on bytes as a certificate for a client.
-#[derive(Clone, Copy, Debug, PartialEq, Eq)]
+#[derive(Clone, Copy, PartialEq, Eq)]
 pub enum Verdict {
     /// They are a valid certificate.
     Accepted,

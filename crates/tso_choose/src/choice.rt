@@ -8,7 +8,7 @@ use tso_list::{Exact, Short};
 use tso_state::Actor;
 
 /// A chosen actor, with one reason for each other thread, in the rising order of threads. It may be made of any parts.
-#[derive(Debug, PartialEq, Eq, PartialOrd, Ord, Hash, Drop)]
+#[derive(PartialEq, Eq, PartialOrd, Ord, Hash, Drop)]
 pub struct Choice {
     pub actor: Actor,
     pub reasons: Short<Reason, 4>,

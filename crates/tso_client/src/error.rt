@@ -7,7 +7,7 @@ use std::alloc::AllocError;
 use tso_prog::Fault;
 
 /// Why nothing is said of a program text, or of a certificate for it.
-#[derive(Clone, Copy, Debug, PartialEq, Eq)]
+#[derive(Clone, Copy, PartialEq, Eq)]
 pub enum CheckError {
     /// The program text is refused.
     Program(Fault),

@@ -9,7 +9,7 @@ use std::alloc::{AllocError, AllocFailed, Global};
 use tso_list::Seq;
 
 /// Why bytes were not read.
-#[derive(Clone, Copy, Debug, PartialEq, Eq)]
+#[derive(Clone, Copy, PartialEq, Eq)]
 pub enum ReadError {
     /// They stop being the beginning of a spelling, or end too soon.
     Malformed,

@@ -24,7 +24,7 @@ use tso_prog::{Answer, CallKind, Client};
 use tso_state::{Core, Thread};
 
 /// What a step does. `next` is the position of the instruction after it.
-#[derive(Clone, Copy, Debug, PartialEq, Eq)]
+#[derive(Clone, Copy, PartialEq, Eq)]
 pub enum Motion {
     /// Registers, flags and position change.
     Run(Patch),

@@ -31,8 +31,7 @@ use Rattle.tso_foot.proofs.WithinLemmas.{reached_is_within}
 use Rattle.tso_foot.specs.Closed.{IsClosed, IsLeastClosed}
 use Rattle.tso_foot.specs.Within.{IsWithin as LiesWithin}
 use Rattle.tso_foot.specs.declared.table.Table.{Table}
-use Rattle.tso_judge.specs.Conditions.{IsOver, SuccessorsAreKept}
-use Rattle.tso_judge.specs.Judging.{AreMet}
+use Rattle.tso_rec.specs.Conditions.{AreMet, IsOver, SuccessorsAreKept}
 use Rattle.tso_judge.specs.Valid.{AreValidRecords, HasInitial, IsValidTree}
 use Rattle.tso_parts.specs.Numbers.{IsNumbered}
 use Rattle.tso_prog.specs.declared.client.Client.{Client}

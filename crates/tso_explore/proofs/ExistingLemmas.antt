@@ -16,7 +16,7 @@ use Rattle.tso_foot.specs.Closed.{IsClosed}
 use Rattle.tso_foot.specs.declared.table.Table.{Table}
 use Rattle.tso_hist.specs.Views.{history_view}
 use Rattle.tso_judge.specs.Certified.{CertificatesFit}
-use Rattle.tso_judge.specs.Conditions.{IsExplained}
+use Rattle.tso_rec.specs.Conditions.{IsExplained}
 use Rattle.tso_model.specs.Linear as model
 use Rattle.tso_model.specs.Linear.{IsOrder, call_at}
 use Rattle.tso_model.specs.Objects.{Queue}

@@ -5,7 +5,7 @@ use Rattle.tso_cert.specs.Trees.{IsWithin, Tree, fork, leaf, record_count, recor
 use Rattle.tso_choose.specs.Choices.{AreChosen}
 use Rattle.tso_fifo.specs.Orders.{HasOrder}
 use Rattle.tso_foot.specs.declared.table.Table.{Table}
-use Rattle.tso_judge.specs.Conditions.{IsExplained, IsOver}
+use Rattle.tso_rec.specs.Conditions.{IsExplained, IsOver}
 use Rattle.tso_judge.specs.Valid.{IsValidRecord}
 use Rattle.tso_prog.specs.declared.client.Client.{Client}
 use Rattle.tso_rec.specs.declared.record.End.{End}

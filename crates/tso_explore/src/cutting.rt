@@ -9,6 +9,7 @@ ghost use Rattle.tso_rec.specs.Keeping as keeping;
 ghost use Rattle.tso_state.specs.WellFormed.{IsWellFormed};
 
 use crate::ends::share_end;
+use crate::recorder::Recorder;
 use std::alloc::{AllocError, Global};
 use std::boxed::Box;
 use std::thread::Threads;
@@ -17,7 +18,7 @@ use tso_choose::choose;
 use tso_fifo::linearize;
 use tso_flow::Checked;
 use tso_foot::Table;
-use tso_rec::{End, Kept, Packed, Recorder, Shelf};
+use tso_rec::{End, Kept, Packed, Shelf};
 use tso_state::State;
 use tso_store::{Store, View};
 

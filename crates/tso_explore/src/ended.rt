@@ -3,7 +3,7 @@
 use tso_trace::Trace;
 
 /// Why a search stopped early.
-#[derive(Debug, Drop)]
+#[derive(Drop)]
 pub enum Stopped {
     /// A run of the client is not good: its trace.
     Trace(Trace),
@@ -12,7 +12,7 @@ pub enum Stopped {
 }
 
 /// How the search of a store's states ended.
-#[derive(Debug, Drop)]
+#[derive(Drop)]
 pub enum Ended {
     /// All of them are worked.
     Worked,

@@ -3,7 +3,7 @@
 use crate::ended::Stopped;
 
 /// What the first states of a search tell, and hunts where it is not over then.
-#[derive(Debug, Drop)]
+#[derive(Drop)]
 pub enum First {
     /// Why the search stopped.
     Stopped(Stopped),

@@ -11,6 +11,7 @@ mod first;
 mod laws;
 mod merging;
 mod outcome;
+mod recorder;
 mod recording;
 mod showing;
 mod spelling;

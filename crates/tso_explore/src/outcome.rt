@@ -5,7 +5,7 @@ use tso_foot::Table;
 use tso_trace::Trace;
 
 /// What a search finds.
-#[derive(Debug, Drop)]
+#[derive(Drop)]
 pub enum Outcome {
     /// All runs of the client are good: a valid certificate.
     Certificate(Table, Cert),

@@ -3,10 +3,10 @@
 ghost use Rattle.std.specs.Prelude.{IfOk};
 ghost use Rattle.tso_explore.specs.Spelling.{AreRecorders};
 
+use crate::recorder::Recorder;
 use std::alloc::{AllocError, Global};
 use std::thread::Threads;
 use tso_cert::{Task, run_by};
-use tso_rec::Recorder;
 use tso_store::Store;
 
 // So many recorders of a store's states, and at least one.

@@ -10,13 +10,14 @@ ghost use Rattle.tso_foot.specs.Closed.{IsClosed};
 ghost use Rattle.tso_search.specs.Searched.{AreSearched};
 
 use crate::cutting::{LEAF, record_of, state_at};
+use crate::recorder::Recorder;
 use std::alloc::{AllocError, Global};
 use std::thread::Threads;
 use tso_cert::{ALONE, Task, run_by};
 use tso_code::{Code, write_number};
 use tso_flow::Checked;
 use tso_foot::Table;
-use tso_rec::{End, Recorder, Shelf};
+use tso_rec::{End, Shelf};
 use tso_store::Store;
 
 // Puts the records of these states at the end, without their count.

@@ -6,7 +6,7 @@ use crate::ruling::Standing;
 use crate::saying::{numbers, say};
 use serde_json::{Value, json};
 use std::alloc::{AllocError, Global};
-use tso_front::{Failure, Session};
+use tso_front::{Failure, Members, Session};
 
 /// What the changes have come to.
 #[derive(Drop)]
@@ -99,10 +99,13 @@ fn taken_back_object(
     clients: &Clients<'_>,
     tally: &Tally,
 ) -> Result<Value, AllocError> {
-    let (needed, not_needed) = (tally.needed as u64, tally.not_needed as u64);
-    let (undecided, untried) = (tally.undecided as u64, tally.untried as u64);
-    let count = clients.count() as u64;
-    json!(in alloc; {"needed": needed, "not_needed": not_needed, "undecided": undecided, "not_tried": untried, "clients": count})
+    let object = Members::new(alloc)
+        .number("needed", tally.needed as u64)?
+        .number("not_needed", tally.not_needed as u64)?
+        .number("undecided", tally.undecided as u64)?
+        .number("not_tried", tally.untried as u64)?
+        .number("clients", clients.count() as u64)?;
+    Ok(object.object())
 }
 
 /// Says which instructions are needed, and gives the status.
@@ -159,9 +162,18 @@ fn fenced_object(
     most: usize,
 ) -> Result<Value, AllocError> {
     let list = tally.right_list(alloc)?;
-    let (undecided, untried) = (tally.undecided as u64, tally.untried as u64);
-    let (most, count) = (most as u64, clients.count() as u64);
-    json!(in alloc; {"add": most, "right": list, "undecided": undecided, "not_tried": untried, "clients": count})
+    let object = match Members::new(alloc).number("add", most as u64) {
+        Ok(members) => members.with("right", list)?,
+        Err(reason) => {
+            drop(list);
+            return Err(reason);
+        }
+    };
+    let object = object
+        .number("undecided", tally.undecided as u64)?
+        .number("not_tried", tally.untried as u64)?
+        .number("clients", clients.count() as u64)?;
+    Ok(object.object())
 }
 
 /// Says which sets of at most so many fences make the text right, and gives the status.

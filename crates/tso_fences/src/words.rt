@@ -1,9 +1,10 @@
 //! The words of the command.
 
-use clap::{Arg, ArgAction, ArgMatches, Command, value_parser};
+use clap::{Arg, ArgAction, ArgMatches, Command};
 use std::alloc::{AllocError, Global};
 use tso_front::{
-    Failure, Variant, json_argument, misused, program_argument, variant_arguments, variant_of,
+    FILE, Failure, JSON, VARIANT, Variant, misused, number_argument, variant_of, with_word,
+    with_words,
 };
 use tso_survey::{Asking, asking_of};
 
@@ -24,7 +25,7 @@ pub struct Fences<'a> {
     pub json: bool,
 }
 
-/// A number that goes with a survey alone.
+// A number that goes with a survey alone.
 #[derive(Clone, Copy)]
 struct Bound {
     name: &'static str,
@@ -66,13 +67,20 @@ fn with_bound<'a>(
     command: Command<'a>,
     bound: Bound,
 ) -> Result<Command<'a>, AllocError> {
-    let arg = Arg::new(alloc, bound.name)
-        .long(bound.name)
-        .value_name("N")
-        .action(ArgAction::Set)
-        .value_parser(value_parser!(u64).range(bound.least..=bound.most))
-        .help(bound.help);
-    command.arg(arg.requires_arg("survey")?)
+    let Bound {
+        name,
+        least,
+        most,
+        help,
+    } = bound;
+    let number = number_argument(alloc, name, "N", least, most).help(help);
+    match number.requires_arg("survey") {
+        Ok(number) => command.arg(number),
+        Err(reason) => {
+            drop(command);
+            Err(reason)
+        }
+    }
 }
 
 // The command with the flag of a survey.
@@ -83,7 +91,13 @@ fn with_survey<'a>(alloc: Global, command: Command<'a>) -> Result<Command<'a>, A
         .help(
             "asks about the clients that a survey searches; --before is then how many pushes a prologue has at most",
         );
-    command.arg(survey.conflicts_with("client")?)
+    match survey.conflicts_with("client") {
+        Ok(survey) => command.arg(survey),
+        Err(reason) => {
+            drop(command);
+            Err(reason)
+        }
+    }
 }
 
 // The words for the clients of a survey.
@@ -97,11 +111,7 @@ fn survey_arguments<'a>(alloc: Global, command: Command<'a>) -> Result<Command<'
 
 // The command with the number of fences that are added.
 fn with_add<'a>(alloc: Global, command: Command<'a>) -> Result<Command<'a>, AllocError> {
-    let add = Arg::new(alloc, "add")
-        .long("add")
-        .value_name("N")
-        .action(ArgAction::Set)
-        .value_parser(value_parser!(u64).range(1..=8))
+    let add = number_argument(alloc, "add", "N", 1, 8)
         .default_value("2")
         .help("how many fences are added at most to a client that is not accepted, 1 to 8");
     command.arg(add)
@@ -109,9 +119,9 @@ fn with_add<'a>(alloc: Global, command: Command<'a>) -> Result<Command<'a>, Allo
 
 // The words for what is asked, and how it is printed.
 fn own_arguments<'a>(alloc: Global, command: Command<'a>) -> Result<Command<'a>, AllocError> {
-    let command = command.arg(program_argument(alloc))?;
+    let command = with_word(alloc, command, FILE)?;
     let command = with_add(alloc, command)?;
-    command.arg(json_argument(alloc))
+    with_word(alloc, command, JSON)
 }
 
 /// The command with its words.
@@ -122,7 +132,7 @@ pub fn fences_arguments<'a>(
     command: Command<'a>,
 ) -> Result<Command<'a>, AllocError> {
     let command = own_arguments(alloc, command)?;
-    let command = variant_arguments(alloc, command)?;
+    let command = with_words(alloc, command, &VARIANT)?;
     survey_arguments(alloc, command)
 }
 

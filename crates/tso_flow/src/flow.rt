@@ -16,7 +16,7 @@ use tso_prog::{Client, Fault};
 
 /// A client in which no fault of control flow stands: control never runs past a procedure's end, each jump back has
 /// a bound and no jump forward has one, and no path reads a register or a flag before it writes it.
-#[derive(Debug, Drop)]
+#[derive(Drop)]
 pub struct Checked {
     pub client: Client,
     ghost no_fault: { HasNoFault client },

@@ -6,7 +6,7 @@ ghost use Rattle.tso_flow.specs.Calls.{kind_of};
 use tso_line::{CallKind, Register};
 
 /// A flag that a condition can read.
-#[derive(Clone, Copy, Debug, PartialEq, Eq)]
+#[derive(Clone, Copy, PartialEq, Eq)]
 pub enum Flag {
     Zero,
     Carry,
@@ -15,7 +15,7 @@ pub enum Flag {
 }
 
 /// What an instruction can read or write besides memory.
-#[derive(Clone, Copy, Debug, PartialEq, Eq)]
+#[derive(Clone, Copy, PartialEq, Eq)]
 pub enum Location {
     Register(Register),
     Flag(Flag),

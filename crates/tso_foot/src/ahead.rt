@@ -13,21 +13,21 @@ use tso_prog::Array;
 use tso_state::{Core, Thread};
 
 /// What is done with memory.
-#[derive(Clone, Copy, Debug)]
+#[derive(Clone, Copy)]
 pub enum Access {
     Read,
     Write,
 }
 
 /// Arrays that may still be read and written.
-#[derive(Clone, Copy, Debug)]
+#[derive(Clone, Copy)]
 pub struct ArraysAhead<'a> {
     pub arrays: &'a [Array],
     pub masks: Masks,
 }
 
 /// A thread, its calls to come, and the cells that a table has at its position and at first instructions.
-#[derive(Clone, Copy, Debug)]
+#[derive(Clone, Copy)]
 pub struct CellsAhead<'a> {
     pub arrays: &'a [Array],
     pub table: &'a IntervalTable,
@@ -37,7 +37,7 @@ pub struct CellsAhead<'a> {
 }
 
 /// The places that a thread of a state may still read, and those that it may still write to memory.
-#[derive(Clone, Copy, Debug)]
+#[derive(Clone, Copy)]
 pub enum Future<'a> {
     Nothing,
     Arrays(ArraysAhead<'a>),

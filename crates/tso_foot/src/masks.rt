@@ -8,7 +8,7 @@ use tso_line::Instruction;
 use tso_prog::{Array, Step};
 
 /// Arrays that may be read and arrays that may be written: bit k stands for array k.
-#[derive(Clone, Copy, Debug, PartialEq, Eq, PartialOrd, Ord, Hash)]
+#[derive(Clone, Copy, PartialEq, Eq, PartialOrd, Ord, Hash)]
 pub struct Masks {
     pub reads: u16,
     pub writes: u16,

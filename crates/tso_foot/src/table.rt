@@ -6,7 +6,7 @@ use tso_list::Seq;
 
 /// For each instruction of each procedure, the arrays that may still be read and written from there until the call ends.
 /// A table may be made of any items.
-#[derive(Debug, PartialEq, Eq, Drop)]
+#[derive(PartialEq, Eq, Drop)]
 pub struct ArrayTable {
     pub push: Seq<Masks>,
     pub pop: Seq<Masks>,
@@ -14,7 +14,7 @@ pub struct ArrayTable {
 
 /// What may still be read and written from each instruction until its call ends: by arrays, as certificates of version 1 say it,
 /// or by cells, with the intervals in which registers lie, as those of version 2 do.
-#[derive(Debug, PartialEq, Eq, Drop)]
+#[derive(PartialEq, Eq, Drop)]
 pub enum Table {
     Arrays(ArrayTable),
     Intervals(IntervalTable),

@@ -11,7 +11,7 @@ use tso_prog::Fault;
 use tso_trace::TraceFault;
 
 /// Why a command does not succeed.
-#[derive(Debug, Drop)]
+#[derive(Drop)]
 pub enum Failure {
     /// The words are none of the program's.
     Usage(String),

@@ -15,8 +15,10 @@ pub use draft::Draft;
 pub use failure::{Failure, cannot_read, cannot_write, misused};
 pub use files::{Files, STREAM, read_up_to};
 pub use host::HostFiles;
-pub use json::{json_argument, json_line, number_or_null};
+pub use json::{Members, json_line, number_or_null, violation_words};
 pub use paths::{both_apart, read_apart, written_apart};
 pub use session::{Out, Session, Streams, reported};
-pub use variant::{Variant, fault_of, variant_arguments, variant_of};
-pub use words::{Ended, VERSION, ended_words, program_argument, started, with_flag, with_option};
+pub use variant::{VARIANT, Variant, fault_of, variant_of};
+pub use words::{
+    Ended, FILE, JSON, VERSION, Word, ended_words, number_argument, started, with_word, with_words,
+};

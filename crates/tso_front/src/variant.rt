@@ -6,8 +6,8 @@ ghost use Rattle.tso_client.specs.Programs.{IsRefused};
 ghost use Rattle.tso_prog.specs.declared.client.Client.{Client};
 
 use crate::failure::{Failure, misused};
-use crate::words::with_option;
-use clap::{ArgMatches, Command};
+use crate::words::Word;
+use clap::ArgMatches;
 use std::alloc::{AllocError, Global};
 use tso_client::{CheckError, checked_of};
 use tso_prog::Fault;
@@ -21,7 +21,7 @@ const MODE: &str = "--mode is strict or weak
 ";
 
 /// What stands in place of the threads, of the prologue and of the mode of a program text.
-#[derive(Clone, Copy, Debug)]
+#[derive(Clone, Copy)]
 pub struct Variant<'a> {
     /// The calls of the threads, with `|` between two threads.
     pub client: Option<&'a str>,
@@ -32,7 +32,7 @@ pub struct Variant<'a> {
 }
 
 /// Which part of a text a line is, as far as another can stand in its place.
-#[derive(Clone, Copy, Debug, PartialEq, Eq)]
+#[derive(Clone, Copy, PartialEq, Eq)]
 enum Part {
     Mode,
     Before,
@@ -96,19 +96,23 @@ fn are_calls(words: &str) -> bool {
 }
 
 /// The options that put other calls in place of a text's.
-///
-/// Errors: where a growth was refused.
-pub fn variant_arguments<'a>(
-    alloc: Global,
-    command: Command<'a>,
-) -> Result<Command<'a>, AllocError> {
-    let help = "the calls of the threads, in place of the text's: push 1, push 2 | pop";
-    let command = with_option(alloc, command, "client", "CALLS", help)?;
-    let help = "the calls of the prologue, in place of the text's; none where they are blank";
-    let command = with_option(alloc, command, "before", "CALLS", help)?;
-    let help = "strict or weak, in place of what the text says";
-    with_option(alloc, command, "mode", "MODE", help)
-}
+pub const VARIANT: [Word; 3] = [
+    Word::Text {
+        name: "client",
+        value: "CALLS",
+        help: "the calls of the threads, in place of the text's: push 1, push 2 | pop",
+    },
+    Word::Text {
+        name: "before",
+        value: "CALLS",
+        help: "the calls of the prologue, in place of the text's; none where they are blank",
+    },
+    Word::Text {
+        name: "mode",
+        value: "MODE",
+        help: "strict or weak, in place of what the text says",
+    },
+];
 
 /// The first fault of a program text, if it has one.
 ///

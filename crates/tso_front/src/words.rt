@@ -4,7 +4,7 @@ ghost use Rattle.std.specs.Prelude.{◌≡◌, ◌≢◌};
 
 use crate::failure::Failure;
 use clap::error::ErrorKind as ClapKind;
-use clap::{Arg, ArgAction, Command, Error};
+use clap::{Arg, ArgAction, Command, Error, value_parser};
 use std::alloc::{Alloc, AllocError, Global};
 use std::env::Env;
 use std::io::{BufWriter, ErrorKind, Write};
@@ -46,7 +46,7 @@ pub fn started<R: Env + Alloc<A = Global>, O: Write + Drop>(
 }
 
 /// What is said where the words were read to their end: help, or the version.
-#[derive(Debug, Drop)]
+#[derive(Drop)]
 pub struct Ended(pub String);
 
 /// What the words came to, where they ask for no command: a text that is asked for, or why they are none of the program's.
@@ -61,43 +61,105 @@ pub fn ended_words(alloc: Global, error: &Error) -> Result<Ended, Failure> {
     }
 }
 
+/// A word of a command, and what its help says of it.
+#[derive(Clone, Copy)]
+pub enum Word {
+    /// One that has to be there, by itself.
+    Plain {
+        name: &'static str,
+        help: &'static str,
+    },
+    /// An option that is a flag.
+    Flag {
+        name: &'static str,
+        help: &'static str,
+    },
+    /// An option with a text, which its help calls `value`.
+    Text {
+        name: &'static str,
+        value: &'static str,
+        help: &'static str,
+    },
+    /// An option with a number within these bounds.
+    Number {
+        name: &'static str,
+        least: i64,
+        most: i64,
+        help: &'static str,
+    },
+}
+
 /// The word that names the program text.
-pub fn program_argument<'a>(alloc: Global) -> Arg<'a> {
-    Arg::new(alloc, "FILE")
-        .required(true)
-        .help("the program text")
-}
+pub const FILE: Word = Word::Plain {
+    name: "FILE",
+    help: "the program text",
+};
 
-/// The command with a flag.
-///
-/// Errors: where a growth was refused.
-pub fn with_flag<'a>(
-    alloc: Global,
-    command: Command<'a>,
-    name: &'a str,
-    help: &'a str,
-) -> Result<Command<'a>, AllocError> {
-    let flag = Arg::new(alloc, name)
-        .long(name)
-        .action(ArgAction::SetTrue)
-        .help(help);
-    command.arg(flag)
-}
+/// The option that asks for objects in place of lines.
+pub const JSON: Word = Word::Flag {
+    name: "json",
+    help: "prints objects of JSON, one a line, in place of the lines",
+};
 
-/// The command with an option of one word, of which its help says that it is such a value.
-///
-/// Errors: where a growth was refused.
-pub fn with_option<'a>(
+/// An option with a number within these bounds, which its help calls `value`.
+pub fn number_argument<'a>(
     alloc: Global,
-    command: Command<'a>,
-    name: &'a str,
-    value: &'a str,
-    help: &'a str,
-) -> Result<Command<'a>, AllocError> {
-    let option = Arg::new(alloc, name)
+    name: &'static str,
+    value: &'static str,
+    least: i64,
+    most: i64,
+) -> Arg<'a> {
+    Arg::new(alloc, name)
         .long(name)
         .value_name(value)
         .action(ArgAction::Set)
-        .help(help);
-    command.arg(option)
+        .value_parser(value_parser!(u64).range(least..=most))
+}
+
+// What clap is told of a word.
+fn argument_of<'a>(alloc: Global, word: Word) -> Arg<'a> {
+    match word {
+        Word::Plain { name, help } => Arg::new(alloc, name).required(true).help(help),
+        Word::Flag { name, help } => Arg::new(alloc, name)
+            .long(name)
+            .action(ArgAction::SetTrue)
+            .help(help),
+        Word::Text { name, value, help } => Arg::new(alloc, name)
+            .long(name)
+            .value_name(value)
+            .action(ArgAction::Set)
+            .help(help),
+        Word::Number {
+            name,
+            least,
+            most,
+            help,
+        } => number_argument(alloc, name, "N", least, most).help(help),
+    }
+}
+
+/// The command with a word.
+///
+/// Errors: where a growth was refused.
+pub fn with_word<'a>(
+    alloc: Global,
+    command: Command<'a>,
+    word: Word,
+) -> Result<Command<'a>, AllocError> {
+    command.arg(argument_of(alloc, word))
+}
+
+/// The command with these words.
+///
+/// Errors: where a growth was refused.
+pub fn with_words<'a>(
+    alloc: Global,
+    command: Command<'a>,
+    words: &[Word],
+) -> Result<Command<'a>, AllocError> {
+    let mut command = command;
+    for word in words {
+        command = with_word(alloc, command, *word)?;
+    }
+    Ok(command)
 }

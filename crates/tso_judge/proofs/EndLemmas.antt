@@ -8,7 +8,7 @@ use Rattle.std.specs.Option.{option_map}
 use Rattle.tso_choose.proofs.NeedLemmas.{nobody}
 use Rattle.tso_choose.specs.Choices.{IsRising, actors_of}
 use Rattle.tso_choose.specs.declared.choice.Choice.{Choice}
-use Rattle.tso_judge.specs.Conditions.{HasNoStep, HasNoStopped, IsOver, IsStoppedAt}
+use Rattle.tso_rec.specs.Conditions.{HasNoStep, HasNoStopped, IsOver, IsStoppedAt}
 use Rattle.tso_prog.specs.declared.client.Client.{Client}
 use Rattle.tso_state.specs.Actors.{number_of}
 use Rattle.tso_state.specs.declared.actor.Actor.{Actor}

@@ -20,7 +20,7 @@ use Rattle.tso_foot.specs.declared.table.Table.{Table}
 use Rattle.tso_hist.specs.Views.{called_view, history_view}
 use Rattle.tso_hist.specs.declared.call.Call.{Call}
 use Rattle.tso_indep.specs.declared.reason.Reason.{Reason}
-use Rattle.tso_judge.specs.Conditions.{AreMovers}
+use Rattle.tso_rec.specs.Conditions.{AreMovers}
 use Rattle.tso_model.specs.Linear.{EachTwo, IsOrder, IsOtherCall, Placed, call_at, placed_calls}
 use Rattle.tso_model.specs.Objects.{Mode, Queue, QueueStep, QueueSteps}
 use Rattle.tso_model.specs.Programs.{Answer, CallKind, Done, Pop, Push, Refused, Value}

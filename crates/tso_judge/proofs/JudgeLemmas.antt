@@ -3,8 +3,8 @@ use Rattle.std.proofs.Common.{◌≡◌, ℕ, ◌<◌, List, Option, None, Some,
 use Rattle.tso_foot.specs.Within.{IsWithin}
 use Rattle.tso_foot.specs.declared.table.Table.{Table}
 use Rattle.tso_judge.specs.Codes.{code_number}
-use Rattle.tso_judge.specs.Conditions.{EndFits, HaveReasons, IsExplained, IsUnstopped, SuccessorsAreKept}
-use Rattle.tso_judge.specs.Judging.{AreMet, IsFirstFault, IsJudgedAlone, IsJudgedAmong, Meets}
+use Rattle.tso_rec.specs.Conditions.{AreMet, EndFits, HaveReasons, IsExplained, IsUnstopped, SuccessorsAreKept}
+use Rattle.tso_judge.specs.Judging.{IsFirstFault, IsJudgedAlone, IsJudgedAmong, Meets}
 use Rattle.tso_judge.specs.declared.code.Code.{Code}
 use Rattle.tso_judge.specs.declared.code.Code.TheVariants as faults
 use Rattle.tso_prog.specs.declared.client.Client.{Client}

@@ -3,7 +3,8 @@ use Rattle.std.proofs.Common.{◌≡◌, ◌∙◌, ℕ, zero, suc, ◌<◌, inl
 use Rattle.std.proofs.lemmas.Bool.{cases_lt}
 use Rattle.tso_foot.specs.declared.table.Table.{Table}
 use Rattle.tso_judge.specs.Codes.{code_number}
-use Rattle.tso_judge.specs.Judging.{AreMet, IsFirstFault, Meets}
+use Rattle.tso_judge.specs.Judging.{IsFirstFault, Meets}
+use Rattle.tso_rec.specs.Conditions.{AreMet}
 use Rattle.tso_judge.specs.declared.code.Code.{Code}
 use Rattle.tso_judge.specs.declared.code.Code.TheVariants as faults
 use Rattle.tso_prog.specs.declared.client.Client.{Client}

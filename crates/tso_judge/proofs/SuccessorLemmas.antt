@@ -6,7 +6,7 @@ use Rattle.std.proofs.lemmas.List.{get_or_default}
 use Rattle.std.proofs.lemmas.Option.{same_Some}
 use Rattle.tso_choose.specs.declared.choice.Choice.{Choice}
 use Rattle.tso_compact.specs.Plans.{HasStep, IsStep}
-use Rattle.tso_judge.specs.Conditions.{IsKeptAfter}
+use Rattle.tso_rec.specs.Conditions.{IsKeptAfter}
 use Rattle.tso_prog.specs.declared.client.Client.{Client}
 use Rattle.tso_state.specs.Views.{state_of}
 use Rattle.tso_state.specs.declared.actor.Actor.{Actor}

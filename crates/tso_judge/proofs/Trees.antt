@@ -8,7 +8,7 @@ use Rattle.tso_cert.specs.Trees.{IsWithin, Tree, TreeFits, fork, leaf, records_o
 use Rattle.tso_code.specs.Fields.{ListFits}
 use Rattle.tso_code.specs.States.{StateFits}
 use Rattle.tso_foot.specs.declared.table.Table.{Table}
-use Rattle.tso_judge.specs.Conditions.{EndFits as HasEnd, HaveReasons, IsExplained}
+use Rattle.tso_rec.specs.Conditions.{EndFits as HasEnd, HaveReasons, IsExplained}
 use Rattle.tso_line.specs.declared.instruction.Instruction.{Instruction}
 use Rattle.tso_machine.specs.Instructions.{instructions_of}
 use Rattle.tso_prog.specs.Views.{mode_view}

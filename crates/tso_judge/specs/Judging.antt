@@ -3,10 +3,10 @@ use Rattle.std.specs.Prelude.{◌<◌, List, Option, None, Some}
 use Rattle.tso_foot.specs.Within.{IsWithin}
 use Rattle.tso_foot.specs.declared.table.Table.{Table}
 use Rattle.tso_judge.specs.Codes.{code_number}
-use Rattle.tso_judge.specs.Conditions.{EndFits, HaveReasons, IsExplained, IsUnstopped, SuccessorsAreKept}
 use Rattle.tso_judge.specs.declared.code.Code.{Code}
 use Rattle.tso_judge.specs.declared.code.Code.TheVariants as faults
 use Rattle.tso_prog.specs.declared.client.Client.{Client}
+use Rattle.tso_rec.specs.Conditions.{AreMet, EndFits, HaveReasons, IsExplained, IsUnstopped, SuccessorsAreKept}
 use Rattle.tso_rec.specs.declared.record.End.{End}
 use Rattle.tso_state.specs.WellFormed.{IsWellFormed}
 use Rattle.tso_state.specs.declared.state.State.{State}
@@ -31,16 +31,6 @@ Meets c t Kept Within s e faults.K12 = Within
 pub record IsFirstFault (c : Client) (t : Table) (Kept Within : Type 0) (s : State) (e : End) (code : Code) : Type 0 where
   pub before : (k : Code) → code_number k < code_number code → Meets c t Kept Within s e k
   pub broken : Meets c t Kept Within s e code → ⊥
-
--- all conditions hold
-pub record AreMet (c : Client) (t : Table) (Kept Within : Type 0) (s : State) (e : End) : Type 0 where
-  pub well_formed : IsWellFormed c s
-  pub fits : EndFits c s e
-  pub reasons : HaveReasons c t s e
-  pub successors : Kept
-  pub unstopped : IsUnstopped s e
-  pub explained : IsExplained c s e
-  pub within : Within
 
 -- the record meets all conditions, or this is the code of the first that fails
 abbrev pub IsJudged : Client → Table → (Kept Within : Type 0) → State → End → Option Code → Type 0

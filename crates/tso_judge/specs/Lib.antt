@@ -1,5 +1,4 @@
 pub mod Codes
-pub mod Conditions
 pub mod Judging
 pub mod Valid
 pub mod Words

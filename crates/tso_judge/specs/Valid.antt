@@ -7,8 +7,7 @@ use Rattle.tso_compact.specs.Laws.{initial_of}
 use Rattle.tso_foot.specs.Closed.{IsClosed}
 use Rattle.tso_foot.specs.Within.{IsWithin}
 use Rattle.tso_foot.specs.declared.table.Table.{Table}
-use Rattle.tso_judge.specs.Conditions.{SuccessorsAreKept}
-use Rattle.tso_judge.specs.Judging.{AreMet}
+use Rattle.tso_rec.specs.Conditions.{AreMet, SuccessorsAreKept}
 use Rattle.tso_prog.specs.declared.client.Client.{Client}
 use Rattle.tso_rec.specs.declared.record.Record.{Record}
 use Rattle.tso_state.specs.Views.{state_of}

@@ -5,7 +5,7 @@ ghost use Rattle.tso_choose.specs.Choices.{actors_of, IsRising};
 ghost use Rattle.tso_choose.specs.Needs.{is_enabled};
 ghost use Rattle.tso_choose.specs.declared.choice.Choice.{Choice as AChoice};
 ghost use Rattle.tso_state.specs.Actors.{number_of};
-ghost use Rattle.tso_judge.specs.Conditions.{AreMovers, HasNoStep, HasNoStopped, IsOver, IsStoppedAt};
+ghost use Rattle.tso_rec.specs.Conditions.{AreMovers, HasNoStep, HasNoStopped, IsOver, IsStoppedAt};
 
 use std::cmp::Ordering;
 use tso_choose::Choice;

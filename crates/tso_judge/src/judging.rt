@@ -4,7 +4,7 @@ ghost use Rattle.std.specs.Prelude.{◌≡◌, ◌↔◌, IfOk, IsTrue, None};
 ghost use Rattle.tso_cert.specs.Lookup.{IsOrdered, tree_states};
 ghost use Rattle.tso_cert.specs.Trees.{tree_of};
 ghost use Rattle.tso_compact.specs.Plans.{HasHistories};
-ghost use Rattle.tso_judge.specs.Conditions.{SuccessorsAreKept};
+ghost use Rattle.tso_rec.specs.Conditions.{SuccessorsAreKept};
 ghost use Rattle.tso_judge.specs.Judging.{IsJudgedAlone, IsJudgedAmong};
 ghost use Rattle.tso_rec.specs.declared.record.End.TheVariants as ends;
 ghost use Rattle.tso_state.specs.WellFormed.{IsWellFormed};

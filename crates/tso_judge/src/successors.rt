@@ -5,7 +5,7 @@ ghost use Rattle.tso_cert.specs.Lookup.{IsOrdered, tree_states};
 ghost use Rattle.tso_cert.specs.Trees.{tree_of};
 ghost use Rattle.tso_choose.specs.declared.choice.Choice.{Choice as AChoice};
 ghost use Rattle.tso_compact.specs.Plans.{HasHistories};
-ghost use Rattle.tso_judge.specs.Conditions.{IsKeptAfter};
+ghost use Rattle.tso_rec.specs.Conditions.{IsKeptAfter};
 
 use std::alloc::{AllocError, Global};
 use tso_cert::Cert;

@@ -14,14 +14,14 @@ use crate::shape::{Cell, Offset, Operand, Operands, Scaled, Signed, Statement};
 use tso_word::Condition;
 
 /// A source whose number is not yet in range.
-#[derive(Clone, Copy, Debug, PartialEq, Eq)]
+#[derive(Clone, Copy, PartialEq, Eq)]
 pub enum RawSource {
     Register(Register),
     Number(Signed),
 }
 
 /// A cell whose offset is not yet in range.
-#[derive(Clone, Copy, Debug, PartialEq, Eq)]
+#[derive(Clone, Copy, PartialEq, Eq)]
 pub struct RawCell {
     pub array: Span,
     pub index: Option<Register>,
@@ -29,7 +29,7 @@ pub struct RawCell {
 }
 
 /// An instruction whose words are known, and whose numbers are not yet in range.
-#[derive(Clone, Copy, Debug, PartialEq, Eq)]
+#[derive(Clone, Copy, PartialEq, Eq)]
 pub enum Form {
     Move(Register, RawSource),
     Load(Register, RawCell),

@@ -3,7 +3,7 @@
 use tso_word::{BitOperation, Condition};
 
 /// A general register of 64 bits.
-#[derive(Clone, Copy, Debug, PartialEq, Eq, PartialOrd, Ord, Hash)]
+#[derive(Clone, Copy, PartialEq, Eq, PartialOrd, Ord, Hash)]
 pub enum Register {
     Rax,
     Rbx,
@@ -23,7 +23,7 @@ pub enum Register {
 }
 
 /// When a call may be refused: in strict mode a push of a full queue and a pop of an empty one, in weak mode any call.
-#[derive(Clone, Copy, Debug, PartialEq, Eq, PartialOrd, Ord, Hash)]
+#[derive(Clone, Copy, PartialEq, Eq, PartialOrd, Ord, Hash)]
 pub enum Mode {
     Strict,
     Weak,
@@ -37,7 +37,7 @@ pub enum CallKind {
 }
 
 /// A cell of an array: the unsigned value of the index register, if there is one, and so many cells more, in whole numbers.
-#[derive(Clone, Copy, Debug, PartialEq, Eq)]
+#[derive(Clone, Copy, PartialEq, Eq)]
 pub struct Address<A> {
     pub array: A,
     pub index: Option<Register>,
@@ -46,14 +46,14 @@ pub struct Address<A> {
 }
 
 /// A register or an immediate, which is kept as its sign-extended word.
-#[derive(Clone, Copy, Debug, PartialEq, Eq)]
+#[derive(Clone, Copy, PartialEq, Eq)]
 pub enum Source {
     Register(Register),
     Word(u64),
 }
 
 /// What is computed of two operands and put into the first.
-#[derive(Clone, Copy, Debug, PartialEq, Eq)]
+#[derive(Clone, Copy, PartialEq, Eq)]
 pub enum Operation {
     Add,
     Sub,
@@ -61,14 +61,14 @@ pub enum Operation {
 }
 
 /// What is computed of two operands for its flags alone: `cmp` as a difference, `test` as a bitwise and.
-#[derive(Clone, Copy, Debug, PartialEq, Eq)]
+#[derive(Clone, Copy, PartialEq, Eq)]
 pub enum Comparison {
     Cmp,
     Test,
 }
 
 /// What a locked instruction does with a cell and a register.
-#[derive(Clone, Copy, Debug, PartialEq, Eq)]
+#[derive(Clone, Copy, PartialEq, Eq)]
 pub enum LockedOperation {
     /// `xchg`
     Exchange,
@@ -79,7 +79,7 @@ pub enum LockedOperation {
 }
 
 /// An instruction, whose arrays and labels are named by `A` and `L`.
-#[derive(Clone, Copy, Debug, PartialEq, Eq)]
+#[derive(Clone, Copy, PartialEq, Eq)]
 pub enum Instruction<A, L> {
     Move {
         to: Register,

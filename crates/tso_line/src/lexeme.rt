@@ -7,14 +7,14 @@ use crate::instruction::{Comparison, LockedOperation, Operation, Register};
 use tso_word::Condition;
 
 /// Where a word stands in the source.
-#[derive(Clone, Copy, Debug, PartialEq, Eq)]
+#[derive(Clone, Copy, PartialEq, Eq)]
 pub struct Span {
     pub start: usize,
     pub end: usize,
 }
 
 /// What is well written, if it is in its range.
-#[derive(Clone, Copy, Debug, PartialEq, Eq)]
+#[derive(Clone, Copy, PartialEq, Eq)]
 pub enum Ranged<T> {
     Within(T),
     OutOfRange,
@@ -43,7 +43,7 @@ impl<T: Copy + Drop> Ranged<T> {
 }
 
 /// A word that begins a line and starts with a dot.
-#[derive(Clone, Copy, Debug, PartialEq, Eq)]
+#[derive(Clone, Copy, PartialEq, Eq)]
 pub enum Directive {
     Capacity,
     Mode,
@@ -56,7 +56,7 @@ pub enum Directive {
 }
 
 /// What an instruction does, by its first word.
-#[derive(Clone, Copy, Debug, PartialEq, Eq)]
+#[derive(Clone, Copy, PartialEq, Eq)]
 pub enum Mnemonic {
     Mov,
     /// `add`, `sub`, `and`, `or`, `xor`
@@ -81,7 +81,7 @@ pub enum Mnemonic {
 }
 
 /// What a word means, besides being a name.
-#[derive(Clone, Copy, Debug, PartialEq, Eq)]
+#[derive(Clone, Copy, PartialEq, Eq)]
 pub enum Meaning {
     Plain,
     Register(Register),
@@ -98,7 +98,7 @@ pub enum Meaning {
 }
 
 /// A token of a line.
-#[derive(Clone, Copy, Debug, PartialEq, Eq)]
+#[derive(Clone, Copy, PartialEq, Eq)]
 pub enum Lexeme {
     Directive(Directive),
     Word(Span, Meaning),

@@ -7,7 +7,7 @@ use crate::instruction::{CallKind, Instruction, Mode};
 use tso_list::Seq;
 
 /// Where a line may stand.
-#[derive(Clone, Copy, Debug, PartialEq, Eq)]
+#[derive(Clone, Copy, PartialEq, Eq)]
 pub enum Kind {
     Capacity,
     Mode,
@@ -22,7 +22,7 @@ pub enum Kind {
 }
 
 /// What is wrong with a line that has a shape.
-#[derive(Clone, Copy, Debug, PartialEq, Eq)]
+#[derive(Clone, Copy, PartialEq, Eq)]
 pub enum Slip {
     /// The count of values is not the length.
     Count,
@@ -33,7 +33,7 @@ pub enum Slip {
 }
 
 /// A line, read by itself.
-#[derive(Debug, Drop)]
+#[derive(Drop)]
 pub enum Line<'a> {
     /// It has none of the shapes.
     Misshapen,

@@ -167,7 +167,7 @@ fn values_line<'a>(
 }
 
 // What stands behind the first word of a line of calls.
-#[derive(Debug, Drop)]
+#[derive(Drop)]
 enum Calls {
     /// Not only calls between commas.
     Misshapen,

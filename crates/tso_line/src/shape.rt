@@ -8,34 +8,34 @@ ghost use Rattle.tso_line.specs.Lexemes.{signed_of, offset_of, cell_of, operand_
 use crate::lexeme::{Lexeme, Meaning, Ranged, Span};
 
 /// A number with its sign.
-#[derive(Clone, Copy, Debug, PartialEq, Eq)]
+#[derive(Clone, Copy, PartialEq, Eq)]
 pub struct Signed {
     pub negative: bool,
     pub magnitude: Ranged<u64>,
 }
 
 /// An index in a bracket: a word, and the number behind its star.
-#[derive(Clone, Copy, Debug, PartialEq, Eq)]
+#[derive(Clone, Copy, PartialEq, Eq)]
 pub struct Scaled {
     pub register: Meaning,
     pub scale: Ranged<u64>,
 }
 
 /// The displacement of a bracket.
-#[derive(Clone, Copy, Debug, PartialEq, Eq)]
+#[derive(Clone, Copy, PartialEq, Eq)]
 pub enum Offset {
     Absent,
     By(Signed),
 }
 
-#[derive(Clone, Copy, Debug, PartialEq, Eq)]
+#[derive(Clone, Copy, PartialEq, Eq)]
 pub struct Cell {
     pub array: Span,
     pub index: Option<Scaled>,
     pub offset: Offset,
 }
 
-#[derive(Clone, Copy, Debug, PartialEq, Eq)]
+#[derive(Clone, Copy, PartialEq, Eq)]
 pub enum Operand {
     Word(Span, Meaning),
     Number(Signed),
@@ -43,7 +43,7 @@ pub enum Operand {
 }
 
 /// The operands, as far as any instruction has them.
-#[derive(Clone, Copy, Debug, PartialEq, Eq)]
+#[derive(Clone, Copy, PartialEq, Eq)]
 pub enum Operands {
     Zero,
     One(Operand),
@@ -200,7 +200,7 @@ fn without_bound(lexemes: &[Lexeme]) -> (&[Lexeme], Option<Ranged<u64>>)
 }
 
 /// An instruction by its shape.
-#[derive(Clone, Copy, Debug, PartialEq, Eq)]
+#[derive(Clone, Copy, PartialEq, Eq)]
 pub struct Statement {
     pub lock: bool,
     pub mnemonic: Meaning,

@@ -26,7 +26,7 @@ pub enum FaultKind {
 }
 
 /// What the next instruction of a running call does. `next` is the position of the instruction after it.
-#[derive(Clone, Copy, Debug, PartialEq, Eq)]
+#[derive(Clone, Copy, PartialEq, Eq)]
 pub enum Action {
     /// It changes the frame alone.
     Silent(Patch),

@@ -3,7 +3,7 @@
 use crate::change::ChangeBack;
 
 /// What brings a machine back by one step.
-#[derive(Debug, PartialEq, Eq, Drop)]
+#[derive(PartialEq, Eq, Drop)]
 pub struct Undo {
     pub thread: usize,
     /// The place that was written, and the word that was there.

@@ -16,7 +16,7 @@ use tso_list::Seq;
 use tso_word::Flags;
 
 /// What a step changes in its thread.
-#[derive(Clone, Copy, Debug, PartialEq, Eq)]
+#[derive(Clone, Copy, PartialEq, Eq)]
 pub enum Change {
     /// A call begins: its procedure with the word of RDI, and with so many back jumps.
     Begin {
@@ -49,7 +49,7 @@ pub enum Change {
 }
 
 /// What brings a thread back.
-#[derive(Debug, PartialEq, Eq, Drop)]
+#[derive(PartialEq, Eq, Drop)]
 pub enum ChangeBack {
     Begin,
     Run(Patch),

@@ -36,7 +36,7 @@ impl Clone for Frame {
 }
 
 /// What a step changes in a frame: the position and the flags, and perhaps one register and one count.
-#[derive(Clone, Copy, Debug, PartialEq, Eq)]
+#[derive(Clone, Copy, PartialEq, Eq)]
 pub struct Patch {
     pub pc: usize,
     pub register: Option<(Register, u64)>,

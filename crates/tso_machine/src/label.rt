@@ -32,7 +32,7 @@ pub enum LabelKind {
 }
 
 /// A step of a thread.
-#[derive(Clone, Copy, Debug, PartialEq, Eq)]
+#[derive(Clone, Copy, PartialEq, Eq)]
 pub struct Label {
     pub thread: usize,
     pub kind: LabelKind,

@@ -30,7 +30,7 @@ use tso_line::{LockedOperation, Register};
 use tso_prog::{CallKind, Client};
 
 /// A label's kind, and what its step changes in its thread.
-#[derive(Clone, Copy, Debug, PartialEq, Eq)]
+#[derive(Clone, Copy, PartialEq, Eq)]
 pub struct Offer {
     pub kind: LabelKind,
     pub change: Change,
@@ -151,7 +151,7 @@ fn if_drained_holder(
 }
 
 /// An instruction that locks: its place, what it does with it, and the position of the next instruction.
-#[derive(Clone, Copy, Debug, PartialEq, Eq)]
+#[derive(Clone, Copy, PartialEq, Eq)]
 struct LockedAction {
     place: usize,
     operation: LockedOperation,

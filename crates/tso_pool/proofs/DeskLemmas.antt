@@ -1,6 +1,6 @@
 -- Desks: states that keep their numbers, with the actors that lead to them.
 use Rattle.std.proofs.Common.{◌≡◌, ◌∙◌, ℕ, zero, suc, take, ◌-◌, ◌<◌, ◌++◌, ◌∷◌, [], List, length, Option, Some, slice_get, refl, sym, subst, arith}
-use Rattle.std.specs.Prelude.{true}
+use Rattle.std.specs.Prelude.{true, Result, Ok, Err, IfOk}
 use Rattle.std.proofs.lemmas.List.{length-append}
 use Rattle.std.proofs.lemmas.Option.{none-some, same_Some, slice_get_within}
 use Rattle.tso_compact.specs.Plans.{IsStep}
@@ -10,7 +10,7 @@ use Rattle.tso_parts.proofs.Marked.{of_longer}
 use Rattle.tso_parts.specs.Numbers.{Extends}
 use Rattle.tso_list.proofs.Cutting.{popped}
 use Rattle.tso_list.specs.Cuts.{IsLonger}
-use Rattle.tso_pool.specs.Desks.{AreLed, HasMovedAt, IsShardOf}
+use Rattle.tso_pool.specs.Desks.{AreLed, HasMovedAt, IsInitialAt, IsShardOf}
 use Rattle.tso_pool.specs.Numbering.{IsCopy, near_of}
 use Rattle.tso_pool.specs.declared.moves.Moves.{Moves}
 use Rattle.tso_prog.specs.declared.client.Client.{Client}
@@ -20,6 +20,7 @@ use Rattle.tso_state.specs.declared.state.State.{State}
 use Rattle.tso_store.specs.Sheets.{CanStep, IsKeptSuccessor, IsSuccessor}
 use Rattle.tso_table.proofs.KeptLemmas.{next_is_kept, small_actor}
 use Rattle.tso_table.specs.Leading.{IsKept}
+use Rattle.tso_table.specs.declared.kept.Kept.{Kept}
 use Rattle.tso_table.specs.declared.number.Number.{Number}
 
 pub none_led : (c : Client) → AreLed c [] []
@@ -98,3 +99,10 @@ pub led_unchanged : (c : Client) (old new : List State) (paths more back : List 
 led_unchanged c old new paths more back n a led f same longer rest =
     let (path, there, kept) = led_at c old paths n f.from led f.at in
     led_again c old new paths more back (path ++ number_of a ∷ []) led same (longer.added path there) rest
+
+-- the initial state has a number, where it was taken in
+pub begun_at : {E : Type 0} (c : Client) (states : List State) (k : Kept) (r : Result ℕ E) → IsKept c k → k.actors ≡ [] → IfOk r (λ n. slice_get states n ≡ Some k.state) → IfOk r (IsInitialAt c states)
+begun_at c states k (Ok n) kept none at =
+    let P : List ℕ → Type 0 = λ p. IsKept c (record { state = k.state; actors = p }) in
+    record { state = k.state; at = at; initial = subst P none kept }
+begun_at c states k (Err e) kept none at = at

@@ -9,8 +9,7 @@ use Rattle.tso_choose.specs.Needs.{is_enabled}
 use Rattle.tso_choose.specs.declared.choice.Choice.{Choice}
 use Rattle.tso_compact.specs.Plans.{HasStep, kind_of_move}
 use Rattle.tso_foot.specs.declared.table.Table.{Table}
-use Rattle.tso_judge.specs.Conditions.{HasNoStopped, IsExplained, IsOver}
-use Rattle.tso_judge.specs.Judging.{AreMet}
+use Rattle.tso_rec.specs.Conditions.{AreMet, HasNoStopped, IsExplained, IsOver}
 use Rattle.tso_machine.specs.Programs.{program_of}
 use Rattle.tso_model.specs.Steps as model
 use Rattle.tso_pool.proofs.NumberLemmas.{all_named}

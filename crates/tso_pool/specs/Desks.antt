@@ -4,7 +4,7 @@ use Rattle.tso_choose.specs.Choices.{AreChosen}
 use Rattle.tso_choose.specs.declared.choice.Choice.{Choice}
 use Rattle.tso_compact.specs.Laws.{IsPlausible}
 use Rattle.tso_foot.specs.declared.table.Table.{Table}
-use Rattle.tso_judge.specs.Conditions.{IsOver}
+use Rattle.tso_rec.specs.Conditions.{IsOver}
 use Rattle.tso_pool.specs.Numbering.{AreNumbered, HasMoved}
 use Rattle.tso_pool.specs.declared.moves.Moves.{Moves}
 use Rattle.tso_prog.specs.declared.client.Client.{Client}

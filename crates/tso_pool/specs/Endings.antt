@@ -1,7 +1,7 @@
 -- How a worker ends, and what it knows then.
 use Rattle.std.specs.Prelude.{◌⊎◌}
 use Rattle.tso_fifo.specs.Orders.{HasOrder}
-use Rattle.tso_judge.specs.Conditions.{HasNoStopped}
+use Rattle.tso_rec.specs.Conditions.{HasNoStopped}
 use Rattle.tso_pool.specs.declared.ending.Ending.{Ending}
 use Rattle.tso_pool.specs.declared.ending.Ending.TheVariants.{Quiet, Astray, Violation, Full, Memory}
 use Rattle.tso_prog.specs.declared.client.Client.{Client}

@@ -164,19 +164,16 @@ impl<'c> Desk<'c> {
         }
     }
 
-    /// Takes in the initial state of the client, to which no actors lead.
-    ///
-    /// Errors: where a growth was refused. Each state keeps its number.
-    pub fn begin(&mut self, alloc: Global, checked: &Checked) -> Result<u32, AllocError>
-        requires { self.old.client ≡ checked.now.client }
+    // Takes in a state, with the actors that lead to it.
+    fn keep(&mut self, state: &State, actors: &[u8]) -> Result<u32, AllocError>
+        requires { IsKept self.old.client (record { state = state.now; actors = actors.now }) }
         ensures extends { Extends self.old.states self.new.states }
         ensures worker { self.new.worker ≡ self.old.worker }
         ensures client { self.new.client ≡ self.old.client }
-        ensures initial { IfOk result (IsInitialAt self.new.client self.new.states) }
+        ensures state { IfOk result (λ n. slice_get self.new.states n ≡ Some state.now) }
     {
-        let Kept { state, actors } = Kept::initial(alloc, checked)?;
-        self.paths.push(actors.as_slice())?;
-        match self.store.add(&state) {
+        self.paths.push(actors)?;
+        match self.store.add(state) {
             Ok((number, true)) => Ok(number),
             Ok((number, false)) => {
                 self.paths.pop();
@@ -187,6 +184,22 @@ impl<'c> Desk<'c> {
                 Err(AllocError)
             }
         }
+    }
+
+    /// Takes in the initial state of the client, to which no actors lead.
+    ///
+    /// Errors: where a growth was refused. Each state keeps its number.
+    pub fn begin(&mut self, alloc: Global, checked: &Checked) -> Result<u32, AllocError>
+        requires { self.old.client ≡ checked.now.client }
+        ensures extends { Extends self.old.states self.new.states }
+        ensures worker { self.new.worker ≡ self.old.worker }
+        ensures client { self.new.client ≡ self.old.client }
+        ensures initial { IfOk result (IsInitialAt self.new.client self.new.states) }
+    {
+        let kept = Kept::initial(alloc, checked)?;
+        let held = self.keep(&kept.state, kept.actors.as_slice());
+        drop(kept);
+        held
     }
 
     /// The number of the state after an actor's step from a state, and whether it is new to the desk.

@@ -4,7 +4,7 @@ use std::alloc::AllocError;
 use tso_table::Kept;
 
 /// How a worker ends.
-#[derive(Debug, Drop)]
+#[derive(Drop)]
 pub enum Ending {
     /// Nothing was left to do, or another worker noted its end.
     Quiet,

@@ -1,7 +1,7 @@
 //! States in which no actor has a step.
 
 ghost use Rattle.std.specs.Prelude.{IfNone, IfOk, IfSome};
-ghost use Rattle.tso_judge.specs.Conditions.{HasNoStopped, IsExplained};
+ghost use Rattle.tso_rec.specs.Conditions.{HasNoStopped, IsExplained};
 ghost use Rattle.tso_pool.specs.Endings.{IsBad};
 ghost use Rattle.tso_rec.specs.declared.record.End.TheVariants as ends;
 

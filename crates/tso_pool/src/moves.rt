@@ -9,7 +9,7 @@ use tso_table::{Near, Number, Numbers};
 
 /// The numbers of the states after the first of the chosen steps, and those of these states that belong to the shard of the
 /// state that they leave.
-#[derive(Debug, Drop)]
+#[derive(Drop)]
 pub struct Moves {
     pub numbers: Numbers,
     pub near: Vec<Near>,

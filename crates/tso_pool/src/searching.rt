@@ -126,6 +126,52 @@ fn run<U: Search + Send + Sync, E: Ledger + Send + Sync, R: Threads + Wait + Syn
     }
 }
 
+// The same over these shards and this budget, with seats of their own.
+fn run_over<
+    'c,
+    U: Search + Send + Sync,
+    E: Ledger + Send + Sync,
+    R: Threads + Wait + Sync,
+    W: Watch + Sync,
+>(
+    rt: &R,
+    alloc: Global,
+    checked: &'c Checked,
+    table: &'c Footprints,
+    workers: usize,
+    limit: u32,
+    cells: &[Mutex<Shard<'c, U, E>>],
+    budget: &Mutex<Budget<U, E>>,
+    calls: &mut Share<E>,
+    watch: &W,
+) -> Result<Ending, AllocError>
+    requires workers { (0 < workers) × (workers ≤ 64) }
+    requires parts { calls.old.parts ≡ workers + 1 }
+    requires client { U.client ≡ Some checked.now.client }
+    requires table { U.table ≡ Some table.now }
+    ensures parts { IfOk result (λ _. calls.new.parts ≡ calls.old.parts) }
+{
+    let seats = seats(alloc, workers)?;
+    let note = AtomicBool::new(false);
+    let progress = Progress::new();
+    progress.hand_out();
+    let resting = Resting::new();
+    let team = Team {
+        rt,
+        alloc,
+        checked,
+        table,
+        limit,
+        shards: cells,
+        budget,
+        note: &note,
+        progress: &progress,
+        resting: &resting,
+        watch,
+    };
+    run(rt, &team, seats, calls)
+}
+
 // The same, with the ledgers of units and of entries.
 fn search_as<
     'c,
@@ -155,29 +201,28 @@ fn search_as<
     let mut units = units;
     let mut calls = calls;
     let cells = empty_shards(alloc, checked, table, &mut units, &mut calls)?;
-    let seats = seats(alloc, workers)?;
     let budget = Mutex::new(budget);
-    let note = AtomicBool::new(false);
-    let progress = Progress::new();
-    progress.hand_out();
-    let resting = Resting::new();
-    let team = Team {
-        rt,
-        alloc,
-        checked,
-        table,
-        limit,
-        shards: cells.as_slice(),
-        budget: &budget,
-        note: &note,
-        progress: &progress,
-        resting: &resting,
-        watch,
-    };
-    let ending = run(rt, &team, seats, &mut calls)?;
+    let shards = cells.as_slice();
+    let ended = run_over(
+        rt, alloc, checked, table, workers, limit, shards, &budget, &mut calls, watch,
+    );
     let mut budget = budget.into_inner();
-    let tables = gather(alloc, cells, &mut budget, &mut units, &mut calls)?;
+    let ending = match ended {
+        Ok(ending) => ending,
+        Err(reason) => {
+            drop(cells);
+            return Err(reason);
+        }
+    };
+    let tables = match gather(alloc, cells, &mut budget, &mut units, &mut calls) {
+        Ok(tables) => tables,
+        Err(reason) => {
+            drop(ending);
+            return Err(reason);
+        }
+    };
     if !budget.is_for(limit) {
+        drop(tables);
         return Ok((Vec::new(alloc), ending));
     }
     let _given = budget.given();

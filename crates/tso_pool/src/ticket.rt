@@ -3,7 +3,7 @@
 use tso_table::Number;
 
 /// A ticket for a state: its number, and which worker's desk has it, under which number there.
-#[derive(Clone, Copy, Debug, PartialEq, Eq)]
+#[derive(Clone, Copy, PartialEq, Eq)]
 pub struct Ticket {
     pub number: Number,
     pub worker: u64,

@@ -1,7 +1,7 @@
 //! What one worker does.
 
 ghost use Rattle.std.specs.Prelude.{◌≡◌, ◌+◌, ◌<◌, ◌≤◌, IfErr, IfOk, IfSome, OnOk, length};
-ghost use Rattle.tso_judge.specs.Conditions.{HasNoStopped, IsExplained, IsOver};
+ghost use Rattle.tso_rec.specs.Conditions.{HasNoStopped, IsExplained, IsOver};
 ghost use Rattle.tso_parts.specs.Numbers.{Extends};
 ghost use Rattle.tso_pool.specs.Desks.{AreNumberedAt, HasMovedAt, IsChosenAt, IsOverAt};
 ghost use Rattle.tso_pool.specs.Endings.{IsEndingOf};

@@ -8,7 +8,7 @@ use tso_line::{CallKind, Instruction, Mode};
 use tso_list::Seq;
 
 /// An array of words, with its name and what it holds at first.
-#[derive(Debug, Drop)]
+#[derive(Drop)]
 pub struct Array {
     pub name: Seq<u8>,
     pub words: Seq<u64>,
@@ -18,7 +18,7 @@ pub struct Array {
 pub type Step = Instruction<usize, usize>;
 
 /// The instructions of push or of pop, each with the line that it stands on.
-#[derive(Debug, Drop)]
+#[derive(Drop)]
 pub struct Procedure {
     pub instructions: Seq<Step>,
     pub lines: Seq<u32>,
@@ -30,7 +30,7 @@ pub struct Procedure {
 }
 
 /// A program: the queue's capacity and mode, its arrays and procedures, and the calls of each thread.
-#[derive(Debug, Drop)]
+#[derive(Drop)]
 pub struct Client {
     /// From 1 to 16.
     pub capacity: u8,

@@ -15,7 +15,7 @@ use tso_line::{CallKind, Instruction, Kind, Line, Mode, Slip};
 use tso_list::Seq;
 
 /// What comes next.
-#[derive(Clone, Copy, Debug, PartialEq, Eq)]
+#[derive(Clone, Copy, PartialEq, Eq)]
 pub enum Part {
     Capacity,
     Mode,
@@ -29,27 +29,27 @@ pub enum Part {
 }
 
 /// An array with its first words.
-#[derive(Debug, Drop)]
+#[derive(Drop)]
 pub struct Declared<'a> {
     pub name: &'a [u8],
     pub words: Seq<u64>,
 }
 
 /// An instruction whose label is a name, and its line.
-#[derive(Clone, Copy, Debug)]
+#[derive(Clone, Copy)]
 pub struct Unresolved<'a> {
     pub instruction: Instruction<usize, &'a [u8]>,
     pub line: u32,
 }
 
 /// A procedure so far.
-#[derive(Debug, Drop)]
+#[derive(Drop)]
 pub struct Body<'a> {
     pub labels: Labels<'a>,
     pub steps: Vec<Unresolved<'a>>,
 }
 
-#[derive(Debug, Drop)]
+#[derive(Drop)]
 pub struct Draft<'a> {
     pub part: Part,
     pub capacity: u8,

@@ -82,7 +82,7 @@ impl fmt::Display for Fault {
     }
 }
 
-#[derive(Debug, PartialEq, Eq, Drop)]
+#[derive(PartialEq, Eq, Drop)]
 pub enum ReadError {
     Refused(Fault),
     Memory,

@@ -9,7 +9,7 @@ use std::collections::BTreeSet;
 use std::marker::Model;
 
 /// A label, before the instruction of this number.
-#[derive(Clone, Copy, Debug)]
+#[derive(Clone, Copy)]
 pub struct Target<'a> {
     pub name: &'a [u8],
     pub at: usize,
@@ -17,7 +17,7 @@ pub struct Target<'a> {
 
 /// Labels in the order of their lines. Their names are also in a set, so that a text of labels alone is read in little more than
 /// the time of its bytes.
-#[derive(Debug, Drop)]
+#[derive(Drop)]
 pub struct Labels<'a> {
     targets: Vec<Target<'a>>,
     names: BTreeSet<&'a [u8]>,

@@ -20,7 +20,7 @@ use tso_state::{State, Thread};
 
 /// A record, whose parts may be shared with others: its state's memory, threads and lists of calls, and its end. Each part lies
 /// beside its spelling.
-#[derive(Debug, Drop)]
+#[derive(Drop)]
 pub struct Kept {
     pub memory: Shared<Seq<u64>>,
     pub threads: Seq<Shared<Thread>>,

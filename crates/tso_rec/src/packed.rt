@@ -20,7 +20,7 @@ use tso_state::State;
 
 /// A list of records, kept by parts: the first one keeps all its parts, and a later one those that differ from the record
 /// before it; the others it shares. Contracts see the list of records.
-#[derive(Debug, Drop)]
+#[derive(Drop)]
 pub struct Packed {
     kept: Seq<Kept>,
 }

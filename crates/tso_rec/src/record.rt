@@ -6,7 +6,7 @@ use tso_fifo::Order;
 use tso_state::State;
 
 /// How a record ends.
-#[derive(Debug, PartialEq, Eq, Drop)]
+#[derive(PartialEq, Eq, Drop)]
 pub enum End {
     /// The actors that are chosen to move, each with a reason for each other thread.
     Choices(Choices),
@@ -15,7 +15,7 @@ pub enum End {
 }
 
 /// A state with its end. It may be made of any parts.
-#[derive(Debug, PartialEq, Eq, Drop)]
+#[derive(PartialEq, Eq, Drop)]
 pub struct Record {
     pub state: State,
     pub end: End,

@@ -6,7 +6,6 @@ ghost use Rattle.tso_rec.specs.Parts.{CopiesAre, differing};
 
 use std::alloc::{AllocError, Global};
 use std::cmp::Ordering;
-use std::fmt;
 use std::marker::Model;
 use std::sync::Arc;
 use tso_code::{Code, write_number};
@@ -82,12 +81,6 @@ impl<T: Code> Shared<T> {
     {
         let held = self.held.clone()?;
         Ok(Shared { held })
-    }
-}
-
-impl<T: fmt::Debug + Code> fmt::Debug for Shared<T> {
-    fn fmt<W: fmt::Write>(&self, f: &mut fmt::Formatter<W>) -> fmt::Result {
-        self.get().fmt(f)
     }
 }
 

@@ -15,7 +15,7 @@ use tso_machine::{
 use tso_prog::Client;
 
 /// What a thread has next.
-#[derive(Clone, Copy, Debug, PartialEq, Eq)]
+#[derive(Clone, Copy, PartialEq, Eq)]
 pub enum Next {
     /// This label, which is a step now.
     Step(LabelKind),

@@ -10,7 +10,7 @@ use tso_prog::Code;
 use tso_text::{LexError, Token, lex};
 
 /// Some bytes of a line: those from `start` up to `end`, which is not one of them.
-#[derive(Clone, Copy, Debug, PartialEq, Eq)]
+#[derive(Clone, Copy, PartialEq, Eq)]
 pub struct Place {
     pub start: usize,
     pub end: usize,

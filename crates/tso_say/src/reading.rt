@@ -11,7 +11,7 @@ use tso_line::register_word;
 use tso_prog::{Client, Procedure};
 
 /// A read of a register or a flag that is not written where control comes along a path.
-#[derive(Debug, Drop)]
+#[derive(Drop)]
 pub struct UnwrittenRead {
     pub kind: ProcedureKind,
     /// The position of the instruction that reads.

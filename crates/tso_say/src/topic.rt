@@ -5,7 +5,7 @@ ghost use Rattle.tso_say.specs.Words.{topic_word, topic_named};
 ghost use Rattle.tso_say.specs.declared.topic.Topic.{Topic as Code};
 
 /// A code that stands for a refusal: `E` of a program, `K` of a certificate, `T` of a trace.
-#[derive(Clone, Copy, Debug, PartialEq, Eq, PartialOrd, Ord, Hash)]
+#[derive(Clone, Copy, PartialEq, Eq, PartialOrd, Ord, Hash)]
 pub enum Topic {
     E01,
     E02,

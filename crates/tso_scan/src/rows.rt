@@ -13,7 +13,7 @@ use tso_rec::Readable;
 use tso_store::NONE;
 
 /// The numbers of parts, and that of nothing after them.
-#[derive(Clone, Copy, Debug, PartialEq, Eq, Hash)]
+#[derive(Clone, Copy, PartialEq, Eq, Hash)]
 pub struct Row {
     pub numbers: [u32; 5],
 }

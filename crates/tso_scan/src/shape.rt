@@ -5,7 +5,7 @@ ghost use Rattle.tso_scan.specs.Scanned.{shape_count};
 use std::boxed::Box;
 
 /// A tree without its records: how many each leaf has, from left to right, and which trees are halves of one fork.
-#[derive(Debug, Drop)]
+#[derive(Drop)]
 pub enum Shape {
     Leaf(u32),
     Fork(Box<Shape>, Box<Shape>),

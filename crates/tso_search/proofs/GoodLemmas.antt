@@ -10,7 +10,7 @@ use Rattle.tso_search.specs.Goodness.{AllGood, AllGoodBelow, HasNoOrderAt, HasOr
 use Rattle.tso_search.proofs.KeptOrders.{call_keeps}
 use Rattle.tso_search.specs.Reached.{IsBadAt}
 use Rattle.tso_search.specs.Searched.{IsGoodAt}
-use Rattle.tso_judge.specs.Conditions.{HasNoStopped}
+use Rattle.tso_rec.specs.Conditions.{HasNoStopped}
 use Rattle.tso_store.specs.Sheets.{IsKeptSuccessor}
 use Rattle.tso_fifo.specs.Orders.{HasOrder}
 use Rattle.tso_hist.specs.declared.call.Call.{Call}

@@ -30,7 +30,7 @@ use Rattle.tso_fifo.specs.Orders.{HasOrder}
 use Rattle.tso_flow.specs.Calls.{as_thread}
 use Rattle.tso_flow.specs.Faults.{HasNoFault}
 use Rattle.tso_foot.specs.declared.table.Table.{Table}
-use Rattle.tso_judge.specs.Conditions.{HasNoStopped, IsKeptAfter, IsOver}
+use Rattle.tso_rec.specs.Conditions.{HasNoStopped, IsKeptAfter, IsOver}
 use Rattle.tso_machine.specs.Programs.{program_of}
 use Rattle.tso_model.proofs.Reduce.{steps_append}
 use Rattle.tso_model.specs.Steps as model

@@ -10,7 +10,7 @@ use Rattle.tso_search.specs.Reached.{AllMet, AreLabelsTo, AreOrigins, IsBadAt, I
 use Rattle.tso_search.specs.Searched.{IsBegun}
 use Rattle.tso_search.specs.Ways.{AreLabelsFrom, ComeEarlier, IsOriginOf, LeadBack}
 use Rattle.tso_search.specs.declared.origin.Origin.{Origin}
-use Rattle.tso_judge.specs.Conditions.{IsStoppedAt}
+use Rattle.tso_rec.specs.Conditions.{IsStoppedAt}
 use Rattle.tso_machine.specs.Activations.{Activation}
 use Rattle.tso_machine.specs.Machines.{label_of}
 use Rattle.tso_machine.specs.Places.{first_memory}

@@ -2,7 +2,7 @@
 use Rattle.std.specs.Prelude.{◌≡◌, ◌<◌, ℕ, Bool, true, false, List, Option, None, Some, slice_get}
 use Rattle.tso_compact.specs.Plans.{IsStep}
 use Rattle.tso_fifo.specs.Orders.{HasOrder}
-use Rattle.tso_judge.specs.Conditions.{HasNoStopped}
+use Rattle.tso_rec.specs.Conditions.{HasNoStopped}
 use Rattle.tso_prog.specs.declared.client.Client.{Client}
 use Rattle.tso_state.specs.declared.actor.Actor.{Actor}
 use Rattle.tso_state.specs.declared.state.Core.{Core}

@@ -4,7 +4,7 @@ use Rattle.tso_compact.specs.Laws.{IsLabelRun, IsPlausible, initial_of}
 use Rattle.tso_compact.specs.Plans.{IsStep}
 use Rattle.tso_search.specs.declared.origin.Origin.{Origin}
 use Rattle.tso_fifo.specs.Orders.{HasOrder}
-use Rattle.tso_judge.specs.Conditions.{HasNoStopped}
+use Rattle.tso_rec.specs.Conditions.{HasNoStopped}
 use Rattle.tso_machine.specs.Machines.{label_of}
 use Rattle.tso_machine.specs.Programs.{program_of}
 use Rattle.tso_machine.specs.declared.label.Label.{Label}

@@ -15,7 +15,7 @@ use Rattle.tso_search.specs.declared.stop.Stop.{Stop}
 use Rattle.tso_search.specs.declared.stop.Stop.TheVariants as stops
 use Rattle.tso_fifo.specs.Orders.{HasOrder}
 use Rattle.tso_foot.specs.declared.table.Table.{Table}
-use Rattle.tso_judge.specs.Conditions.{HasNoStopped, IsKeptAfter, IsOver}
+use Rattle.tso_rec.specs.Conditions.{HasNoStopped, IsKeptAfter, IsOver}
 use Rattle.tso_parts.specs.Numbers.{Extends, IsNumbered}
 use Rattle.tso_prog.specs.declared.client.Client.{Client}
 use Rattle.tso_state.specs.Views.{state_of}

@@ -211,6 +211,25 @@ fn cut_round(
     Ok(shorter)
 }
 
+// Leaves labels out in all ways, again until nothing goes.
+fn shorten(
+    alloc: Global,
+    checked: &Checked,
+    shortest: &mut Shortest,
+    threads: usize,
+) -> Result<(), AllocError>
+    requires { IsTraceOf checked.now.client shortest.old.trace }
+    ensures { IsShorter checked.now.client shortest.old.trace shortest.new.trace }
+{
+    cut_end(alloc, checked, shortest)?;
+    for _ in 0..LABELS {
+        if !cut_round(alloc, checked, shortest, threads)? {
+            break;
+        }
+    }
+    Ok(())
+}
+
 /// A trace of the same client with as many labels left out as were found to be of no need: what comes after the label with which
 /// the run is no longer good, then each thread's last labels, then windows of up to 16 labels of one thread, the longest first,
 /// again until nothing goes.
@@ -229,11 +248,13 @@ pub fn shortened(
         trace,
         left: LABELS,
     };
-    cut_end(alloc, checked, &mut shortest)?;
-    for _ in 0..LABELS {
-        if !cut_round(alloc, checked, &mut shortest, threads)? {
-            break;
+    let done = shorten(alloc, checked, &mut shortest, threads);
+    let Shortest { trace, left: _left } = shortest;
+    match done {
+        Ok(()) => Ok(trace),
+        Err(reason) => {
+            drop(trace);
+            Err(reason)
         }
     }
-    Ok(shortest.trace)
 }

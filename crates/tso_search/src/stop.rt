@@ -3,7 +3,7 @@
 use std::alloc::AllocError;
 
 /// Why a search stops before its end.
-#[derive(Clone, Copy, Debug, PartialEq, Eq)]
+#[derive(Clone, Copy, PartialEq, Eq)]
 pub enum Stop {
     /// The state with this number is the end of a run that is not good.
     Violation(u32),

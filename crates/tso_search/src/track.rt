@@ -7,7 +7,7 @@ use std::collections::VecDeque;
 const TURNS: u32 = 65_536;
 
 /// Which of the states with a choice a hunt goes on from next.
-#[derive(Clone, Copy, Debug, PartialEq, Eq)]
+#[derive(Clone, Copy, PartialEq, Eq)]
 pub enum Way {
     /// The one that was met first.
     Breadth,
@@ -16,7 +16,7 @@ pub enum Way {
 }
 
 /// A state to go on from: one that was put off and has its turn, or one that was just met.
-#[derive(Clone, Copy, Debug, PartialEq, Eq)]
+#[derive(Clone, Copy, PartialEq, Eq)]
 pub struct Next {
     pub number: u32,
     pub in_turn: bool,

@@ -12,7 +12,7 @@ use tso_prog::{Array, Client};
 use tso_trace::cell_name;
 
 /// A locked instruction of which some labels are taken.
-#[derive(Clone, Copy, Debug)]
+#[derive(Clone, Copy)]
 struct Section {
     thread: usize,
     /// The number of its first label.

@@ -9,7 +9,7 @@ use tso_machine::{Label, LabelKind};
 use tso_prog::Answer;
 
 /// How a call returns.
-#[derive(Clone, Copy, Debug, PartialEq, Eq)]
+#[derive(Clone, Copy, PartialEq, Eq)]
 pub struct Returned {
     /// The number of the label at which it returns, from 1.
     pub label: usize,
@@ -17,7 +17,7 @@ pub struct Returned {
 }
 
 /// A call of a run: from which label to which it lasts.
-#[derive(Clone, Copy, Debug, PartialEq, Eq)]
+#[derive(Clone, Copy, PartialEq, Eq)]
 pub struct TimedCall {
     pub thread: usize,
     pub kind: CallKind,

@@ -61,7 +61,7 @@ fn class_of(kind: LabelKind) -> &'static str {
 }
 
 /// Whose lane it is.
-#[derive(Clone, Copy, Debug)]
+#[derive(Clone, Copy)]
 pub enum Lane {
     Thread(usize),
     /// The thread of the prologue.

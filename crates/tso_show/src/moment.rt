@@ -11,7 +11,7 @@ use std::alloc::Global;
 use tso_machine::Label;
 
 /// A label that was taken, the instruction that took it, and what is shown of the machine after it.
-#[derive(Debug, Drop)]
+#[derive(Drop)]
 pub struct Moment {
     pub label: Label,
     pub site: Option<Site>,

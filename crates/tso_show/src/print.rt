@@ -53,7 +53,7 @@ impl From<WalkError> for ShowError {
 }
 
 /// A procedure by its name.
-#[derive(Clone, Copy, Debug)]
+#[derive(Clone, Copy)]
 pub struct Name(pub ProcedureKind);
 
 impl fmt::Display for Name {
@@ -66,7 +66,7 @@ impl fmt::Display for Name {
 }
 
 /// A call by what it asks for.
-#[derive(Clone, Copy, Debug)]
+#[derive(Clone, Copy)]
 pub struct Asked(pub CallKind);
 
 impl fmt::Display for Asked {
@@ -79,7 +79,7 @@ impl fmt::Display for Asked {
 }
 
 /// An answer, as a trace has it.
-#[derive(Clone, Copy, Debug)]
+#[derive(Clone, Copy)]
 pub struct Answered(pub Answer);
 
 impl fmt::Display for Answered {

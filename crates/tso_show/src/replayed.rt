@@ -12,7 +12,7 @@ use tso_prog::Client;
 use tso_trace::{Trace, TraceFault, Violation, labels_of};
 
 /// A run that a text spells.
-#[derive(Debug, Drop)]
+#[derive(Drop)]
 pub enum Replayed {
     /// One in which something is wrong.
     Erring(Trace),

@@ -9,7 +9,7 @@ use tso_machine::{Core, Label, LabelKind, Machine};
 use tso_prog::{Client, Procedure};
 
 /// An instruction of a client's text.
-#[derive(Clone, Copy, Debug, PartialEq, Eq)]
+#[derive(Clone, Copy, PartialEq, Eq)]
 pub struct Site {
     pub procedure: ProcedureKind,
     /// Its position in the procedure, from 0.

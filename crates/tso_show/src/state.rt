@@ -12,7 +12,7 @@ use tso_machine::{Core, Label, LabelKind, Machine, Thread};
 use tso_prog::{Array, Client};
 
 /// What is shown of a run beside its labels.
-#[derive(Clone, Copy, Debug, PartialEq, Eq)]
+#[derive(Clone, Copy, PartialEq, Eq)]
 pub struct Show {
     /// The instruction that takes each label, with its line of the text.
     pub source: bool,

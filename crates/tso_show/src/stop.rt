@@ -13,7 +13,7 @@ use tso_prog::{Address, Client, Instruction, Register, Step};
 use tso_word::Condition;
 
 /// Which word of an array an instruction asks for: a whole number, that of a register and a displacement.
-#[derive(Clone, Copy, Debug, PartialEq, Eq)]
+#[derive(Clone, Copy, PartialEq, Eq)]
 enum Index {
     /// This one.
     Word(u64),
@@ -34,7 +34,7 @@ impl fmt::Display for Index {
 }
 
 /// What an instruction does that stops its thread.
-#[derive(Clone, Copy, Debug)]
+#[derive(Clone, Copy)]
 enum Reason<'a> {
     /// It asks for a word that the array of this name, which has so many, does not have.
     Range {
@@ -73,7 +73,7 @@ impl<'a> fmt::Display for Reason<'a> {
 }
 
 /// A thread that stops: in which call, at which label and line, and why.
-#[derive(Clone, Copy, Debug)]
+#[derive(Clone, Copy)]
 pub struct Stop<'a> {
     call: CallKind,
     thread: usize,

@@ -12,7 +12,7 @@ use tso_prog::Client;
 use tso_trace::history_of;
 
 /// How far the calls and returns of a run have a linearization.
-#[derive(Debug, Drop)]
+#[derive(Drop)]
 pub enum Served {
     /// To its end, and this is one.
     Whole(Order),

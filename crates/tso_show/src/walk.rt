@@ -30,7 +30,7 @@ impl From<AllocError> for WalkError {
 }
 
 /// A place among labels: so many are taken, and the machine is the one after them.
-#[derive(Debug, Drop)]
+#[derive(Drop)]
 pub struct Walk<'a> {
     checked: &'a Checked,
     labels: &'a [Label],

@@ -9,7 +9,7 @@ use tso_line::{CallKind, Mode};
 use tso_prog::Answer;
 
 /// Why the calls of a run have no order.
-#[derive(Clone, Copy, Debug, PartialEq, Eq)]
+#[derive(Clone, Copy, PartialEq, Eq)]
 pub enum Cause {
     /// More pops took the word than pushes can have put it.
     Surplus {

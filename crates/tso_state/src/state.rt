@@ -7,7 +7,7 @@ use tso_list::Seq;
 use tso_machine::{Entry, Frame};
 
 /// What a thread is doing.
-#[derive(Debug, PartialEq, Eq, PartialOrd, Ord, Hash, Drop)]
+#[derive(PartialEq, Eq, PartialOrd, Ord, Hash, Drop)]
 pub enum Core {
     /// It runs no call.
     Idle,
@@ -18,7 +18,7 @@ pub enum Core {
 }
 
 /// A thread: its core, and its stores that are not in memory yet, the oldest first.
-#[derive(Debug, PartialEq, Eq, PartialOrd, Ord, Hash, Drop)]
+#[derive(PartialEq, Eq, PartialOrd, Ord, Hash, Drop)]
 pub struct Thread {
     pub core: Core,
     pub buffer: Seq<Entry>,
@@ -26,7 +26,7 @@ pub struct Thread {
 
 /// A state: the words of all arrays, the threads, the prologue's as the last where there is one, and for each thread its
 /// calls that have begun. It may be made of any parts.
-#[derive(Debug, PartialEq, Eq, PartialOrd, Ord, Hash, Drop)]
+#[derive(PartialEq, Eq, PartialOrd, Ord, Hash, Drop)]
 pub struct State {
     pub memory: Seq<u64>,
     pub threads: Seq<Thread>,

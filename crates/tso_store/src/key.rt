@@ -14,7 +14,7 @@ pub const WIDTH: usize = 5;
 pub const NONE: u32 = 4294967295;
 
 /// The numbers of a state's memory, of its history, and of its threads.
-#[derive(Clone, Copy, Debug, PartialEq, Eq, PartialOrd, Ord)]
+#[derive(Clone, Copy, PartialEq, Eq, PartialOrd, Ord)]
 pub struct Key {
     pub memory: u32,
     pub history: u32,

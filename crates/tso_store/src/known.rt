@@ -20,7 +20,7 @@ use tso_prog::Client;
 use tso_state::{Core, Thread};
 
 /// What is known of a thread's next step in a call of a procedure.
-#[derive(Clone, Copy, Debug)]
+#[derive(Clone, Copy)]
 pub enum Run {
     /// Nothing.
     Unknown,
@@ -32,7 +32,7 @@ pub enum Run {
 
 /// For a thread's number what is known of its next step, in a push and in a pop, and the number of the thread that its drain
 /// leaves, where it is known.
-#[derive(Clone, Copy, Debug)]
+#[derive(Clone, Copy)]
 pub struct Known {
     pub push: Run,
     pub pop: Run,

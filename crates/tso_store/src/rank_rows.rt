@@ -6,7 +6,7 @@ use crate::key::Key;
 use crate::ranks::Ranks;
 
 /// The ranks of a state's memory, threads and history, compared in this order.
-#[derive(Clone, Copy, Debug, PartialEq, Eq, PartialOrd, Ord)]
+#[derive(Clone, Copy, PartialEq, Eq, PartialOrd, Ord)]
 pub struct Row {
     memory: u32,
     threads: [u32; 5],

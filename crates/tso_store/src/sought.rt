@@ -19,7 +19,7 @@ use tso_prog::Client;
 use tso_state::{Actor, Thread};
 
 /// What is known of the state after a step.
-#[derive(Clone, Copy, Debug, PartialEq, Eq)]
+#[derive(Clone, Copy, PartialEq, Eq)]
 pub enum Found {
     /// The actor has no such step.
     Disabled,

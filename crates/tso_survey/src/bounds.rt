@@ -1,9 +1,10 @@
 //! How large the clients of a survey are.
 
 use crate::method::{Word, Words};
-use serde_json::{Value, json};
+use serde_json::Value;
 use std::alloc::{AllocError, Global};
 use std::fmt;
+use tso_front::Members;
 
 /// How many calls a client has at the most, those of its prologue among them.
 pub const CLIENT_CALLS: usize = 12;
@@ -36,10 +37,15 @@ impl Bounds {
     ///
     /// Errors: where a growth was refused.
     pub fn object(&self, alloc: Global, searched: usize) -> Result<Value, AllocError> {
-        let (threads, calls, before) = (self.threads as u64, self.calls as u64, self.before as u64);
-        let (producers, consumers) = (self.producers as u64, self.consumers as u64);
-        let searched = searched as u64;
-        json!(in alloc; {"verdict": "accepted", "threads": threads, "calls": calls, "before": before, "producers": producers, "consumers": consumers, "searched": searched})
+        let object = Members::new(alloc)
+            .text("verdict", "accepted")?
+            .number("threads", self.threads as u64)?
+            .number("calls", self.calls as u64)?
+            .number("before", self.before as u64)?
+            .number("producers", self.producers as u64)?
+            .number("consumers", self.consumers as u64)?
+            .number("searched", searched as u64)?;
+        Ok(object.object())
     }
 
     /// Whether threads with the words of these numbers are within the bounds.
@@ -100,6 +106,25 @@ fn plural(count: usize) -> &'static str {
     if count == 1 { "" } else { "s" }
 }
 
+fn put_size<W: fmt::Write>(f: &mut fmt::Formatter<W>, threads: usize, calls: usize) -> fmt::Result {
+    let (s, t) = (plural(threads), plural(calls));
+    write!(f, "at most {threads} thread{s} and {calls} call{t}")
+}
+
+fn put_roles<W: fmt::Write>(
+    f: &mut fmt::Formatter<W>,
+    producers: usize,
+    consumers: usize,
+) -> fmt::Result {
+    let (s, t) = (plural(producers), plural(consumers));
+    write!(f, ", {producers} producer{s} and {consumers} consumer{t}")
+}
+
+fn put_before<W: fmt::Write>(f: &mut fmt::Formatter<W>, before: usize) -> fmt::Result {
+    let s = if before == 1 { "" } else { "es" };
+    write!(f, ", behind at most {before} push{s}")
+}
+
 /// As a survey says it: `at most 3 threads and 4 calls`.
 impl fmt::Display for Bounds {
     fn fmt<W: fmt::Write>(&self, f: &mut fmt::Formatter<W>) -> fmt::Result {
@@ -110,15 +135,12 @@ impl fmt::Display for Bounds {
             producers,
             consumers,
         } = *self;
-        let (s, t) = (plural(threads), plural(calls));
-        write!(f, "at most {threads} thread{s} and {calls} call{t}")?;
+        put_size(f, threads, calls)?;
         if producers < threads || consumers < threads {
-            let (s, t) = (plural(producers), plural(consumers));
-            write!(f, ", {producers} producer{s} and {consumers} consumer{t}")?;
+            put_roles(f, producers, consumers)?;
         }
         if before > 0 {
-            let s = if before == 1 { "" } else { "es" };
-            write!(f, ", behind at most {before} push{s}")?;
+            put_before(f, before)?;
         }
         Ok(())
     }

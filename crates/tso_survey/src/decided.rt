@@ -2,10 +2,10 @@
 
 use crate::accepted::Accepted;
 use crate::calls::Calls;
-use serde_json::{Value, json};
+use serde_json::Value;
 use std::alloc::{AllocError, Global};
 use std::fmt;
-use tso_front::number_or_null;
+use tso_front::{Members, number_or_null, violation_words};
 use tso_trace::Violation;
 
 /// What is said of one client of a survey.
@@ -29,12 +29,12 @@ pub enum Decided {
     Refused(String),
 }
 
-// A violation by its words, and the thread of a fault.
-fn violation_words(violation: Violation) -> (&'static str, Value) {
-    match violation {
-        Violation::Fault(thread) => ("fault", Value::from(thread as u64)),
-        Violation::NoOrder => ("no order", Value::Null),
-    }
+// What is said of every client with these calls.
+fn decided_members(alloc: Global, calls: &Calls, verdict: &str) -> Result<Members, AllocError> {
+    Members::new(alloc)
+        .text("client", calls.client.as_str())?
+        .text("before", calls.before.as_str())?
+        .text("verdict", verdict)
 }
 
 // That a client with these calls is accepted, by a certificate of so many records.
@@ -43,9 +43,11 @@ fn accepted_object(
     calls: &Calls,
     records: Option<u64>,
 ) -> Result<Value, AllocError> {
-    let (before, client) = (calls.before.as_str(), calls.client.as_str());
-    let records = number_or_null(records);
-    json!(in alloc; {"client": client, "before": before, "verdict": "accepted", "records": records})
+    let object = decided_members(alloc, calls, "accepted")?.with(
+        "records",
+        number_or_null(records),
+    )?;
+    Ok(object.object())
 }
 
 // That a run of it is not good, by a trace of so many labels.
@@ -55,22 +57,23 @@ fn violated_object(
     violation: Violation,
     labels: usize,
 ) -> Result<Value, AllocError> {
-    let (before, client) = (calls.before.as_str(), calls.client.as_str());
     let (what, thread) = violation_words(violation);
-    let labels = labels as u64;
-    json!(in alloc; {"client": client, "before": before, "verdict": "violation", "violation": what, "thread": thread, "labels": labels})
+    let object = decided_members(alloc, calls, "violation")?
+        .text("violation", what)?
+        .with("thread", number_or_null(thread))?
+        .number("labels", labels as u64)?;
+    Ok(object.object())
 }
 
 // What is said of it in one word.
 fn plain_object(alloc: Global, calls: &Calls, verdict: &str) -> Result<Value, AllocError> {
-    let (before, client) = (calls.before.as_str(), calls.client.as_str());
-    json!(in alloc; {"client": client, "before": before, "verdict": verdict})
+    Ok(decided_members(alloc, calls, verdict)?.object())
 }
 
 // That its file is refused, and why.
 fn refused_object(alloc: Global, calls: &Calls, why: &str) -> Result<Value, AllocError> {
-    let (before, client) = (calls.before.as_str(), calls.client.as_str());
-    json!(in alloc; {"client": client, "before": before, "verdict": "refused", "why": why})
+    let object = decided_members(alloc, calls, "refused")?.text("why", why)?;
+    Ok(object.object())
 }
 
 impl Decided {

@@ -22,4 +22,4 @@ pub use decided::Decided;
 pub use finding::{Finder, Finding};
 pub use surveying::{Conclusion, listed, survey};
 pub use tally::Violated;
-pub use words::{Asking, Part, asking_arguments, asking_of, collect_arguments};
+pub use words::{Asking, COLLECTED, Part, asking_arguments, asking_of};

@@ -17,7 +17,7 @@ use std::alloc::{AllocError, Global};
 use std::sync::Wait;
 use std::thread::Threads;
 use tso_client::checked_of;
-use tso_front::{Failure, Session, misused};
+use tso_front::{Failure, Members, Session, misused};
 
 /// How many clients a survey asks about at the most.
 const MOST_CLIENTS: usize = 100_000;
@@ -218,9 +218,13 @@ fn undecided_line(alloc: Global, tally: &Tally) -> Result<String, AllocError> {
 
 // The same as an object of JSON.
 fn undecided_object(alloc: Global, tally: &Tally) -> Result<Value, AllocError> {
-    let (count, limits) = (tally.count as u64, tally.limits as u64);
-    let (missing, refused) = (tally.missing as u64, tally.refused as u64);
-    json!(in alloc; {"verdict": "undecided", "clients": count, "limits": limits, "missing": missing, "refused": refused})
+    let object = Members::new(alloc)
+        .text("verdict", "undecided")?
+        .number("clients", tally.count as u64)?
+        .number("limits", tally.limits as u64)?
+        .number("missing", tally.missing as u64)?
+        .number("refused", tally.refused as u64)?;
+    Ok(object.object())
 }
 
 // Says of how many clients nothing follows, and gives the status.

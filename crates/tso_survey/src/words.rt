@@ -1,10 +1,10 @@
 //! The words of a survey.
 
 use crate::bounds::Bounds;
-use clap::{Arg, ArgAction, ArgMatches, Command, value_parser};
+use clap::{ArgMatches, Command};
 use std::alloc::{AllocError, Global};
 use std::fmt;
-use tso_front::{Failure, json_argument, misused, program_argument, with_flag, with_option};
+use tso_front::{FILE, Failure, JSON, Word, misused, with_word, with_words};
 
 /// Which of the clients that are searched are taken: those whose numbers, from 0, leave `part` when divided by `parts`.
 #[derive(Clone, Copy, PartialEq, Eq)]
@@ -38,83 +38,92 @@ pub struct Asking<'a> {
     pub json: bool,
 }
 
-// The command with an option that is a number within bounds.
-fn with_number<'a>(
-    alloc: Global,
-    command: Command<'a>,
-    name: &'a str,
-    least: i64,
-    most: i64,
-    help: &'a str,
-) -> Result<Command<'a>, AllocError> {
-    let number = Arg::new(alloc, name)
-        .long(name)
-        .value_name("N")
-        .action(ArgAction::Set)
-        .value_parser(value_parser!(u64).range(least..=most))
-        .help(help);
-    command.arg(number)
-}
-
-// The words for how many threads and calls a client has, but for its prologue.
-fn size_arguments<'a>(alloc: Global, command: Command<'a>) -> Result<Command<'a>, AllocError> {
-    let help = "how many threads a client has at most; 3 if not said";
-    let command = with_number(alloc, command, "threads", 1, 4, help)?;
-    let help = "how many calls its threads have at most; 4 if not said";
-    with_number(alloc, command, "calls", 1, 12, help)
-}
-
-// The words for how large the clients are, but for their prologues.
-fn bounds_arguments<'a>(alloc: Global, command: Command<'a>) -> Result<Command<'a>, AllocError> {
-    let command = size_arguments(alloc, command)?;
-    let help = "how many threads push at most; all if not said";
-    let command = with_number(alloc, command, "producers", 0, 4, help)?;
-    let help = "how many threads pop at most; all if not said";
-    with_number(alloc, command, "consumers", 0, 4, help)
-}
-
 /// The words that say which clients' files are decided, but for `--before` and `--mode`.
-///
-/// Errors: where a growth was refused.
-pub fn collect_arguments<'a>(
-    alloc: Global,
-    command: Command<'a>,
-) -> Result<Command<'a>, AllocError> {
-    let help = "checks the certificates and replays the traces of a folder, and searches nothing";
-    let command = with_option(alloc, command, "collect", "DIR", help)?;
-    let help = "a file of clients, a line each, in place of those within the bounds";
-    let command = with_option(alloc, command, "clients", "LIST", help)?;
-    bounds_arguments(alloc, command)
-}
+pub const COLLECTED: [Word; 6] = [
+    Word::Text {
+        name: "collect",
+        value: "DIR",
+        help: "checks the certificates and replays the traces of a folder, and searches nothing",
+    },
+    Word::Text {
+        name: "clients",
+        value: "LIST",
+        help: "a file of clients, a line each, in place of those within the bounds",
+    },
+    Word::Number {
+        name: "threads",
+        least: 1,
+        most: 4,
+        help: "how many threads a client has at most; 3 if not said",
+    },
+    Word::Number {
+        name: "calls",
+        least: 1,
+        most: 12,
+        help: "how many calls its threads have at most; 4 if not said",
+    },
+    Word::Number {
+        name: "producers",
+        least: 0,
+        most: 4,
+        help: "how many threads push at most; all if not said",
+    },
+    Word::Number {
+        name: "consumers",
+        least: 0,
+        most: 4,
+        help: "how many threads pop at most; all if not said",
+    },
+];
 
-// The words for prologues, for the mode and for files.
-fn file_arguments<'a>(alloc: Global, command: Command<'a>) -> Result<Command<'a>, AllocError> {
-    let help = "how many pushes its prologue has at most; none if not said";
-    let command = with_number(alloc, command, "before", 0, 4, help)?;
-    let help = "strict or weak, in place of what the text says";
-    let command = with_option(alloc, command, "mode", "MODE", help)?;
-    let help = "the folder where each client's text and certificate or trace are written";
-    let command = with_option(alloc, command, "out", "DIR", help)?;
-    let help = "takes each Nth client alone, from the Ith on";
-    with_option(alloc, command, "part", "I/N", help)
-}
+// The words for prologues, for the mode, for files, and for what is printed.
+const OTHERS: [Word; 8] = [
+    Word::Number {
+        name: "before",
+        least: 0,
+        most: 4,
+        help: "how many pushes its prologue has at most; none if not said",
+    },
+    Word::Text {
+        name: "mode",
+        value: "MODE",
+        help: "strict or weak, in place of what the text says",
+    },
+    Word::Text {
+        name: "out",
+        value: "DIR",
+        help: "the folder where each client's text and certificate or trace are written",
+    },
+    Word::Text {
+        name: "part",
+        value: "I/N",
+        help: "takes each Nth client alone, from the Ith on",
+    },
+    Word::Flag {
+        name: "list",
+        help: "prints the clients that would be searched, a line each",
+    },
+    Word::Flag {
+        name: "all",
+        help: "goes on behind a violation",
+    },
+    Word::Flag {
+        name: "progress",
+        help: "says on standard error how far the survey has come",
+    },
+    JSON,
+];
 
-/// The words that say what a survey asks about.
+/// The command with the words that say what a survey asks about.
 ///
 /// Errors: where a growth was refused.
 pub fn asking_arguments<'a>(
     alloc: Global,
     command: Command<'a>,
 ) -> Result<Command<'a>, AllocError> {
-    let command = command.arg(program_argument(alloc))?;
-    let command = collect_arguments(alloc, command)?;
-    let command = file_arguments(alloc, command)?;
-    let help = "prints the clients that would be searched, a line each";
-    let command = with_flag(alloc, command, "list", help)?;
-    let command = with_flag(alloc, command, "all", "goes on behind a violation")?;
-    let help = "says on standard error how far the survey has come";
-    let command = with_flag(alloc, command, "progress", help)?;
-    command.arg(json_argument(alloc))
+    let command = with_word(alloc, command, FILE)?;
+    let command = with_words(alloc, command, &COLLECTED)?;
+    with_words(alloc, command, &OTHERS)
 }
 
 fn asked_number(matches: &ArgMatches<'_>, name: &str, otherwise: usize) -> usize {

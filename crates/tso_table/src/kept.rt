@@ -14,7 +14,7 @@ use tso_state::{Actor, State, initial_state};
 
 /// A state, and the actors whose steps lead to it from the initial one, in their order: 2i stands for the core of thread i,
 /// 2i + 1 for its buffer.
-#[derive(Debug, Drop)]
+#[derive(Drop)]
 pub struct Kept {
     pub state: State,
     pub actors: Seq<u8>,

@@ -11,7 +11,7 @@ use tso_state::{Core, Viewed};
 pub const SHARDS: u8 = 16;
 
 /// The number of a state: its shard, and its place there, counted from 0.
-#[derive(Clone, Copy, Debug, Default, PartialEq, Eq)]
+#[derive(Clone, Copy, Default, PartialEq, Eq)]
 pub struct Number {
     pub shard: u8,
     pub place: u32,

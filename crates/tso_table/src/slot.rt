@@ -9,14 +9,14 @@ use tso_state::State;
 pub type Numbers = Short<Number, 2>;
 
 /// The end of a state's record, with the number of the state after each chosen step, in the order of the choices.
-#[derive(Debug, Drop)]
+#[derive(Drop)]
 pub struct Filed {
     pub end: End,
     pub numbers: Numbers,
 }
 
 /// How far a state is worked.
-#[derive(Debug, Drop)]
+#[derive(Drop)]
 pub enum Slot {
     /// No worker has it.
     Waiting,
@@ -27,7 +27,7 @@ pub enum Slot {
 }
 
 /// A state that belongs to a shard, with its place there.
-#[derive(Debug, Drop)]
+#[derive(Drop)]
 pub struct Near {
     pub place: u32,
     pub state: State,

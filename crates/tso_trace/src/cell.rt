@@ -6,7 +6,7 @@ ghost use Rattle.tso_machine.specs.Places.{place_of};
 use tso_prog::Array;
 
 /// A word of an array.
-#[derive(Clone, Copy, Debug, PartialEq, Eq)]
+#[derive(Clone, Copy, PartialEq, Eq)]
 pub struct Cell {
     /// The number of the array in the list of arrays.
     pub array: usize,

@@ -9,7 +9,7 @@ use std::marker::Model;
 use tso_machine::{ApplyError, Label, Machine, Undo, apply, initial, undo};
 
 /// A place in a trace: so many of its labels are taken, and the machine is the one after them.
-#[derive(Debug, Drop)]
+#[derive(Drop)]
 pub struct Cursor<'a> {
     trace: &'a Trace,
     machine: Machine,

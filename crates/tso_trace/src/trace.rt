@@ -34,7 +34,7 @@ pub enum Violation {
 
 /// A run of a client that errs: labels that are steps one after the other, in which a thread faults or whose calls and
 /// returns have no linearization.
-#[derive(Debug, Drop)]
+#[derive(Drop)]
 pub struct Trace {
     pub checked: Checked,
     pub labels: Seq<Label>,

@@ -1,17 +1,18 @@
 //! The program that decides certificates and does nothing else.
 
-use crate::checking::{
-    Check, cert_argument, check_arguments, check_bytes, check_of, verdict_status,
-};
+use crate::checking::{ABOUT, Check, check_bytes, check_of, verdict_status, with_check};
 use crate::collecting::Collector;
-use clap::{ArgMatches, Command};
+use clap::{Arg, ArgMatches, Command, Error};
 use std::alloc::{Alloc, AllocError, Global};
 use std::env::Env;
 use std::io::Write;
 use std::sync::Wait;
 use std::thread::Threads;
-use tso_front::{Failure, Files, Session, Streams, VERSION, ended_words, reported, started};
-use tso_survey::{asking_of, collect_arguments, survey};
+use tso_front::{
+    FILE, Failure, Files, Session, Streams, VERSION, ended_words, reported, started, with_word,
+    with_words,
+};
+use tso_survey::{COLLECTED, asking_of, survey};
 
 const HELP: &str =
     "Reads FILE, a program text, and CERT, a certificate, and trusts neither. Writes no file. Its lines and its status
@@ -29,13 +30,28 @@ Status:
   6   a file failed                cannot read PATH
   64  the words are none of these";
 
+// The command with the word that names the certificate, which may be lacking beside a folder.
+fn with_cert<'a>(alloc: Global, command: Command<'a>) -> Result<Command<'a>, AllocError> {
+    let cert = Arg::new(alloc, "CERT").help("the certificate");
+    match cert.required_unless_present("collect") {
+        Ok(cert) => command.arg(cert),
+        Err(reason) => {
+            drop(command);
+            Err(reason)
+        }
+    }
+}
+
 // All the words.
 fn command<'a>(alloc: Global) -> Result<Command<'a>, AllocError> {
-    let cert = cert_argument(alloc).required_unless_present("collect")?;
     let command = Command::new(alloc, "tsoq-check")
+        .about(ABOUT)
         .version(VERSION)
         .after_help(HELP);
-    collect_arguments(alloc, check_arguments(alloc, command, cert)?)
+    let command = with_word(alloc, command, FILE)?;
+    let command = with_cert(alloc, command)?;
+    let command = with_check(alloc, command)?;
+    with_words(alloc, command, &COLLECTED)
 }
 
 // Decides the certificate that the words name, and gives the status.
@@ -67,26 +83,44 @@ fn collect<R: Threads + Wait + Sync, S: Session>(
     Ok(conclusion.status)
 }
 
+// Does what the words of a command ask for, and gives the status.
+fn answer_to<R: Threads + Wait + Sync, S: Session>(
+    rt: &R,
+    session: &mut S,
+    matches: &ArgMatches<'_>,
+) -> Result<u8, Failure> {
+    let asked = check_of(session.alloc(), matches)?;
+    match matches.get_str("collect") {
+        Some(folder) => collect(rt, session, matches, &asked, folder),
+        None => answer(rt, session, &asked),
+    }
+}
+
+// Prints the help or the version that the words ask for, and gives the status.
+fn print_help<S: Session>(session: &mut S, error: &Error) -> Result<u8, Failure> {
+    let text = ended_words(session.alloc(), error)?;
+    session.print(text.0.as_str())?;
+    session.flush()?;
+    Ok(0)
+}
+
 // Does what the words ask for, and gives the status.
 fn perform<R: Threads + Wait + Sync, S: Session>(
     rt: &R,
     session: &mut S,
     words: &[String],
 ) -> Result<u8, Failure> {
-    let alloc = session.alloc();
-    match command(alloc)?.try_get_matches_from(words) {
+    let command = command(session.alloc())?;
+    match command.try_get_matches_from(words) {
         Ok(matches) => {
-            let asked = check_of(alloc, &matches)?;
-            match matches.get_str("collect") {
-                Some(folder) => collect(rt, session, &matches, &asked, folder),
-                None => answer(rt, session, &asked),
-            }
+            let status = answer_to(rt, session, &matches);
+            drop(matches);
+            status
         }
         Err(error) => {
-            let text = ended_words(alloc, &error)?;
-            session.print(text.0.as_str())?;
-            session.flush()?;
-            Ok(0)
+            let status = print_help(session, &error);
+            drop(error);
+            status
         }
     }
 }

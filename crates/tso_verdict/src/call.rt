@@ -12,7 +12,7 @@ use tso_list::Seq;
 use tso_prog::Answer;
 
 /// How far a call of the client comes in the records of a certificate, at the most.
-#[derive(Clone, Copy, Debug, PartialEq, Eq)]
+#[derive(Clone, Copy, PartialEq, Eq)]
 pub enum Reach {
     /// In no record it has begun.
     NeverBegun,
@@ -54,7 +54,7 @@ fn further(a: Reach, b: Reach) -> Reach
 }
 
 /// How far the calls of a thread come, in their order.
-#[derive(Debug, Drop)]
+#[derive(Drop)]
 pub struct Reached {
     pub calls: Seq<Reach>,
 }

@@ -5,7 +5,7 @@ ghost use Rattle.tso_client.specs.Headline.{IsVerified};
 ghost use Rattle.tso_check.specs.declared.verdict.Verdict.TheVariants as verdicts;
 ghost use Rattle.tso_verdict.specs.Statuses.{status_of_verdict};
 
-use clap::{Arg, ArgAction, ArgMatches, Command, value_parser};
+use clap::{Arg, ArgMatches, Command};
 use serde_json::{Value, json};
 use std::alloc::{AllocError, Global};
 use std::sync::Wait;
@@ -13,8 +13,8 @@ use std::thread::Threads;
 use tso_cert::{NoWatch, Workers};
 use tso_check::{Verdict, check_with};
 use tso_front::{
-    Failure, Session, Variant, json_argument, misused, number_or_null, program_argument,
-    read_apart, variant_arguments, variant_of,
+    FILE, Failure, JSON, Session, VARIANT, Variant, Word, misused, number_argument, number_or_null,
+    read_apart, variant_of, with_word, with_words,
 };
 
 /// Which certificate is decided, for which program, by how many workers.
@@ -30,50 +30,36 @@ pub struct Check<'a> {
 
 /// The option that says how many workers there are.
 pub fn workers_argument<'a>(alloc: Global, help: &'a str) -> Arg<'a> {
-    Arg::new(alloc, "workers")
-        .long("workers")
-        .value_name("N")
-        .action(ArgAction::Set)
-        .value_parser(value_parser!(u64).range(1..=64))
+    number_argument(alloc, "workers", "N", 1, 64)
         .default_value("1")
         .help(help)
 }
 
 /// The word that names the certificate.
-pub fn cert_argument<'a>(alloc: Global) -> Arg<'a> {
-    Arg::new(alloc, "CERT").help("the certificate")
-}
+pub const CERT: Word = Word::Plain {
+    name: "CERT",
+    help: "the certificate",
+};
 
-// The words of a check behind that which names the program.
-fn arguments_behind<'a>(
-    alloc: Global,
-    command: Command<'a>,
-    cert: Arg<'a>,
-) -> Result<Command<'a>, AllocError> {
-    let command = command.arg(cert)?;
-    let command = command.arg(workers_argument(alloc, "how many workers check, 1 to 64"))?;
-    let command = command.arg(json_argument(alloc))?;
-    variant_arguments(alloc, command)
-}
-
-/// The command with the words of a check, of which one names the certificate.
+/// The command with the words of a check behind that which names the certificate.
 ///
 /// Errors: where a growth was refused.
-pub fn check_arguments<'a>(
-    alloc: Global,
-    command: Command<'a>,
-    cert: Arg<'a>,
-) -> Result<Command<'a>, AllocError> {
-    let command = command
-        .about("decides a certificate: where it is accepted, every run of the program is good")
-        .arg(program_argument(alloc));
-    match command {
-        Ok(command) => arguments_behind(alloc, command, cert),
-        Err(reason) => {
-            drop(cert);
-            Err(reason)
-        }
-    }
+pub fn with_check<'a>(alloc: Global, command: Command<'a>) -> Result<Command<'a>, AllocError> {
+    let command = command.arg(workers_argument(alloc, "how many workers check, 1 to 64"))?;
+    let command = with_word(alloc, command, JSON)?;
+    with_words(alloc, command, &VARIANT)
+}
+
+/// What a check is for.
+pub const ABOUT: &str =
+    "decides a certificate: where it is accepted, every run of the program is good";
+
+/// The command with the words of a check.
+///
+/// Errors: where a growth was refused.
+pub fn check_arguments<'a>(alloc: Global, command: Command<'a>) -> Result<Command<'a>, AllocError> {
+    let command = with_words(alloc, command, &[FILE, CERT])?;
+    with_check(alloc, command)
 }
 
 /// How many workers the words ask for.

@@ -26,7 +26,7 @@ use tso_rec::{End, Packed};
 use tso_state::{Core, State, Thread};
 
 /// Whether calls were refused.
-#[derive(Clone, Copy, Debug, PartialEq, Eq)]
+#[derive(Clone, Copy, PartialEq, Eq)]
 pub struct Refused {
     pub push: bool,
     pub pop: bool,
@@ -44,7 +44,7 @@ impl Refused {
 }
 
 /// What the records of a certificate show of a client.
-#[derive(Debug, Drop)]
+#[derive(Drop)]
 pub struct Coverage {
     /// How many records there are.
     pub records: u64,

@@ -20,7 +20,7 @@ use tso_machine::calls_of;
 use tso_prog::{Array, Client, Procedure};
 
 /// An instruction by its line, with what records show of it.
-#[derive(Clone, Copy, Debug, PartialEq, Eq)]
+#[derive(Clone, Copy, PartialEq, Eq)]
 pub struct LineMark {
     /// From 1.
     pub line: u32,
@@ -28,7 +28,7 @@ pub struct LineMark {
 }
 
 /// A call of the client, with how far it comes.
-#[derive(Clone, Copy, Debug, PartialEq, Eq)]
+#[derive(Clone, Copy, PartialEq, Eq)]
 pub struct ReachedCall {
     /// From 0; of the prologue's calls the number behind those of all threads.
     pub thread: usize,
@@ -56,7 +56,7 @@ impl fmt::Display for ReachedCall {
 }
 
 /// What is said of a certificate's records.
-#[derive(Debug, Drop)]
+#[derive(Drop)]
 pub struct Facts {
     pub records: u64,
     /// How many records have an order of the calls.

@@ -20,7 +20,7 @@ mod talk;
 pub use alone::{run_check, run_check_process};
 pub use call::Reach;
 pub use checking::{
-    Check, cert_argument, check_arguments, check_bytes, check_of, put_verdict, verdict_on,
+    ABOUT, CERT, Check, check_arguments, check_bytes, check_of, put_verdict, verdict_on,
     verdict_status, workers_argument, workers_of,
 };
 pub use collecting::Collector;

@@ -11,7 +11,7 @@ use tso_machine::{ActionKind, Frame, next_kind};
 use tso_prog::Client;
 
 /// What the records of a certificate show of an instruction.
-#[derive(Clone, Copy, Debug, PartialEq, Eq)]
+#[derive(Clone, Copy, PartialEq, Eq)]
 pub enum Mark {
     /// In no record a call is at it.
     NeverMet,
@@ -57,7 +57,7 @@ pub fn mark_of(client: &Client, procedure: ProcedureKind, frame: &Frame) -> Mark
 }
 
 /// The marks of a procedure's instructions, by their positions.
-#[derive(Debug, Drop)]
+#[derive(Drop)]
 pub struct Marks {
     pub marks: Seq<Mark>,
 }

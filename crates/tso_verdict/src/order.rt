@@ -7,7 +7,7 @@ use tso_fifo::Placed;
 use tso_prog::Answer;
 
 /// How many items the queue has, and has had at the most.
-#[derive(Clone, Copy, Debug, PartialEq, Eq)]
+#[derive(Clone, Copy, PartialEq, Eq)]
 struct Level {
     items: usize,
     most: usize,

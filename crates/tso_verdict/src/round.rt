@@ -87,7 +87,7 @@ pub fn is_filled(client: &Client, history: &[Seq<Call>], array: usize) -> bool {
 }
 
 /// Of each array, whether an index went round in it.
-#[derive(Debug, Drop)]
+#[derive(Drop)]
 pub struct Rounds {
     pub arrays: Seq<bool>,
 }

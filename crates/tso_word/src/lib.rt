@@ -21,7 +21,7 @@ pub struct Flags {
 }
 
 /// A condition of a jump or an assertion.
-#[derive(Clone, Copy, Debug, PartialEq, Eq, PartialOrd, Ord, Hash)]
+#[derive(Clone, Copy, PartialEq, Eq, PartialOrd, Ord, Hash)]
 pub enum Condition {
     /// `e`: ZF
     E,
@@ -46,7 +46,7 @@ pub enum Condition {
 }
 
 /// An operation on each bit.
-#[derive(Clone, Copy, Debug, PartialEq, Eq, PartialOrd, Ord, Hash)]
+#[derive(Clone, Copy, PartialEq, Eq, PartialOrd, Ord, Hash)]
 pub enum BitOperation {
     And,
     Or,

@@ -1,8 +1,8 @@
 //! What a replay is asked to show.
 
-use clap::{ArgMatches, Command};
-use std::alloc::{AllocError, Global};
-use tso_front::{Failure, Variant, read_apart, variant_of, with_flag, with_option, written_apart};
+use clap::ArgMatches;
+use std::alloc::Global;
+use tso_front::{Failure, JSON, Variant, Word, read_apart, variant_of, written_apart};
 use tso_show::Show;
 
 /// Which trace is replayed, and what is shown of it.
@@ -39,39 +39,39 @@ impl Replay<'_> {
     }
 }
 
-// What can be shown, by its word, and what is said of it.
-const FLAGS: [(&str, &str); 6] = [
-    (
-        "source",
-        "prints the instruction beside each label, with its line",
-    ),
-    ("registers", "prints registers and flags after each label"),
-    (
-        "buffers",
-        "prints memory and store buffers after each label",
-    ),
-    (
-        "brief",
-        "prints no steps between registers, and a locked instruction as one line",
-    ),
-    (
-        "history",
-        "prints the calls with their answers, and how far they have an order",
-    ),
-    ("partial", "shows also a run in which nothing is wrong"),
+/// The words for what is shown.
+pub const SHOWN: [Word; 8] = [
+    JSON,
+    Word::Flag {
+        name: "source",
+        help: "prints the instruction beside each label, with its line",
+    },
+    Word::Flag {
+        name: "registers",
+        help: "prints registers and flags after each label",
+    },
+    Word::Flag {
+        name: "buffers",
+        help: "prints memory and store buffers after each label",
+    },
+    Word::Flag {
+        name: "brief",
+        help: "prints no steps between registers, and a locked instruction as one line",
+    },
+    Word::Flag {
+        name: "history",
+        help: "prints the calls with their answers, and how far they have an order",
+    },
+    Word::Flag {
+        name: "partial",
+        help: "shows also a run in which nothing is wrong",
+    },
+    Word::Text {
+        name: "html",
+        value: "OUT",
+        help: "writes the run as a page that a browser shows",
+    },
 ];
-
-/// The command with the options for what is shown.
-///
-/// Errors: where a growth was refused.
-pub fn with_flags<'a>(alloc: Global, command: Command<'a>) -> Result<Command<'a>, AllocError> {
-    let mut command = command;
-    for (name, help) in FLAGS {
-        command = with_flag(alloc, command, name, help)?;
-    }
-    let help = "writes the run as a page that a browser shows";
-    with_option(alloc, command, "html", "OUT", help)
-}
 
 /// What the words of the command ask for.
 ///

@@ -1,6 +1,6 @@
 //! The words of the command line.
 
-use crate::asked::{Replay, replay_of, with_flags};
+use crate::asked::{Replay, SHOWN, replay_of};
 use crate::coverage::{Covering, coverage_command, covering_of};
 use crate::fences::{FenceSearch, fence_search_of, fences_command};
 use crate::form::{Form, form_argument, form_of};
@@ -13,11 +13,11 @@ use clap::{Arg, ArgAction, ArgMatches, Command, value_parser};
 use std::alloc::{AllocError, Global};
 use tso_cert::Workers;
 use tso_front::{
-    Ended, Failure, STREAM, VERSION, Variant, both_apart, ended_words, json_argument, misused,
-    program_argument, variant_arguments, variant_of, with_flag, with_option, written_apart,
+    Ended, FILE, Failure, JSON, STREAM, VARIANT, VERSION, Variant, Word, both_apart, ended_words,
+    misused, number_argument, variant_of, with_word, with_words, written_apart,
 };
 use tso_say::{Topic, find};
-use tso_verdict::{Check, cert_argument, check_arguments, check_of, workers_argument, workers_of};
+use tso_verdict::{ABOUT, Check, check_arguments, check_of, workers_argument, workers_of};
 
 /// What is searched, how far, and where what is found is written.
 #[derive(Clone, Copy)]
@@ -80,21 +80,41 @@ pub struct Request<'a> {
 }
 
 fn states<'a>(alloc: Global) -> Arg<'a> {
-    Arg::new(alloc, "states")
-        .long("states")
-        .value_name("N")
-        .action(ArgAction::Set)
-        .value_parser(value_parser!(u64).range(1..=4_194_304))
+    number_argument(alloc, "states", "N", 1, 4_194_304)
         .default_value("4194304")
         .help("how many states the search may meet, 1 to 4194304")
 }
 
-// The command with the words for what a search writes and says.
-fn with_results<'a>(alloc: Global, command: Command<'a>) -> Result<Command<'a>, AllocError> {
-    let help = "where the certificate is written, if it is to be";
-    let command = with_option(alloc, command, "out", "CERT", help)?;
-    let help = "where the trace is written, if it is to be";
-    let command = with_option(alloc, command, "trace", "TRACE", help)?;
+// The words for what a search reads and writes.
+const FILES: [Word; 3] = [
+    FILE,
+    Word::Text {
+        name: "out",
+        value: "CERT",
+        help: "where the certificate is written, if it is to be",
+    },
+    Word::Text {
+        name: "trace",
+        value: "TRACE",
+        help: "where the trace is written, if it is to be",
+    },
+];
+
+// The words for what a search says.
+const SAID: [Word; 3] = [
+    Word::Flag {
+        name: "stats",
+        help: "says on standard error how much was met and written, and in what time",
+    },
+    Word::Flag {
+        name: "progress",
+        help: "says on standard error how far the search has come",
+    },
+    JSON,
+];
+
+// The command with the words for how a search goes.
+fn with_search<'a>(alloc: Global, command: Command<'a>) -> Result<Command<'a>, AllocError> {
     let command = command.arg(form_argument(alloc))?;
     let command = command.arg(workers_argument(alloc, "how many workers search, 1 to 64"))?;
     command.arg(states(alloc))
@@ -105,32 +125,33 @@ fn verify_command<'a>(alloc: Global) -> Result<Command<'a>, AllocError> {
         .about(
             "searches all runs of a program, for a certificate that they are good or a trace of one that is not",
         )
-        .after_help(help::VERIFY)
-        .arg(program_argument(alloc))?;
-    let command = with_results(alloc, command)?;
-    let help = "says on standard error how much was met and written, and in what time";
-    let command = with_flag(alloc, command, "stats", help)?;
-    let help = "says on standard error how far the search has come";
-    let command = with_flag(alloc, command, "progress", help)?;
-    let command = command.arg(json_argument(alloc))?;
-    variant_arguments(alloc, command)
+        .after_help(help::VERIFY);
+    let command = with_words(alloc, command, &FILES)?;
+    let command = with_search(alloc, command)?;
+    let command = with_words(alloc, command, &SAID)?;
+    with_words(alloc, command, &VARIANT)
 }
 
 fn check_command<'a>(alloc: Global) -> Result<Command<'a>, AllocError> {
-    let command = Command::new(alloc, "check").after_help(help::CHECK);
-    check_arguments(alloc, command, cert_argument(alloc).required(true))
+    let command = Command::new(alloc, "check")
+        .about(ABOUT)
+        .after_help(help::CHECK);
+    check_arguments(alloc, command)
 }
 
+// The word for the code that is explained.
+const CODE: Word = Word::Plain {
+    name: "CODE",
+    help: "E01 to E14, K01 to K12 or T01 to T03",
+};
+
 fn explain_command<'a>(alloc: Global) -> Result<Command<'a>, AllocError> {
-    let code = Arg::new(alloc, "CODE")
-        .required(true)
-        .help("E01 to E14, K01 to K12 or T01 to T03");
-    Command::new(alloc, "explain")
+    let command = Command::new(alloc, "explain")
         .about(
             "says what a code means, with a small text that is refused with it and the mended text",
         )
-        .after_help(help::EXPLAIN)
-        .arg(code)
+        .after_help(help::EXPLAIN);
+    with_word(alloc, command, CODE)
 }
 
 // The command with the label to which a replay goes back.
@@ -144,30 +165,36 @@ fn with_label<'a>(alloc: Global, command: Command<'a>) -> Result<Command<'a>, Al
     command.arg(to)
 }
 
+// The word for the trace that is replayed.
+const TRACE: Word = Word::Plain {
+    name: "TRACE",
+    help: "the trace of an error",
+};
+
 fn replay_command<'a>(alloc: Global) -> Result<Command<'a>, AllocError> {
-    let trace = Arg::new(alloc, "TRACE")
-        .required(true)
-        .help("the trace of an error");
     let command = Command::new(alloc, "replay")
         .about(
             "walks the machine along a trace, and prints its labels, the state and what is wrong",
         )
         .after_help(help::REPLAY);
-    let command = command.arg(program_argument(alloc))?;
-    let command = command.arg(trace)?;
+    let command = with_words(alloc, command, &[FILE, TRACE])?;
     let command = with_label(alloc, command)?;
-    let command = command.arg(json_argument(alloc))?;
-    let command = with_flags(alloc, command)?;
-    variant_arguments(alloc, command)
+    let command = with_words(alloc, command, &SHOWN)?;
+    with_words(alloc, command, &VARIANT)
 }
+
+// The word that asks why.
+const VERBOSE: Word = Word::Flag {
+    name: "verbose",
+    help: "says on standard error, behind the promised lines, why",
+};
 
 // A command of which words can be asked for that say why.
 fn told<'a>(
     alloc: Global,
     command: Result<Command<'a>, AllocError>,
 ) -> Result<Command<'a>, AllocError> {
-    let help = "says on standard error, behind the promised lines, why";
-    with_flag(alloc, command?, "verbose", help)
+    with_word(alloc, command?, VERBOSE)
 }
 
 // The program's words with one such command more.
@@ -221,7 +248,13 @@ fn command<'a>(alloc: Global) -> Result<Command<'a>, AllocError> {
     let program = with_client_commands(alloc, program)?;
     let program = with_queue_commands(alloc, program)?;
     let program = with_command(alloc, program, parse_command(alloc))?;
-    program.subcommand(explain_command(alloc)?)
+    match explain_command(alloc) {
+        Ok(explain) => program.subcommand(explain),
+        Err(reason) => {
+            drop(program);
+            Err(reason)
+        }
+    }
 }
 
 // How many states a search may meet.
@@ -265,22 +298,39 @@ fn topic_of(alloc: Global, code: &str) -> Result<Topic, Failure> {
     }
 }
 
+// What a command on a certificate with this name asks for.
+fn asked_of_certificate<'a>(
+    alloc: Global,
+    name: &str,
+    found: &ArgMatches<'a>,
+) -> Result<Asked<'a>, Failure> {
+    match name {
+        "check" => Ok(Asked::Check(check_of(alloc, found)?)),
+        "upgrade" => Ok(Asked::Upgrade(upgrading_of(alloc, found)?)),
+        _ => Ok(Asked::Coverage(covering_of(alloc, found)?)),
+    }
+}
+
+// What a command on several clients with this name asks for.
+fn asked_of_queue<'a>(
+    alloc: Global,
+    name: &str,
+    found: &ArgMatches<'a>,
+) -> Result<Asked<'a>, Failure> {
+    let limit = limit_of(alloc, found)?;
+    match name {
+        "survey" => Ok(Asked::Survey(survey_of(alloc, limit, found)?)),
+        _ => Ok(Asked::Fences(fence_search_of(alloc, limit, found)?)),
+    }
+}
+
 // What a command with this name asks for.
 fn asked_of<'a>(alloc: Global, name: &str, found: &ArgMatches<'a>) -> Result<Asked<'a>, Failure> {
     match name {
         "verify" => Ok(Asked::Verify(search_of(alloc, found)?)),
-        "check" => Ok(Asked::Check(check_of(alloc, found)?)),
-        "upgrade" => Ok(Asked::Upgrade(upgrading_of(alloc, found)?)),
-        "coverage" => Ok(Asked::Coverage(covering_of(alloc, found)?)),
+        "check" | "upgrade" | "coverage" => asked_of_certificate(alloc, name, found),
         "replay" => Ok(Asked::Replay(replay_of(alloc, found)?)),
-        "survey" => {
-            let limit = limit_of(alloc, found)?;
-            Ok(Asked::Survey(survey_of(alloc, limit, found)?))
-        }
-        "fences" => {
-            let limit = limit_of(alloc, found)?;
-            Ok(Asked::Fences(fence_search_of(alloc, limit, found)?))
-        }
+        "survey" | "fences" => asked_of_queue(alloc, name, found),
         "parse" => Ok(Asked::Parse(parsing_of(found))),
         _ => {
             let code = found.get_str("CODE").unwrap_or("");
@@ -289,19 +339,8 @@ fn asked_of<'a>(alloc: Global, name: &str, found: &ArgMatches<'a>) -> Result<Ask
     }
 }
 
-/// What the words ask for, the program's name first.
-///
-/// Errors: `Usage`; `Memory`.
-pub fn request_of<'a>(alloc: Global, words: &'a [String]) -> Result<Request<'a>, Failure> {
-    let matches = match command(alloc)?.try_get_matches_from(words) {
-        Ok(matches) => matches,
-        Err(error) => {
-            return Ok(Request {
-                asked: Asked::Help(ended_words(alloc, &error)?),
-                verbose: false,
-            });
-        }
-    };
+// What the words of a command ask for.
+fn request_in<'a>(alloc: Global, matches: &ArgMatches<'a>) -> Result<Request<'a>, Failure> {
     let Some((name, found)) = matches.subcommand() else {
         return Err(misused(alloc, "no command\n"));
     };
@@ -309,4 +348,26 @@ pub fn request_of<'a>(alloc: Global, words: &'a [String]) -> Result<Request<'a>,
         asked: asked_of(alloc, name, found)?,
         verbose: found.get_flag("verbose"),
     })
+}
+
+/// What the words ask for, the program's name first.
+///
+/// Errors: `Usage`; `Memory`.
+pub fn request_of<'a>(alloc: Global, words: &'a [String]) -> Result<Request<'a>, Failure> {
+    let command = command(alloc)?;
+    match command.try_get_matches_from(words) {
+        Ok(matches) => {
+            let request = request_in(alloc, &matches);
+            drop(matches);
+            request
+        }
+        Err(error) => {
+            let ended = ended_words(alloc, &error);
+            drop(error);
+            Ok(Request {
+                asked: Asked::Help(ended?),
+                verbose: false,
+            })
+        }
+    }
 }

@@ -2,8 +2,8 @@
 
 use clap::{ArgMatches, Command};
 use std::alloc::{AllocError, Global};
-use tso_front::{Failure, with_flag};
-use tso_verdict::{Check, cert_argument, check_arguments, check_of};
+use tso_front::{Failure, Word, with_word};
+use tso_verdict::{Check, check_arguments, check_of};
 
 const HELP: &str =
     "Reads FILE, a program text, and CERT, a certificate, and trusts neither: it is checked first, as `tsoq check`
@@ -29,17 +29,21 @@ pub struct Covering<'a> {
     pub source: bool,
 }
 
+// The word that asks for the text.
+const SOURCE: Word = Word::Flag {
+    name: "source",
+    help: "prints the program's text as well, with a mark at each line",
+};
+
 /// The words of the command.
 ///
 /// Errors: where a growth was refused.
 pub fn coverage_command<'a>(alloc: Global) -> Result<Command<'a>, AllocError> {
-    let command = Command::new(alloc, "coverage").after_help(HELP);
-    let cert = cert_argument(alloc).required(true);
-    let command = check_arguments(alloc, command, cert)?.about(
-        "says what the records of an accepted certificate show, and what they leave out",
-    );
-    let help = "prints the program's text as well, with a mark at each line";
-    with_flag(alloc, command, "source", help)
+    let command = Command::new(alloc, "coverage")
+        .about("says what the records of an accepted certificate show, and what they leave out")
+        .after_help(HELP);
+    let command = check_arguments(alloc, command)?;
+    with_word(alloc, command, SOURCE)
 }
 
 /// What the words of the command ask for.

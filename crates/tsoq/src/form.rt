@@ -1,7 +1,8 @@
 //! Which table a certificate is written with.
 
-use clap::{Arg, ArgAction, ArgMatches, value_parser};
+use clap::{Arg, ArgMatches};
 use std::alloc::Global;
+use tso_front::number_argument;
 
 /// By what the table of a certificate says what may still be read and written.
 #[derive(Clone, Copy, PartialEq, Eq)]
@@ -14,11 +15,7 @@ pub enum Form {
 
 /// The option that says which.
 pub fn form_argument<'a>(alloc: Global) -> Arg<'a> {
-    Arg::new(alloc, "form")
-        .long("form")
-        .value_name("FORM")
-        .action(ArgAction::Set)
-        .value_parser(value_parser!(u64).range(1..=2))
+    number_argument(alloc, "form", "FORM", 1, 2)
         .default_value("1")
         .help("which version of certificates is written, 1 or 2")
 }

@@ -1,12 +1,11 @@
 //! A replay as objects of JSON.
 
 use crate::asked::Replay;
-use crate::report::violation_words;
 use crate::show::show_failure;
 use serde_json::{Map, Value, json};
 use std::alloc::{AllocError, Global};
 use tso_flow::{Checked, ProcedureKind};
-use tso_front::{Failure, Session, misused};
+use tso_front::{Failure, Session, misused, number_or_null, violation_words};
 use tso_machine::{Core, Entry, Machine, Running, Stage, Thread};
 use tso_prog::Array;
 use tso_show::{Replayed, ShowError, Walk};
@@ -133,6 +132,7 @@ fn wrong_object(alloc: Global, violation: Option<Violation>) -> Result<Value, Al
     match violation {
         Some(violation) => {
             let (what, thread) = violation_words(violation);
+            let thread = number_or_null(thread);
             json!(in alloc; {"violation": what, "thread": thread})
         }
         None => json!(in alloc; {"violation": null}),

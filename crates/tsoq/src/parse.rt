@@ -8,7 +8,7 @@ use crate::help;
 use clap::{ArgMatches, Command};
 use std::alloc::{AllocError, Global};
 use tso_client::checked_of;
-use tso_front::{Failure, Variant, program_argument, variant_arguments, variant_of, with_flag};
+use tso_front::{FILE, Failure, VARIANT, Variant, Word, variant_of, with_words};
 use tso_say::parsed;
 
 /// A program text that is to be parsed, and whether its canonical text is printed.
@@ -29,6 +29,12 @@ pub fn parse(alloc: Global, program: &[u8], prints: bool) -> Result<String, Fail
     Ok(parsed(alloc, &checked, prints)?)
 }
 
+// The word that asks for the canonical text.
+const PRINT: Word = Word::Flag {
+    name: "print",
+    help: "prints the canonical text of the program",
+};
+
 /// The words of `parse`.
 ///
 /// Errors: where a growth was refused.
@@ -37,11 +43,9 @@ pub fn parse_command<'a>(alloc: Global) -> Result<Command<'a>, AllocError> {
         .about(
             "reads a program, and says whether it is accepted and how many labels its runs have at most",
         )
-        .after_help(help::PARSE)
-        .arg(program_argument(alloc))?;
-    let help = "prints the canonical text of the program";
-    let command = with_flag(alloc, command, "print", help)?;
-    variant_arguments(alloc, command)
+        .after_help(help::PARSE);
+    let command = with_words(alloc, command, &[FILE, PRINT])?;
+    with_words(alloc, command, &VARIANT)
 }
 
 /// What the words of `parse` ask for.

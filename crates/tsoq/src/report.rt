@@ -7,7 +7,7 @@ use crate::progress::Times;
 use serde_json::{Value, json};
 use std::alloc::{AllocError, Global};
 use std::fmt;
-use tso_front::number_or_null;
+use tso_front::{Members, number_or_null, violation_words};
 use tso_trace::Violation;
 
 /// What is wrong with a run, as it is printed.
@@ -23,27 +23,20 @@ impl fmt::Display for Wrong {
     }
 }
 
-/// A violation by its words, and the thread of a fault, as members of an object of JSON.
-pub fn violation_words(violation: Violation) -> (&'static str, Value) {
-    match violation {
-        Violation::Fault(thread) => ("fault", Value::from(thread as u64)),
-        Violation::NoOrder => ("no order", Value::Null),
-    }
-}
-
-// The parts of the time in milliseconds; nulls without a clock.
-fn parts_of(times: Option<Times>) -> (Value, Value, Value) {
-    match times {
+// With how many states were met, and the parts of the time in milliseconds; nulls without a clock.
+fn with_effort(members: Members, states: u64, times: Option<Times>) -> Result<Members, AllocError> {
+    let (searched, composed, written) = match times {
         Some(times) => {
             let (searched, composed, written) = times.milliseconds();
-            (
-                Value::from(searched),
-                Value::from(composed),
-                Value::from(written),
-            )
+            (Some(searched), Some(composed), Some(written))
         }
-        None => (Value::Null, Value::Null, Value::Null),
-    }
+        None => (None, None, None),
+    };
+    members
+        .number("states", states)?
+        .with("searched_ms", number_or_null(searched))?
+        .with("composed_ms", number_or_null(composed))?
+        .with("written_ms", number_or_null(written))
 }
 
 /// That a search met as many states as it may, as an object of JSON.
@@ -61,9 +54,11 @@ fn certified_object(
     states: u64,
     times: Option<Times>,
 ) -> Result<Value, AllocError> {
-    let (searched, composed, written) = parts_of(times);
-    let bytes = number_or_null(bytes);
-    json!(in alloc; {"verdict": "certificate", "records": records, "bytes": bytes, "states": states, "searched_ms": searched, "composed_ms": composed, "written_ms": written})
+    let members = Members::new(alloc)
+        .text("verdict", "certificate")?
+        .number("records", records)?
+        .with("bytes", number_or_null(bytes))?;
+    Ok(with_effort(members, states, times)?.object())
 }
 
 // That a run is not good, by a trace, as an object of JSON.
@@ -75,10 +70,14 @@ fn violated_object(
     states: u64,
     times: Option<Times>,
 ) -> Result<Value, AllocError> {
-    let (searched, composed, written) = parts_of(times);
     let (what, thread) = violation_words(violation);
-    let (labels, bytes) = (labels as u64, number_or_null(bytes));
-    json!(in alloc; {"verdict": "violation", "violation": what, "thread": thread, "labels": labels, "bytes": bytes, "states": states, "searched_ms": searched, "composed_ms": composed, "written_ms": written})
+    let members = Members::new(alloc)
+        .text("verdict", "violation")?
+        .text("violation", what)?
+        .with("thread", number_or_null(thread))?
+        .number("labels", labels as u64)?
+        .with("bytes", number_or_null(bytes))?;
+    Ok(with_effort(members, states, times)?.object())
 }
 
 /// What a search found, and what was written of it.

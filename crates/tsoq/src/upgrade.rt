@@ -10,10 +10,9 @@ use clap::{Arg, ArgAction, ArgMatches, Command};
 use std::alloc::{AllocError, Global};
 use tso_check::{Renewed, UpgradeError, Verdict, upgrade_counted};
 use tso_front::{
-    Failure, Files, Variant, program_argument, read_apart, variant_arguments, variant_of,
-    written_apart,
+    FILE, Failure, Files, VARIANT, Variant, read_apart, variant_of, with_words, written_apart,
 };
-use tso_verdict::cert_argument;
+use tso_verdict::CERT;
 
 /// Which certificate is upgraded, for which program, and where the new one is written.
 #[derive(Clone, Copy)]
@@ -94,11 +93,10 @@ fn new_argument<'a>(alloc: Global) -> Arg<'a> {
 pub fn upgrade_command<'a>(alloc: Global) -> Result<Command<'a>, AllocError> {
     let command = Command::new(alloc, "upgrade")
         .about("writes an accepted certificate anew, in version 2, without a search")
-        .after_help(help::UPGRADE)
-        .arg(program_argument(alloc))?;
-    let command = command.arg(cert_argument(alloc).required(true))?;
+        .after_help(help::UPGRADE);
+    let command = with_words(alloc, command, &[FILE, CERT])?;
     let command = command.arg(new_argument(alloc))?;
-    variant_arguments(alloc, command)
+    with_words(alloc, command, &VARIANT)
 }
 
 /// What the words of `upgrade` ask for.

@@ -1,6 +1,6 @@
 use Rattle.std.proofs.Common.{◌≡◌, ◌∙◌, Some, slice_get, sym, subst}
 use Rattle.std.proofs.lemmas.Option.{same_Some}
-use Rattle.tso_judge.specs.Conditions.{HasNoStopped, IsExplained}
+use Rattle.tso_rec.specs.Conditions.{HasNoStopped, IsExplained}
 use Rattle.tso_prog.specs.declared.client.Client.{Client}
 use Rattle.tso_rec.specs.declared.record.End.TheVariants.{Order}
 use Rattle.tso_state.specs.declared.state.State.{State}

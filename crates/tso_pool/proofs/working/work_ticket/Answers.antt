@@ -1,7 +1,7 @@
 use Rattle.std.proofs.Common.{◌∙◌, subst, sym, arith}
 use Rattle.std.proofs.lemmas.Bool.Decides.{nat_tests}
 use Rattle.std.proofs.lemmas.Option.{same_Some}
-use Rattle.tso_judge.specs.Conditions.{IsOver}
+use Rattle.tso_rec.specs.Conditions.{IsOver}
 use Rattle.tso_pool.proofs.EndLemmas.{none_over}
 use Rattle.tso_state.specs.declared.state.State.{State}
 use Rattle.tso_pool.proofs.working.work_ticket.Goals as goal

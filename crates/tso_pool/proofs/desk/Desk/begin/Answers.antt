@@ -1,39 +1,17 @@
-use Rattle.std.proofs.Common.{◌≡◌, ◌∙◌, ℕ, ◌++◌, ◌∷◌, [], List, ap, subst, sym}
-use Rattle.tso_parts.proofs.Distinct.{grown_extends}
-use Rattle.tso_parts.specs.Numbers.{Extends}
-use Rattle.tso_pool.proofs.DeskLemmas.{led_added, led_again}
-use Rattle.tso_pool.specs.Desks.{AreLed, Sheet}
+use Rattle.std.proofs.Common.{◌∙◌, ℕ, List, subst, sym}
+use Rattle.tso_pool.proofs.DeskLemmas.{begun_at}
 use Rattle.tso_prog.specs.declared.client.Client.{Client}
 use Rattle.tso_table.specs.Leading.{IsKept}
 use Rattle.tso_pool.proofs.desk.Desk.begin.Goals as goal
 
-pub invariant_of-self-in-Ok-default-true : goal.invariant_of-self-in-Ok-default-true
-invariant_of-self-in-Ok-default-true c =
-    let i = c.self.inside in
-    let s = c.in_ok-state.field-0.state in
-    let path = c.as_slice.result.now in
-    let client : c.args.checked.now.client ≡ i.store.client = sym (ap (λ (d : Sheet). d.client) c.self.view_is ∙ c.requires) in
-    let P : List ℕ → Type 0 = λ p. IsKept c.args.checked.now.client (record { state = s; actors = p }) in
-    let Q : Client → Type 0 = λ k. IsKept k (record { state = s; actors = path }) in
-    let kept : Q i.store.client = subst Q client (subst P (sym c.as_slice.ensures) c.in_ok-state.ensures.kept) in
-    let states : c.add.new.self.states ≡ i.store.states ++ s ∷ [] = rw c.in-Ok-default-true.field-0-1-test at c.in-Ok-default-true.ensures.added.kept in
-    let R : Client → Type 0 = λ k. AreLed k c.add.new.self.states c.push.new.self in
-    subst R (sym c.add.ensures.client) (led_added i.store.client i.store.states c.add.new.self.states s i.paths c.push.new.self path c.self.invariant states c.in_ok-push.ensures.ok kept)
+pub keep-held-requires : goal.keep-held-requires
+keep-held-requires c =
+    let kept = c.in_ok-kept.kept in
+    let P : List ℕ → Type 0 = λ p. IsKept c.args.checked.now.client (record { state = kept.state; actors = p }) in
+    let Q : Client → Type 0 = λ k. IsKept k (record { state = kept.state; actors = c.as_slice.result.now }) in
+    subst Q (sym c.requires) (subst P (sym c.as_slice.ensures) c.in_ok-kept.ensures.kept)
 
-pub returns-in-Ok-default-true-clause-extends : goal.returns-in-Ok-default-true-clause-extends
-returns-in-Ok-default-true-clause-extends c =
-    let E : Extends c.self.inside.store.states c.add.new.self.states = grown_extends c.self.inside.store.states c.add.new.self.states c.in_ok-state.field-0.state _ c.in-Ok-default-true.ensures.added.kept in
-    rw (← c.self.view_is) E
-
-pub invariant_of-self-in-Ok-default-false : goal.invariant_of-self-in-Ok-default-false
-invariant_of-self-in-Ok-default-false c =
-    let i = c.self.inside in
-    let states : c.add.new.self.states ≡ i.store.states = rw c.in-Ok-default-false.field-0-1-test at c.in-Ok-default-false.ensures.added.kept in
-    let R : Client → Type 0 = λ k. AreLed k c.add.new.self.states c.pop.new.self in
-    subst R (sym c.add.ensures.client) (led_again i.store.client i.store.states c.add.new.self.states i.paths c.push.new.self c.pop.new.self c.as_slice.result.now c.self.invariant states c.in_ok-push.ensures.ok c.pop.ensures.rest)
-
-pub invariant_of-self-in-Err : goal.invariant_of-self-in-Err
-invariant_of-self-in-Err c =
-    let i = c.self.inside in
-    let R : Client → Type 0 = λ k. AreLed k c.add.new.self.states c.pop-in-Err.new.self in
-    subst R (sym c.add.ensures.client) (led_again i.store.client i.store.states c.add.new.self.states i.paths c.push.new.self c.pop-in-Err.new.self c.as_slice.result.now c.self.invariant c.in-Err.ensures.err c.in_ok-push.ensures.ok c.pop-in-Err.ensures.rest)
+pub returns-clause-initial : goal.returns-clause-initial
+returns-clause-initial c =
+    let R : Client → Type 0 = λ k. IsKept k c.in_ok-kept.kept in
+    begun_at c.keep-held.new.self.client c.keep-held.new.self.states c.in_ok-kept.kept c.keep-held.result (subst R (sym (c.keep-held.ensures.client ∙ c.requires)) c.in_ok-kept.ensures.kept) c.in_ok-kept.ensures.actors c.keep-held.ensures.state

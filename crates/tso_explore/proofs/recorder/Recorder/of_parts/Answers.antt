@@ -1,7 +1,7 @@
 use Rattle.std.proofs.Common.{◌≡◌, ◌∙◌, subst, sym}
 use Rattle.tso_store.specs.Keys.{AreKept}
 use Rattle.tso_store.specs.declared.parts.Parts.{Parts}
-use Rattle.tso_rec.proofs.recorder.Recorder.of_parts.Goals as goal
+use Rattle.tso_explore.proofs.recorder.Recorder.of_parts.Goals as goal
 
 pub invariant_of-result : goal.invariant_of-result
 invariant_of-result c =

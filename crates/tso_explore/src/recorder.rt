@@ -7,10 +7,6 @@ ghost use Rattle.tso_state.specs.declared.state.State.{State as StateValue};
 ghost use Rattle.tso_store.specs.Keys.{AreKept, states_at};
 ghost use Rattle.tso_store.specs.Numbers.{values_at};
 
-use crate::kept::Kept;
-use crate::known::Shelf;
-use crate::record::End;
-use crate::shared::{Part, Shared, keep_all};
 use std::alloc::{AllocError, Global};
 use std::marker::Model;
 use tso_hist::{Call, History};
@@ -18,6 +14,7 @@ use tso_line::CallKind;
 use tso_list::Seq;
 use tso_parts::Pool;
 use tso_prog::Answer;
+use tso_rec::{End, Kept, Part, Shared, Shelf, keep_all};
 use tso_state::Thread;
 use tso_store::{Key, Parts, Store};
 

@@ -1,4 +1,4 @@
--- The conditions of a record, a state with its end, each by itself.
+-- The conditions of a record, a state with its end.
 use Rattle.std.specs.Prelude.{◌≡◌, ℕ, ◌<◌, All, Contains, IsTrue, List, length, false, Some, slice_get}
 use Rattle.tso_choose.specs.Choices.{AreReasons, IsRising, actors_of}
 use Rattle.tso_choose.specs.Needs.{is_enabled}
@@ -10,6 +10,7 @@ use Rattle.tso_hist.specs.Views.{history_view}
 use Rattle.tso_prog.specs.declared.client.Client.{Client}
 use Rattle.tso_rec.specs.declared.record.End.{End}
 use Rattle.tso_rec.specs.declared.record.End.TheVariants.{Choices, Order}
+use Rattle.tso_state.specs.WellFormed.{IsWellFormed}
 use Rattle.tso_state.specs.declared.actor.Actor.{Actor}
 use Rattle.tso_state.specs.declared.actor.Actor.TheVariants.{Exec, Drain}
 use Rattle.tso_state.specs.declared.state.Core.TheVariants.{Stopped}
@@ -70,3 +71,14 @@ IsUnstopped s (Order order) = HasNoStopped s
 abbrev pub IsExplained : Client → State → End → Type 0
 IsExplained c s (Choices choices) = Unit {0}
 IsExplained c s (Order order) = IsOrderOf c.mode c.capacity s.history (order_view (history_view s.history) order)
+
+-- all conditions hold, where `Kept` says that the states after its chosen steps are kept, and `Within` that its running registers lie where
+-- the table says
+pub record AreMet (c : Client) (t : Table) (Kept Within : Type 0) (s : State) (e : End) : Type 0 where
+  pub well_formed : IsWellFormed c s
+  pub fits : EndFits c s e
+  pub reasons : HaveReasons c t s e
+  pub successors : Kept
+  pub unstopped : IsUnstopped s e
+  pub explained : IsExplained c s e
+  pub within : Within
