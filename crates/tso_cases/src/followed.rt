@@ -100,7 +100,9 @@ fn followed_in(
 // How many states the chosen actors lead to.
 fn count_followed(alloc: Global, checked: &Checked, table: &Table) -> Result<usize, Failure> {
     let mut store = Store::new(alloc, checked, 7);
-    followed_in(alloc, checked, table, &mut store)
+    let count = followed_in(alloc, checked, table, &mut store);
+    drop(store);
+    count
 }
 
 /// Writes how many states the chosen actors lead to from the first one, which is counted too.

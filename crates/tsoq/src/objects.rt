@@ -5,7 +5,7 @@ use crate::show::show_failure;
 use serde_json::{Map, Value, json};
 use std::alloc::{AllocError, Global};
 use tso_flow::{Checked, ProcedureKind};
-use tso_front::{Failure, Session, misused, number_or_null, violation_words};
+use tso_front::{Failure, Members, Session, misused, number_or_null, violation_words};
 use tso_machine::{Core, Entry, Machine, Running, Stage, Thread};
 use tso_prog::Array;
 use tso_show::{Replayed, ShowError, Walk};
@@ -56,15 +56,34 @@ fn still_object(alloc: Global, how: &str, buffer: Value) -> Result<Value, AllocE
     json!(in alloc; {"is": how, "buffer": buffer})
 }
 
+// Where a running call is.
+fn running_members(
+    alloc: Global,
+    procedure: &str,
+    instruction: u64,
+    locked: bool,
+) -> Result<Members, AllocError> {
+    Members::new(alloc)
+        .text("is", "running")?
+        .text("procedure", procedure)?
+        .number("instruction", instruction)?
+        .with("locked", Value::Bool(locked))
+}
+
 // Where the running call of a thread is, and what is in its store buffer.
 fn running_object(alloc: Global, running: &Running, buffer: Value) -> Result<Value, AllocError> {
     let procedure = match running.procedure {
         ProcedureKind::Push => "push",
         ProcedureKind::Pop => "pop",
     };
-    let instruction = running.frame.pc as u64;
     let locked = !matches!(running.stage, Stage::Outside);
-    json!(in alloc; {"is": "running", "procedure": procedure, "instruction": instruction, "locked": locked, "buffer": buffer})
+    match running_members(alloc, procedure, running.frame.pc as u64, locked) {
+        Ok(members) => Ok(members.with("buffer", buffer)?.object()),
+        Err(reason) => {
+            drop(buffer);
+            Err(reason)
+        }
+    }
 }
 
 // Where a thread is, and what is in its store buffer.

@@ -13,7 +13,7 @@ use tso_check::Verdict;
 use tso_client::checked_of;
 use tso_explore::{Outcome, explore};
 use tso_flow::Checked;
-use tso_front::{Failure, Session, Variant};
+use tso_front::{Failure, Session, Variant, fault_of};
 use tso_judge::Code;
 use tso_machine::{Label, LabelKind, calls_of};
 use tso_prog::{Client, Fault};
@@ -69,9 +69,9 @@ fn put_swapped<S: Session>(
     let Ok(text) = session.read_program(paths.other) else {
         return Ok(());
     };
-    if checked_of(session.alloc(), &text).is_err() {
+    let Ok(None) = fault_of(session.alloc(), &text) else {
         return Ok(());
-    }
+    };
     let (program, other) = (paths.program, paths.other);
     page.say(format!(in session.alloc();
         "{other} is a program text, and {program} is none: are the two words swapped?\n"

@@ -41,6 +41,20 @@ pub struct Done {
     pub finding: Finding,
 }
 
+// The bytes of a certificate, if they are to be written.
+fn spelled(
+    alloc: Global,
+    table: &Table,
+    cert: &Cert,
+    writes: bool,
+) -> Result<Option<Vec<u8>>, Failure> {
+    if writes {
+        Ok(Some(encode(alloc, table, cert)?))
+    } else {
+        Ok(None)
+    }
+}
+
 // That all runs of a text's client are good.
 fn certified(
     alloc: Global,
@@ -54,16 +68,27 @@ fn certified(
     requires good { EachRunIsGood checked.client }
     requires few { record_count (tree_of cert.now) ≤ 4194304 }
 {
-    let bytes = if writes {
-        Some(encode(alloc, table, cert)?)
-    } else {
-        None
+    let bytes = match spelled(alloc, table, cert, writes) {
+        Ok(bytes) => bytes,
+        Err(failure) => {
+            drop(checked);
+            return Err(failure);
+        }
     };
-    let decided = Decided::Accepted {
-        client: Accepted::certified(Vec::from_slice(alloc, text)?, checked),
-        records: Some(cert.len()),
-    };
-    Ok(Finding { decided, bytes })
+    match Vec::from_slice(alloc, text) {
+        Ok(text) => {
+            let decided = Decided::Accepted {
+                client: Accepted::certified(text, checked),
+                records: Some(cert.len()),
+            };
+            Ok(Finding { decided, bytes })
+        }
+        Err(_) => {
+            drop(bytes);
+            drop(checked);
+            Err(Failure::Memory)
+        }
+    }
 }
 
 // A trace as text.

@@ -322,7 +322,11 @@ fn search<R: Threads + Wait + Sync, S: Session + Files, L: Listener + Sync>(
         &watch,
         verbose,
     ) {
-        Ok(found) => end(session, &watch, asked, &found, begun, verbose),
+        Ok(found) => {
+            let status = end(session, &watch, asked, &found, begun, verbose);
+            drop(found);
+            status
+        }
         Err(Failure::Limit) => end_at_limit(session, &watch, asked, begun, verbose),
         Err(failure) => Err(failure),
     }
