@@ -97,11 +97,21 @@ fn fork_of<'a>(
     ensures { Gives (λ x. (tree_of x.0, x.1, x.2.now)) result (fork_at (tree_at depth) room bytes.now) }
 {
     let (left, room, rest) = branch_of(alloc, known, depth, room, bytes)?;
-    let (state, rest) = field_of::<State>(alloc, rest)?;
-    let (right, room, rest) = branch_of(alloc, known, depth, room, rest)?;
-    let left = Box::new(alloc, left)?;
-    let right = Box::new(alloc, right)?;
-    Ok((Cert::Fork(left, state, right), room, rest))
+    let (state, rest) = match field_of::<State>(alloc, rest) {
+        Ok(read) => read,
+        Err(fault) => {
+            drop(left);
+            return Err(fault);
+        }
+    };
+    match branch_of(alloc, known, depth, room, rest) {
+        Ok((right, room, rest)) => Ok((Cert::fork(alloc, left, state, right)?, room, rest)),
+        Err(fault) => {
+            drop(left);
+            drop(state);
+            Err(fault)
+        }
+    }
 }
 
 // The bytes behind the first four.

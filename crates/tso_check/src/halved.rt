@@ -52,14 +52,16 @@ fn judge_leaf<N: Notice>(
         let place = start + k as u64;
         notice.before(place);
         let state = records.state(k)?;
-        match judge_state(
+        let judged = judge_state(
             whole.alloc,
             whole.checked,
             whole.table,
             whole.tree,
             &state,
             records.end(k),
-        )? {
+        );
+        drop(state);
+        match judged? {
             Some(code) => return Ok(Some(Bad { place, code })),
             None => {}
         }

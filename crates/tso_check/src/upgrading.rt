@@ -89,10 +89,16 @@ fn tree_upgraded(alloc: Global, checked: &Checked, bytes: &[u8]) -> Result<Renew
     ensures { IfOk result (λ r. IsRenewedWith checked.now.client bytes.now r.bytes.items r.records) }
 {
     match decode(alloc, bytes) {
-        Ok((table, tree)) => Ok(Renewed {
-            bytes: respelled(alloc, checked, &table, &tree, bytes)?,
-            records: tree.len(),
-        }),
+        Ok((table, tree)) => {
+            let new = respelled(alloc, checked, &table, &tree, bytes);
+            let records = tree.len();
+            drop(tree);
+            drop(table);
+            Ok(Renewed {
+                bytes: new?,
+                records,
+            })
+        }
         Err(_) => Err(AllocError),
     }
 }
@@ -146,8 +152,16 @@ fn stored_anew(
 {
     let table = Table::Intervals(stored_intervals(alloc, checked, scanned)?);
     match read_table(alloc, bytes) {
-        Ok((_, tree)) => encode_before(alloc, &table, tree),
-        Err(_) => Err(AllocError),
+        Ok((old, tree)) => {
+            drop(old);
+            let new = encode_before(alloc, &table, tree);
+            drop(table);
+            new
+        }
+        Err(_) => {
+            drop(table);
+            Err(AllocError)
+        }
     }
 }
 

@@ -209,42 +209,7 @@ fn number_in<U: Search, E: Ledger, R: Wait, W: Watch>(
     Ok(Some(answer))
 }
 
-// The number of a state in the shard of this number, and whether it is new, with where the shard has its parts; `None` where no unit
-// is left.
-fn place_in<U: Search, E: Ledger, R: Wait, W: Watch>(
-    team: &Team<'_, '_, U, E, R, W>,
-    shard: &mut Shard<'_, U, E>,
-    number: u8,
-    near: &Key,
-    state: &View<'_>,
-    actors: &[u8],
-    fresh: bool,
-    share: &mut Share<E>,
-) -> Result<Option<(Number, bool, Key)>, Ending>
-    requires part { 0 < share.old.parts }
-    requires kept { IsKept team.now.checked.now.client (record { state = state.now; actors = actors.now }) }
-    requires here { number ≡ shard_of state.now }
-    ensures parts { share.new.parts ≡ share.old.parts }
-    ensures counted { IfOk result (λ o. IfSome o (λ _. share.new.amount ≡ share.old.amount + 1)) }
-    ensures full { IfOk result (λ o. o ≡ None → share.new.amount ≡ share.old.amount) }
-    ensures uncounted { OnErr result (share.new.amount ≡ share.old.amount) }
-    ensures number { IfOk result (λ o. IfSome o (λ r. r.0.shard ≡ shard_of state.now)) }
-    ensures ending { IfErr result (IsEndingOf team.now.checked.now.client) }
-{
-    if shard.table().number() != number {
-        return Err(Ending::Astray);
-    }
-    shard.is_of(team.checked, team.table);
-    match number_in(team, shard, near, state, actors, fresh, share)? {
-        Some((number, new)) => {
-            let there = shard.table().states().key(number.place);
-            Ok(Some((number, new, there)))
-        }
-        None => Ok(None),
-    }
-}
-
-// The same, under the lock of the shard that the state belongs to.
+// The number of a state in its shard, and whether it is new, with where the shard has its parts; `None` where no unit is left.
 fn place<U: Search, E: Ledger, R: Wait, W: Watch>(
     team: &Team<'_, '_, U, E, R, W>,
     near: &Key,
@@ -267,9 +232,17 @@ fn place<U: Search, E: Ledger, R: Wait, W: Watch>(
         return Err(Ending::Astray);
     };
     let mut shard = lock(cell, team.rt);
-    let placed = place_in(team, &mut shard, number, near, state, actors, fresh, share);
-    drop(shard);
-    placed
+    if shard.table().number() != number {
+        return Err(Ending::Astray);
+    }
+    shard.is_of(team.checked, team.table);
+    match number_in(team, &mut shard, near, state, actors, fresh, share)? {
+        Some((number, new)) => {
+            let there = shard.table().states().key(number.place);
+            Ok(Some((number, new, there)))
+        }
+        None => Ok(None),
+    }
 }
 
 // That no unit was left for a state.

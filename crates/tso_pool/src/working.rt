@@ -192,14 +192,19 @@ fn work_end<U: Search, E: Ledger, R: Wait, W: Watch>(
     let Some(kept) = desk.kept(team.alloc, held)? else {
         unreachable!()
     };
-    match judge_end(team.alloc, team.checked, &kept.state)? {
-        Some(order) => {
+    match judge_end(team.alloc, team.checked, &kept.state) {
+        Ok(Some(order)) => {
+            drop(kept);
             let Some(state) = desk.view(held) else {
                 unreachable!()
             };
             file_order(team, number, &state, order, share)
         }
-        None => Err(Ending::Violation(kept)),
+        Ok(None) => Err(Ending::Violation(kept)),
+        Err(reason) => {
+            drop(kept);
+            Err(Ending::from(reason))
+        }
     }
 }
 

@@ -34,9 +34,9 @@ fn put_all<S: Session>(
     asking: &Asking<'_>,
     calls: &[Calls],
     texts: &[Vec<u8>],
-    findings: Vec<Finding>,
+    findings: &mut [Finding],
 ) -> Result<(), Failure> {
-    for (number, finding) in findings.into_iter().enumerate() {
+    for (number, finding) in findings.iter_mut().enumerate() {
         if let (Some(calls), Some(text)) = (calls.get(number), texts.get(number)) {
             tally.put(session, asking.out, calls, text, finding)?;
         }
@@ -66,6 +66,29 @@ fn note_progress<S: Session>(
     Ok(())
 }
 
+// Decides these clients, and prints their lines.
+fn decide_some<R: Threads + Wait + Sync, D: Finder, S: Session>(
+    rt: &R,
+    finder: &D,
+    session: &mut S,
+    tally: &mut Tally,
+    asking: &Asking<'_>,
+    calls: &[Calls],
+    texts: &[Vec<u8>],
+) -> Result<(), Failure> {
+    let mut findings = finder.find(rt, session, calls, texts)?;
+    let put = put_all(
+        session,
+        tally,
+        asking,
+        calls,
+        texts,
+        findings.as_mut_slice(),
+    );
+    drop(findings);
+    put
+}
+
 // Decides the clients, some at a time, until the survey is over.
 fn decide_all<R: Threads + Wait + Sync, D: Finder, S: Session>(
     rt: &R,
@@ -77,8 +100,7 @@ fn decide_all<R: Threads + Wait + Sync, D: Finder, S: Session>(
 ) -> Result<(), Failure> {
     let width = finder.width().max(1);
     for (calls, texts) in cases.calls.chunks(width).zip(cases.texts.chunks(width)) {
-        let findings = finder.find(rt, session, calls, texts)?;
-        put_all(session, tally, asking, calls, texts, findings)?;
+        decide_some(rt, finder, session, tally, asking, calls, texts)?;
         note_progress(session, tally, asking, cases)?;
         if is_over(tally, asking) {
             break;
@@ -488,17 +510,32 @@ fn plan_of(alloc: Global, asking: &Asking<'_>) -> Result<Plan, Failure> {
     Ok(Plan::new(alloc, &bounds)?)
 }
 
+// Puts the clients that are searched at the end, a line each.
+fn put_largest(alloc: Global, plan: &Plan, lines: &mut String) -> Result<(), AllocError> {
+    for asked in plan.largest.iter() {
+        let calls = asked.calls(alloc, &plan.words, Numbering::Larger)?;
+        let put = writeln!(lines, "{calls}");
+        drop(calls);
+        put?;
+    }
+    Ok(())
+}
+
 /// The clients that a survey would search, a line each.
 ///
 /// Errors: `Usage` where there are too many; `Memory`.
 pub fn listed(alloc: Global, asking: &Asking<'_>) -> Result<String, Failure> {
     let plan = plan_of(alloc, asking)?;
     let mut lines = String::new(alloc);
-    for asked in plan.largest.iter() {
-        let calls = asked.calls(alloc, &plan.words, Numbering::Larger)?;
-        lines.push_str(format!(in alloc; "{calls}\n")?.as_str())?;
+    let put = put_largest(alloc, &plan, &mut lines);
+    drop(plan);
+    match put {
+        Ok(()) => Ok(lines),
+        Err(reason) => {
+            drop(lines);
+            Err(Failure::from(reason))
+        }
     }
-    Ok(lines)
 }
 
 // Surveys the clients of a program text, and gives the status.

@@ -82,6 +82,14 @@ impl Tally {
         }
     }
 
+    // Notes that a client was accepted.
+    fn note_accepted(&mut self, client: Accepted) -> Result<(), AllocError> {
+        match self.accepted.push(client) {
+            Ok(()) => Ok(()),
+            Err(_) => Err(AllocError),
+        }
+    }
+
     // Notes that a client has a run that is not good.
     fn note_violated(&mut self, calls: &Calls) -> Result<(), AllocError> {
         let size = calls.count();
@@ -100,11 +108,14 @@ impl Tally {
     fn note(&mut self, calls: &Calls, decided: Decided) -> Result<(), AllocError> {
         self.count = self.count.saturating_add(1);
         match decided {
-            Decided::Accepted { client, .. } => self.accepted.push(client)?,
-            Decided::Violated { .. } => self.note_violated(calls)?,
+            Decided::Accepted { client, .. } => return self.note_accepted(client),
+            Decided::Violated { .. } => return self.note_violated(calls),
             Decided::Limit => self.limits = self.limits.saturating_add(1),
             Decided::Missing => self.missing = self.missing.saturating_add(1),
-            Decided::Refused(_) => self.refused = self.refused.saturating_add(1),
+            Decided::Refused(why) => {
+                drop(why);
+                self.refused = self.refused.saturating_add(1);
+            }
         }
         Ok(())
     }
@@ -154,7 +165,8 @@ impl Tally {
         session.flush()
     }
 
-    /// Prints the line of a client, writes its files, if there is a folder for them, and counts it.
+    /// Prints the line of a client, writes its files, if there is a folder for them, and counts it. What was found is taken from its
+    /// place.
     ///
     /// Errors: `CannotPrint`; `CannotWrite`; `Memory`.
     pub fn put<S: Session>(
@@ -163,12 +175,25 @@ impl Tally {
         folder: Option<&str>,
         calls: &Calls,
         text: &[u8],
-        finding: Finding,
+        finding: &mut Finding,
     ) -> Result<(), Failure> {
-        self.tell(session, folder, calls, text, &finding)?;
-        self.note(calls, finding.decided)?;
+        self.tell(session, folder, calls, text, finding)?;
+        let decided = std::mem::replace(&mut finding.decided, Decided::Missing);
+        self.note(calls, decided)?;
         Ok(())
     }
+}
+
+// Writes a file of this name into a folder.
+fn write_file<S: Session>(
+    session: &mut S,
+    folder: &str,
+    name: &str,
+    ending: &str,
+    bytes: &[u8],
+) -> Result<(), Failure> {
+    let path = format!(in session.alloc(); "{folder}/{name}.{ending}")?;
+    session.write(path.as_str(), bytes)
 }
 
 // Writes the text of a client and what was found into a folder, if it is to be written.
@@ -182,15 +207,12 @@ fn write_files<S: Session>(
     let Some(bytes) = &finding.bytes else {
         return Ok(());
     };
-    let alloc = session.alloc();
-    let name = calls.name(alloc)?;
-    let path = format!(in alloc; "{folder}/{name}.tso")?;
-    session.write(path.as_str(), text)?;
     let ending = if finding.decided.is_violated() {
         "trace"
     } else {
         "cert"
     };
-    let path = format!(in alloc; "{folder}/{name}.{ending}")?;
-    session.write(path.as_str(), bytes)
+    let name = calls.name(session.alloc())?;
+    write_file(session, folder, name.as_str(), "tso", text)?;
+    write_file(session, folder, name.as_str(), ending, bytes)
 }

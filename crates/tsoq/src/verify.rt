@@ -237,7 +237,13 @@ fn violated<F: Files>(
     ensures asked { IfOk result (λ found. IsAsked (is_some path.entry) found.taken found.unwritten) }
     ensures counted { IfOk result (λ found. bytes_of found.report ≡ count_of found.taken) }
 {
-    let TraceFile { taken, unwritten } = write_trace(alloc, files, path, &trace)?;
+    let TraceFile { taken, unwritten } = match write_trace(alloc, files, path, &trace) {
+        Ok(written) => written,
+        Err(failure) => {
+            drop(trace);
+            return Err(failure);
+        }
+    };
     let report = Report::Violated {
         violation: trace.violation(),
         labels: trace.labels.len(),

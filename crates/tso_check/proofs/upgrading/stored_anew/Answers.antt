@@ -8,6 +8,6 @@ returns-in-Ok c = λ tree spelled is.
     let scanned = c.args.scanned.now in
     let t = c.in_ok-stored_intervals.field-0 in
     let made = c.in_ok-stored_intervals.ensures in
-    let rest = tree_behind c.args.bytes.now c.in-Ok.tree.now scanned.table c.in-Ok.field-0-0 tree spelled c.in-Ok.ensures in
-    let written = c.encode_before.ensures tree rest in
-    if_both c.encode_before.result (λ new so again. made_for client tree scanned t new.items is made.inductive made.held made.narrow so) written written
+    let rest = tree_behind c.args.bytes.now c.in-Ok.tree.now scanned.table c.in-Ok.old tree spelled c.in-Ok.ensures in
+    let written = c.encode_before-new.ensures tree rest in
+    if_both c.encode_before-new.result (λ new so again. made_for client tree scanned t new.items is made.inductive made.held made.narrow so) written written

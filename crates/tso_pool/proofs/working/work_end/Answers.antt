@@ -14,10 +14,10 @@ file_order-requires-clause-good g c =
     let at : slice_get states c.args.held ≡ Some c.in-Some.kept.state = rw c.in-Some.is at c.in_ok-kept.ensures.state in
     let seen : slice_get states c.args.held ≡ Some c.in-Some-view.state = sym c.view.ensures ∙ c.in-Some-view.is in
     let same : c.in-Some.kept.state ≡ c.in-Some-view.state = same_Some c.in-Some.kept.state c.in-Some-view.state (sym at ∙ seen) in
-    let P : State → Type 0 = λ s. HasNoStopped s × IsExplained client s (Order c.in-Some-2.order) in
-    subst P same (rw c.in-Some-2.is at c.in_ok-order.ensures.good)
+    let P : State → Type 0 = λ s. HasNoStopped s × IsExplained client s (Order c.in-Ok-Some.order) in
+    subst P same (rw c.in-Ok-Some.field-0-is at c.in-Ok-Some.ensures.good)
 
-pub returns-in-None-clause-ending : goal.returns-in-None-clause-ending
-returns-in-None-clause-ending g c =
+pub returns-in-Ok-None-clause-ending : goal.returns-in-Ok-None-clause-ending
+returns-in-Ok-None-clause-ending g c =
     let P : Client → Type 0 = λ k. IsKept k c.in-Some.kept in
-    (subst P c.requires.client (rw c.in-Some.is at c.in_ok-kept.ensures.leads), rw c.in-None.is at c.in_ok-order.ensures.bad)
+    (subst P c.requires.client (rw c.in-Some.is at c.in_ok-kept.ensures.leads), rw c.in-Ok-None.field-0-is at c.in-Ok-None.ensures.bad)
