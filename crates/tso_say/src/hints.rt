@@ -1,6 +1,9 @@
 //! What is said of lines that compilers write.
 
-use crate::suspect::{dotted, is_among, is_directive, outside, register_for_array};
+use crate::source::text_of;
+use crate::suspect::{
+    dotted, is_among, is_directive, is_register, outside, register_for_array, unlocked,
+};
 use tso_text::{Token, TokenKind};
 
 const IDIOM: &str =
@@ -17,17 +20,10 @@ const INSTRUCTION: &str =
 const REGISTER: &str =
     "A register stands where an array's name is wanted: memory begins with an array's name, as `qword ptr [buf + rdx*8]`.";
 
-fn text(line: &[u8], token: Token) -> &[u8] {
-    match line.get(token.start..token.end) {
-        Some(text) => text,
-        None => &[],
-    }
-}
-
 /// The first word of a line.
 pub fn name_of<'a>(line: &'a [u8], tokens: &[Token]) -> &'a [u8] {
     match tokens.first() {
-        Some(token) => text(line, *token),
+        Some(token) => text_of(line, *token),
         None => &[],
     }
 }
@@ -36,16 +32,44 @@ pub fn name_of<'a>(line: &'a [u8], tokens: &[Token]) -> &'a [u8] {
 fn is_idiom(name: &[u8]) -> bool {
     name.starts_with(b"set")
         || name.starts_with(b"cmov")
+        || name.starts_with(b"prefetch")
         || is_among(
             name,
-            "sal|shl|shr|sar|lea|imul|neg|not|movzx|js|jns|lfence|sfence",
+            "sal|shl|shr|sar|lea|imul|neg|not|movzx|movsx|movsxd|cdqe|js|jns|lfence|sfence|endbr64|cmpxchg16b",
         )
+}
+
+// Whether a register stands at this place.
+fn has_register(line: &[u8], tokens: &[Token], at: usize) -> bool {
+    match tokens.get(at) {
+        Some(token) => is_register(text_of(line, *token)),
+        None => false,
+    }
+}
+
+// Whether an instruction computes in memory, or exchanges two registers: there is none here that does.
+fn is_none_here(line: &[u8], tokens: &[Token]) -> bool {
+    let has_memory = tokens
+        .iter()
+        .any(|token| matches!(token.kind, TokenKind::Open));
+    match name_of(line, tokens) {
+        b"add" | b"sub" | b"and" | b"or" | b"xor" | b"cmp" | b"test" | b"inc" | b"dec" =>
+            has_memory,
+        b"xchg" => has_register(line, tokens, 1) && has_register(line, tokens, 3),
+        _ => false,
+    }
+}
+
+// Whether the page of idioms has this line.
+fn has_idiom(line: &[u8], tokens: &[Token]) -> bool {
+    let step = unlocked(line, tokens);
+    is_idiom(name_of(line, step)) || is_none_here(line, step) || has_narrow(line, tokens)
 }
 
 // Whether a register of fewer than 64 bits is named.
 fn has_narrow(line: &[u8], tokens: &[Token]) -> bool {
     tokens.iter().any(|token| is_among(
-        text(line, *token),
+        text_of(line, *token),
         "eax|ebx|ecx|edx|esi|edi|ebp|r8d|r9d|r10d|r11d|r12d|r13d|r14d|r15d|al|bl|cl|dl",
     ))
 }
@@ -65,7 +89,7 @@ pub fn is_step(line: &[u8], tokens: &[Token]) -> bool {
 
 // What is said of an instruction's or a label's line that has no shape.
 fn of_step(line: &[u8], tokens: &[Token]) -> &'static str {
-    if is_idiom(name_of(line, tokens)) {
+    if is_idiom(name_of(line, unlocked(line, tokens))) {
         IDIOM
     } else if is_label(tokens) || dotted(line, tokens).is_some() {
         DOT
@@ -91,11 +115,7 @@ pub fn of_shape(line: &[u8], tokens: &[Token]) -> Option<&'static str> {
 
 /// What is said of an instruction with a word that is unknown, or nothing.
 pub fn of_word(line: &[u8], tokens: &[Token]) -> &'static str {
-    if is_idiom(name_of(line, tokens)) || has_narrow(line, tokens) {
-        IDIOM
-    } else {
-        ""
-    }
+    if has_idiom(line, tokens) { IDIOM } else { "" }
 }
 
 /// What is said of a reference to a name that is not there, or nothing.

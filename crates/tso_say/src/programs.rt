@@ -2,6 +2,7 @@
 
 use crate::instead::put_instead;
 use crate::lines::{put_fault, put_meaning, put_number, put_read};
+use crate::more::put_more;
 use crate::page::Page;
 use crate::reading::{UnwrittenRead, location_word, unwritten};
 use crate::reason::{is_within_procedure, put_reason};
@@ -94,8 +95,8 @@ fn put_code(alloc: Global, page: &mut Page, text: &[u8], fault: Fault) -> Result
     put_meaning(alloc, page, format!(in alloc; "{code}")?.as_str())
 }
 
-/// Says why a program is refused: the line of the fault with a mark, how control comes to a read of something unwritten, and what
-/// the code means.
+/// Says why a program is refused: the line of the fault with a mark, how control comes to a read of something unwritten, what the
+/// code means, and which lines behind it are refused by themselves.
 ///
 /// Errors: where a growth was refused.
 pub fn put_program(
@@ -110,5 +111,6 @@ pub fn put_program(
     }
     put_reason(alloc, page, text, fault)?;
     put_instead(alloc, page, text, fault)?;
-    put_code(alloc, page, text, fault)
+    put_code(alloc, page, text, fault)?;
+    put_more(alloc, page, text, fault)
 }

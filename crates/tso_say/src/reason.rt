@@ -6,7 +6,7 @@ ghost use Rattle.tso_line.specs.Words.{has_name};
 
 use crate::hints::{is_step, name_of, of_name, of_shape, of_word};
 use crate::page::Page;
-use crate::source::{cut, line};
+use crate::source::{cut, line, tokens_of};
 use std::alloc::{AllocError, Global};
 use tso_line::{Kind, Lexeme, Line, Slip, lexeme_of, line_of};
 use tso_prog::{Code, Fault};
@@ -33,21 +33,13 @@ fn read_line<'a>(alloc: Global, line: &'a [u8]) -> Result<Line<'a>, AllocError> 
     }
 }
 
-// The tokens of a line; none where it has a byte that may stand in no text.
-fn tokens_of(alloc: Global, line: &[u8]) -> Vec<Token> {
-    match lex(alloc, line) {
-        Ok(tokens) => tokens,
-        Err(_) => Vec::new(alloc),
-    }
-}
-
 // The first word of a line.
 fn first_word(alloc: Global, line: &[u8]) -> &[u8] {
     name_of(line, &tokens_of(alloc, line))
 }
 
-// Whether a line stands between .push or .pop and its .end.
-fn is_inside(alloc: Global, text: &[u8], number: usize) -> bool {
+/// Whether a line stands between .push or .pop and its .end.
+pub fn is_inside(alloc: Global, text: &[u8], number: usize) -> bool {
     let mut inside = false;
     let mut rest = text;
     for _above in 1..number {
@@ -144,6 +136,24 @@ fn limit_reason(alloc: Global, line: &[u8]) -> Result<&'static str, AllocError> 
     }
 }
 
+// Which range the numbers of a line of this kind have.
+fn range_reason(alloc: Global, line: &[u8]) -> Result<&'static str, AllocError> {
+    let read = read_line(alloc, line)?;
+    match read.kind() {
+        Some(Kind::Capacity) => Ok("A capacity is 1 to 16."),
+        Some(Kind::Array) => Ok(
+            "A length is 1 to 256, and a value a word of 64 bits, with or without a sign.",
+        ),
+        Some(Kind::Instruction) => Ok(
+            "A bound is 0 to 15, a displacement a multiple of 8, and both it and an immediate -2^31 to 2^31 - 1; an immediate\nthat `mov` puts into a register is any word of 64 bits, with or without a sign.",
+        ),
+        Some(Kind::Before | Kind::Thread) => Ok(
+            "A value is a word of 64 bits, with or without a sign.",
+        ),
+        _ => Ok(""),
+    }
+}
+
 /// Says which reason a fault has whose code stands for several.
 ///
 /// Errors: where a growth was refused.
@@ -159,6 +169,7 @@ pub fn put_reason(
     let said = match fault.code {
         Code::E03 => shape_reason(alloc, line)?,
         Code::E04 => of_word(line, &tokens_of(alloc, line)),
+        Code::E05 => range_reason(alloc, line)?,
         Code::E07 => of_name(line, &tokens_of(alloc, line)),
         Code::E09 => limit_reason(alloc, line)?,
         _ => return Ok(()),

@@ -8,6 +8,7 @@ ghost use Rattle.tso_say.specs.Places.{IsPlaceIn};
 
 use crate::place::Place;
 use std::alloc::{AllocError, Global};
+use tso_text::{Token, lex};
 
 // How many bytes stand before the end of the first line.
 fn line_len(text: &[u8]) -> usize
@@ -62,6 +63,22 @@ pub fn line(text: &[u8], number: usize) -> Option<&[u8]>
         return None;
     }
     nth_line(text, number - 1)
+}
+
+/// The bytes of a token; none where the line has it not.
+pub fn text_of<'a>(line: &'a [u8], token: Token) -> &'a [u8] {
+    match line.get(token.start..token.end) {
+        Some(text) => text,
+        None => &[],
+    }
+}
+
+/// The tokens of a line; none where it has a byte that may stand in no text.
+pub fn tokens_of(alloc: Global, line: &[u8]) -> Vec<Token> {
+    match lex(alloc, line) {
+        Ok(tokens) => tokens,
+        Err(_) => Vec::new(alloc),
+    }
 }
 
 // The byte as it is shown: one that a terminal may not be sent as a question mark.

@@ -1,16 +1,10 @@
 //! The token of a line at which a fault shows.
 
+use crate::source::text_of;
 use tso_flow::Location;
 use tso_line::register_word;
 use tso_prog::Code;
 use tso_text::{Token, TokenKind};
-
-fn text(line: &[u8], token: Token) -> &[u8] {
-    match line.get(token.start..token.end) {
-        Some(text) => text,
-        None => &[],
-    }
-}
 
 fn is_word(token: Token) -> bool {
     matches!(token.kind, TokenKind::Word)
@@ -64,7 +58,7 @@ fn named(line: &[u8], tokens: &[Token], word: &[u8]) -> Option<Token> {
     tokens
         .iter()
         .copied()
-        .find(|token| text(line, *token) == word)
+        .find(|token| text_of(line, *token) == word)
 }
 
 // The token behind the first one of this kind.
@@ -79,7 +73,7 @@ fn first(tokens: &[Token]) -> Option<Token> {
 
 // The first word that is no directive.
 fn name(line: &[u8], tokens: &[Token]) -> Option<Token> {
-    tokens.iter().copied().find(|token| is_word(*token) && !is_directive(text(line, *token)))
+    tokens.iter().copied().find(|token| is_word(*token) && !is_directive(text_of(line, *token)))
 }
 
 // Whether a number is spelled as one: without leading zeros, and decimal or in lower case hexadecimal digits.
@@ -98,14 +92,14 @@ fn is_spelled(digits: &[u8]) -> bool {
 fn misspelled(line: &[u8], tokens: &[Token]) -> Option<Token> {
     tokens.iter().copied().find(|token| {
         matches!(token.kind, TokenKind::Other)
-            || is_number(*token) && !is_spelled(text(line, *token))
+            || is_number(*token) && !is_spelled(text_of(line, *token))
     })
 }
 
 // The first word for memory that is not in small letters.
 fn capital(line: &[u8], tokens: &[Token]) -> Option<Token> {
     tokens.iter().copied().find(|token| {
-        let word = text(line, *token);
+        let word = text_of(line, *token);
         (word.eq_ignore_ascii_case(b"ptr") || word.eq_ignore_ascii_case(b"qword"))
             && !is_among(word, "ptr|qword")
     })
@@ -113,20 +107,39 @@ fn capital(line: &[u8], tokens: &[Token]) -> Option<Token> {
 
 // Whether a name or a number stands where the word for memory stands before a bracket.
 fn is_misplaced(line: &[u8], token: Token) -> bool {
+    let word = text_of(line, token);
     let is_named = is_word(token) || is_number(token);
-    is_named && !text(line, token).eq_ignore_ascii_case(b"ptr")
+    is_named && !word.eq_ignore_ascii_case(b"ptr") && !word.eq_ignore_ascii_case(b"qword")
+}
+
+/// The name of an instruction and its operands, without the `lock` before them.
+pub fn unlocked<'a>(line: &[u8], tokens: &'a [Token]) -> &'a [Token] {
+    match tokens {
+        [lock, rest @ ..] => {
+            if text_of(line, *lock) == b"lock".as_slice() {
+                rest
+            } else {
+                tokens
+            }
+        }
+        _ => tokens,
+    }
 }
 
 /// Memory as compilers write it, with a name or a number before its brackets.
 pub fn outside(line: &[u8], tokens: &[Token]) -> Option<Token> {
-    let open = tokens
+    let operands = match unlocked(line, tokens) {
+        [_, operands @ ..] => operands,
+        _ => return None,
+    };
+    let open = operands
         .iter()
         .position(|token| matches!(token.kind, TokenKind::Open))?;
-    let close = tokens
+    let close = operands
         .iter()
         .copied()
         .find(|token| matches!(token.kind, TokenKind::Close))?;
-    let name = tokens.get(open.checked_sub(1)?).copied()?;
+    let name = operands.get(open.checked_sub(1)?).copied()?;
     if is_misplaced(line, name) {
         Some(Token {
             end: close.end,
@@ -143,13 +156,14 @@ pub fn dotted(line: &[u8], tokens: &[Token]) -> Option<Token> {
         .iter()
         .skip(1)
         .copied()
-        .find(|token| is_directive(text(line, *token)))
+        .find(|token| is_directive(text_of(line, *token)))
 }
 
 /// A register that stands where an array's name is wanted.
 pub fn register_for_array(line: &[u8], tokens: &[Token]) -> Option<Token> {
     let token = behind(tokens, TokenKind::Open)?;
-    if is_register(text(line, token)) {
+    let word = text_of(line, token);
+    if is_register(word) || is_among(word, "rip|rsp|esp") {
         Some(token)
     } else {
         None
@@ -159,7 +173,7 @@ pub fn register_for_array(line: &[u8], tokens: &[Token]) -> Option<Token> {
 // The place of a misshapen instruction, where its name is known.
 fn misplaced(line: &[u8], tokens: &[Token]) -> Option<Token> {
     let name = first(tokens)?;
-    if is_mnemonic(text(line, name)) {
+    if is_mnemonic(text_of(line, name)) {
         dotted(line, tokens)
             .or(outside(line, tokens))
             .or(register_for_array(line, tokens))
@@ -178,26 +192,50 @@ fn strange_word(line: &[u8], tokens: &[Token]) -> Option<Token> {
     let array = behind(tokens, TokenKind::Open);
     tokens.iter().skip(1).copied().find(|token| {
         is_word(*token)
-            && !is_operand_word(text(line, *token))
+            && !is_operand_word(text_of(line, *token))
             && array != Some(*token)
-            && !is_mnemonic(text(line, *token))
+            && !is_mnemonic(text_of(line, *token))
     })
 }
 
 // A scale other than 8.
 fn strange_scale(line: &[u8], tokens: &[Token]) -> Option<Token> {
     let scale = behind(tokens, TokenKind::Star)?;
-    if text(line, scale) == b"8".as_slice() {
+    if text_of(line, scale) == b"8".as_slice() {
         None
     } else {
         Some(scale)
     }
 }
 
-// What stands where it may not: memory, `bound` or `lock`.
+/// Whether an instruction exchanges a register with memory.
+pub fn is_exchange(word: &[u8]) -> bool {
+    is_among(word, "xchg|xadd|cmpxchg")
+}
+
+// What stands where it may not behind a `lock`, or in an exchange: another instruction, or a register before the memory.
+fn misexchanged(line: &[u8], tokens: &[Token]) -> Option<Token> {
+    let [name, operand, ..] = unlocked(line, tokens) else {
+        return None;
+    };
+    if !is_exchange(text_of(line, *name)) {
+        return Some(*name);
+    }
+    if is_register(text_of(line, *operand)) {
+        return Some(*operand);
+    }
+    None
+}
+
+// What stands where it may not: memory, a register, `bound`, or an instruction behind `lock`.
 fn out_of_place(line: &[u8], tokens: &[Token], mnemonic: &[u8]) -> Option<Token> {
     if is_jump(mnemonic) || mnemonic == b"assert".as_slice() {
         return tokens.get(1).copied();
+    }
+    if mnemonic == b"lock".as_slice() || is_exchange(mnemonic) {
+        if let Some(strange) = misexchanged(line, tokens) {
+            return Some(strange);
+        }
     }
     if !takes_memory(mnemonic) {
         if let Some(memory) = named(line, tokens, b"qword") {
@@ -210,7 +248,7 @@ fn out_of_place(line: &[u8], tokens: &[Token], mnemonic: &[u8]) -> Option<Token>
 // The word of an instruction that is not understood.
 fn unknown(line: &[u8], tokens: &[Token]) -> Option<Token> {
     let mnemonic = first(tokens)?;
-    let word = text(line, mnemonic);
+    let word = text_of(line, mnemonic);
     if is_directive(word) {
         return tokens.get(1).copied();
     }
@@ -240,7 +278,7 @@ fn is_even(digits: &[u8]) -> bool {
 // The displacement behind this sign.
 fn displacement(line: &[u8], tokens: &[Token], sign: TokenKind) -> Option<Token> {
     let token = behind(tokens, sign)?;
-    if is_number(token) && !is_even(text(line, token)) {
+    if is_number(token) && !is_even(text_of(line, token)) {
         Some(token)
     } else {
         None

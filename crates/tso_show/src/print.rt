@@ -372,20 +372,40 @@ fn held(
     }
 }
 
-// Prints what was in the store buffer of a thread behind a run, if it was not empty, and where that drains in the labels that the
-// run begins.
+// Whether with this label a thread reads a word of memory.
+fn is_read_of(label: &Label, thread: usize, cell: usize) -> bool {
+    match label.kind {
+        LabelKind::Read { place, .. } => label.thread == thread && place == cell,
+        _ => false,
+    }
+}
+
+// Whether a call of another thread has read a cell for which there is a store in this one's buffer.
+fn has_missed(labels: &[Label], call: TimedCall, thread: usize, entries: &[Entry]) -> bool {
+    let Some(during) = labels.get(call.begins..end_of(call.returns)) else {
+        return false;
+    };
+    thread != call.thread
+        && entries.iter().any(|entry| during
+            .iter()
+            .any(|label| is_read_of(label, call.thread, entry.place)))
+}
+
+// Prints what was in the store buffer of a thread behind a run, if a call of another thread has missed it, and where that drains in
+// the labels that the run begins.
 fn put_held<W: Write>(
     alloc: Global,
     out: &mut W,
     walk: &Walk<'_>,
     labels: &[Label],
+    call: TimedCall,
     thread: usize,
 ) -> Result<(), ShowError> {
     let Some(holder) = walk.machine().threads.get(thread) else {
         return Ok(());
     };
     let entries = holder.buffer.live();
-    if entries.is_empty() {
+    if !has_missed(walk.taken(), call, thread, entries) {
         return Ok(());
     }
     let arrays = walk.checked().client.arrays.as_slice();
@@ -428,7 +448,7 @@ fn put_cause<W: Write>(
     };
     put_made(out, format!(in alloc; "  {cause}\n"))?;
     match cause {
-        Cause::NotEmpty { push, .. } => put_held(alloc, out, walk, labels, push.thread),
+        Cause::NotEmpty { pop, push } => put_held(alloc, out, walk, labels, pop, push.thread),
         _ => Ok(()),
     }
 }

@@ -115,16 +115,17 @@ impl Cases {
     ) -> Result<(), Failure> {
         let calls = Calls::of_line(alloc, line)?;
         match self.put(alloc, base, asking, calls) {
-            Err(Failure::Usage(_)) => Err(no_client(alloc, number)),
+            Err(Failure::Usage(_)) => Err(no_client(alloc, asking, number)),
             put => put,
         }
     }
 }
 
 // That a line of a list is no client.
-fn no_client(alloc: Global, number: usize) -> Failure {
+fn no_client(alloc: Global, asking: &Asking<'_>, number: usize) -> Failure {
+    let list = asking.clients.unwrap_or("LIST");
     let text = format!(in alloc;
-        "line {number} of LIST is no client, as `push 1, push 2 | pop` is, or `before push 7: pop | pop`\n"
+        "line {number} of {list} is no client, as `push 1, push 2 | pop` is, or `before push 7: pop | pop`\n"
     );
     match text {
         Ok(text) => Failure::Usage(text),
@@ -132,7 +133,8 @@ fn no_client(alloc: Global, number: usize) -> Failure {
     }
 }
 
-fn is_taken(part: Option<Part>, number: usize) -> bool {
+/// Whether the client with this number, from 0, is one of the part; all are where there is none.
+pub fn is_taken(part: Option<Part>, number: usize) -> bool {
     match part {
         Some(part) => part.has(number),
         None => true,

@@ -6,12 +6,12 @@ ghost use Rattle.tso_client.specs.Headline.{IsVerified};
 use crate::accepted::{Accepted, are_all_accepted};
 use crate::bounds::Bounds;
 use crate::calls::{Calls, Numbering};
-use crate::cases::{Cases, text_of};
+use crate::cases::{Cases, is_taken, text_of};
 use crate::finding::{Finder, Finding};
 use crate::method::Words;
 use crate::plan::{Asked, Plan, count_of};
 use crate::tally::{Tally, Violated};
-use crate::words::Asking;
+use crate::words::{Asking, Part};
 use serde_json::{Value, json};
 use std::alloc::{AllocError, Global};
 use std::sync::Wait;
@@ -510,24 +510,31 @@ fn plan_of(alloc: Global, asking: &Asking<'_>) -> Result<Plan, Failure> {
     Ok(Plan::new(alloc, &bounds)?)
 }
 
-// Puts the clients that are searched at the end, a line each.
-fn put_largest(alloc: Global, plan: &Plan, lines: &mut String) -> Result<(), AllocError> {
-    for asked in plan.largest.iter() {
-        let calls = asked.calls(alloc, &plan.words, Numbering::Larger)?;
-        let put = writeln!(lines, "{calls}");
-        drop(calls);
-        put?;
+// Puts the clients that are searched at the end, a line each: those of the part.
+fn put_largest(
+    alloc: Global,
+    plan: &Plan,
+    part: Option<Part>,
+    lines: &mut String,
+) -> Result<(), AllocError> {
+    for (number, asked) in plan.largest.iter().enumerate() {
+        if is_taken(part, number) {
+            let calls = asked.calls(alloc, &plan.words, Numbering::Larger)?;
+            let put = writeln!(lines, "{calls}");
+            drop(calls);
+            put?;
+        }
     }
     Ok(())
 }
 
-/// The clients that a survey would search, a line each.
+/// The clients that a survey would search, a line each, and of these the ones of a part.
 ///
 /// Errors: `Usage` where there are too many; `Memory`.
 pub fn listed(alloc: Global, asking: &Asking<'_>) -> Result<String, Failure> {
     let plan = plan_of(alloc, asking)?;
     let mut lines = String::new(alloc);
-    let put = put_largest(alloc, &plan, &mut lines);
+    let put = put_largest(alloc, &plan, asking.part, &mut lines);
     drop(plan);
     match put {
         Ok(()) => Ok(lines),

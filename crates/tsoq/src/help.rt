@@ -73,7 +73,7 @@ line, then each word of memory, each thread with what is in its store buffer, an
 With --html it writes OUT as well, one file that a browser shows without any other; with --html - the page alone.
 
 Example:
-  tsoq replay queues/vyukov.tso vyukov.trace --to 40
+  tsoq replay queues/vyukov.tso vyukov.trace --to 26
   tsoq replay queues/vyukov.tso vyukov.trace --source --buffers --history
   tsoq replay queues/vyukov.tso vyukov.trace --html vyukov.html
 
