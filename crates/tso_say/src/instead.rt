@@ -57,6 +57,14 @@ pub fn instead(alloc: Global, text: &[u8], fault: Fault) -> Result<Option<Vec<u8
     Ok(if is_read { Some(new) } else { None })
 }
 
+/// Shows the line of a fault as it is accepted.
+///
+/// Errors: where a growth was refused.
+pub fn put_new(alloc: Global, page: &mut Page, fault: Fault, new: &[u8]) -> Result<(), AllocError> {
+    page.say("Written so it is accepted:\n")?;
+    put_shown(alloc, page, fault.line as usize, new)
+}
+
 /// Shows the line of a fault as it is accepted, where it is one that compilers write.
 ///
 /// Errors: where a growth was refused.
@@ -67,10 +75,7 @@ pub fn put_instead(
     fault: Fault,
 ) -> Result<(), AllocError> {
     match instead(alloc, text, fault)? {
-        Some(new) => {
-            page.say("Written so it is accepted:\n")?;
-            put_shown(alloc, page, fault.line as usize, &new)
-        }
+        Some(new) => put_new(alloc, page, fault, &new),
         None => Ok(()),
     }
 }

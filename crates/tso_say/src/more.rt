@@ -1,6 +1,6 @@
 //! The faults of a text behind its first, as they show where those before them are mended.
 
-use crate::instead::{instead, put_instead, with_line};
+use crate::instead::{instead, put_new, with_line};
 use crate::lines::put_fault;
 use crate::page::Page;
 use crate::reason::{is_inside, put_reason};
@@ -33,12 +33,14 @@ fn without(alloc: Global, text: &[u8], fault: Fault) -> Result<Vec<u8>, AllocErr
     }
 }
 
-// One of the faults: its code, its line, and the reason or the line as it is accepted.
+// One of the faults: its code, its line, and the line as it is accepted, or else the reason.
 fn put_one(alloc: Global, page: &mut Page, text: &[u8], fault: Fault) -> Result<(), AllocError> {
     page.say_made(format!(in alloc; "{fault}\n"))?;
     put_fault(alloc, page, text, fault)?;
-    put_reason(alloc, page, text, fault)?;
-    put_instead(alloc, page, text, fault)
+    match instead(alloc, text, fault)? {
+        Some(new) => put_new(alloc, page, fault, &new),
+        None => put_reason(alloc, page, text, fault),
+    }
 }
 
 // The next fault behind one of a line, where that is mended, if it is one of a line too; and the text in which it shows.
