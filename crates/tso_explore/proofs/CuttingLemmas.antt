@@ -1,5 +1,5 @@
 -- Worked states as valid records, and the trees that are cut of them.
-use Rattle.std.proofs.Common.{◌≡◌, ℕ, zero, suc, ◌+◌, ◌*◌, ◌/◌, ◌^◌, ◌<◌, ◌≤◌, Bool, true, false, List, [], ◌∷◌, ◌++◌, length, map, take, drop, get_or, None, Some, slice_get, refl, sym, ap, subst, take-suc, ◌∙◌, arith}
+use Rattle.std.proofs.Common.{◌≡◌, ℕ, zero, suc, ◌+◌, ◌*◌, ◌/◌, ◌^◌, ◌<◌, ◌≤◌, Bool, true, false, List, [], ◌∷◌, ◌++◌, length, map, take, drop, get_or, None, Option, Some, slice_get, refl, sym, ap, subst, take-suc, ◌∙◌, arith}
 use Rattle.std.proofs.lemmas.Bool.{eqb-false, eqb-true, false≢true}
 use Rattle.std.proofs.lemmas.List.{length-append, take-append-drop, length-take, length-drop}
 use Rattle.std.proofs.lemmas.List.Sorted.{All-permutation, Contains-permutation, length_permutation, sorted_far}
@@ -22,7 +22,7 @@ use Rattle.tso_choose.proofs.ChoiceLemmas.{chosen_are_valid}
 use Rattle.tso_choose.specs.Choices.{AreChosen, AreReasons, actors_of}
 use Rattle.tso_choose.specs.Needs.{is_enabled}
 use Rattle.tso_choose.specs.declared.choice.Choice.{Choice}
-use Rattle.tso_explore.specs.Cutting.{AreNumbers, AreRecordsOf, AreRising, IsCut, IsEndOf, IsFork, IsHalved, IsRecordOf}
+use Rattle.tso_explore.specs.Cutting.{AreNumbers, AreRecordsOf, AreRising, IsCut, IsEndAt, IsEndOf, IsFork, IsHalved, IsRecordOf}
 use Rattle.tso_explore.specs.Outcomes.{IsCertificate}
 use Rattle.tso_explore.specs.Worked.{AreWorkedOut, IsTreeOf}
 use Rattle.tso_explore.specs.declared.worked.Worked.{Worked}
@@ -137,6 +137,10 @@ searched_well_formed c t states n s searched at = (searched.begun.met n s at).pl
 pub searched_worked : (c : Client) (t : Table) (states : List State) (n : ℕ) (s : State) → AreSearched c t states → slice_get states n ≡ Some s → IsWorked c t states s
 searched_worked c t states n s searched at = searched.worked n s at
 
+-- what ends a state that has this number
+pub end_of_state : (c : Client) (t : Table) (states : List State) (n : ℕ) (s : State) (e : End) → slice_get states n ≡ Some s → IsEndOf c t s e → IsEndAt c t states n e
+end_of_state c t states n s e at ends u there = subst (λ (x : State). IsEndOf c t x e) (same_Some s u (sym at ∙ there)) ends
+
 pub searched_within : (c : Client) (t : Table) (states : List State) (n : ℕ) (s : State) → AreSearched c t states → IsClosed c t → slice_get states n ≡ Some s → LiesWithin t s
 searched_within c t states n s searched closed at = let met = searched.begun.met n s at in reached_is_within c t s met.reached.0 closed met.reached.1
 
@@ -155,6 +159,15 @@ pub recorded : (k : Kept) (states all : List State) (n : ℕ) (s : State) (e f :
 recorded k states all n s e f same is at ends =
     same_Some (record_of k) (with_end e s) (is ∙ ap (λ (us : List State). option_map (with_end e) (slice_get us n)) same ∙ ap (option_map (with_end e)) at)
     ∙ ap (λ (end : End). with_end end s) ends
+
+-- the record of a worked state that a recorder makes with its end
+pub record_made : (c : Client) (t : Table) (states all : List State) (n : ℕ) (k : Kept) (e f : End) (found : Option Kept) → AreSearched c t states → IsClosed c t → n < length states → all ≡ states → IsEndAt c t states n f → e ≡ f → found ≡ Some k
+    → option_map record_of found ≡ option_map (with_end e) (slice_get all n) → IsRecordOf c t states n (record_of k)
+record_made c t states all n k e f found searched closed there same ends shared is made =
+    let s : State = get_or states n (record { memory = []; threads = []; history = [] }) in
+    let at : slice_get states n ≡ Some s = slice_get-get_or states n _ there in
+    let whole : record_of k ≡ with_end f s = recorded k states all n s e f same (sym (ap (option_map record_of) is) ∙ made) at shared in
+    subst (IsRecordOf c t states n) (sym whole) (worked_record c t states n s f searched closed at (ends s at))
 
 -- ---- records of numbers
 

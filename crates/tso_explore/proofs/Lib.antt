@@ -2,7 +2,9 @@ pub mod CuttingLemmas
 pub mod ExistingLemmas
 pub mod FirstLemmas
 pub mod MergingLemmas
+pub mod OrderingLemmas
 pub mod Sorting
+pub mod SpellerLemmas
 pub mod SpellingLemmas
 pub mod TaskLemmas
 pub mod WritingLemmas

@@ -1,24 +1,26 @@
 -- Worked states that are spelled as the records of a tree.
-use Rattle.std.proofs.Common.{◌≡◌, ◌∙◌, ℕ, zero, suc, ◌+◌, ◌/◌, ◌<◌, ◌≤◌, List, [], ◌∷◌, ◌++◌, length, take, drop, get_or, Some, slice_get, refl, sym, ap, subst, append_assoc, arith}
+use Rattle.std.proofs.Common.{◌≡◌, ◌∙◌, ℕ, ◌+◌, ◌/◌, ◌<◌, ◌≤◌, List, [], ◌∷◌, ◌++◌, length, take, drop, get_or, Some, slice_get, refl, sym, ap, subst, append_assoc, arith}
 use Rattle.std.proofs.lemmas.Grind.{flat_map-append}
-use Rattle.std.proofs.lemmas.List.{append-nil, flat_map_more, length-append, length-drop, length-take}
-use Rattle.std.proofs.lemmas.Option.{none-some, same_Some}
+use Rattle.std.proofs.lemmas.List.{append-nil, flat_map_more, length-drop}
 use Rattle.std.specs.List.{flat_map}
 use Rattle.tso_cert.specs.Trees.{fork, leaf, spelling_of}
 use Rattle.tso_code.specs.Numbers.{number}
 use Rattle.tso_code.specs.States.{state}
-use Rattle.tso_explore.proofs.CuttingLemmas.{all_numbers, from_drop, from_take, got_either, leaf_cut, leaf_more, no_records, strictly_rising}
+use Rattle.tso_explore.proofs.CuttingLemmas.{all_numbers, leaf_cut, leaf_more, no_records, strictly_rising, worked_record}
 use Rattle.tso_explore.proofs.TaskLemmas.{cut_in_two, fork_of_halves}
-use Rattle.tso_explore.specs.Cutting.{AreRecordsOf, IsRecordOf}
-use Rattle.tso_explore.specs.Spelling.{AreRecorders, AreSpelledBehind, CanBeSpelled, IsSpelledBehind, IsSpelledCut, IsStateBehind}
+use Rattle.tso_explore.specs.Cutting.{AreRecordsOf, IsEndAt, IsRecordOf}
+use Rattle.tso_explore.specs.Spelling.{AreSpelledBehind, CanBeSpelled, IsEndedBehind, IsRecordBehind, IsSpelledBehind, IsSpelledCut, IsStateBehind}
 use Rattle.tso_explore.specs.Tasks.{AreHalvesCut, CanBeCut, Numbered, uncut}
 use Rattle.tso_explore.specs.Worked.{AreWorkedOut}
 use Rattle.tso_explore.specs.declared.worked.Worked.{Worked}
+use Rattle.tso_foot.specs.Closed.{IsClosed}
 use Rattle.tso_foot.specs.declared.table.Table.{Table}
 use Rattle.tso_parts.specs.Numbers.{IsNumbered}
 use Rattle.tso_prog.specs.declared.client.Client.{Client}
 use Rattle.tso_rec.specs.Spelling.{a_record}
+use Rattle.tso_rec.specs.declared.record.End.{End}
 use Rattle.tso_rec.specs.declared.record.Record.{Record}
+use Rattle.tso_search.specs.Searched.{AreSearched}
 use Rattle.tso_state.specs.declared.state.State.{State}
 use Rattle.tso_store.specs.Orders.{IsRising}
 
@@ -109,72 +111,38 @@ fork_spelled u left right l r middle bytes ready halves first second between is 
       ∙ ap (λ (w : List ℕ). 1 ∷ (spelling_of first.tree ++ (state between.spelled ++ w))) second.spelled;
 }
 
--- ---- recorders
+-- ---- records
 
--- some of a list
-abbrev pub AreSomeOf : {X : Type 0} → List X → List X → Type 0
-AreSomeOf {X} xs all = (k : ℕ) (x : X) → slice_get xs k ≡ Some x → (j : ℕ) × (slice_get all j ≡ Some x)
+-- the record of a worked state, put together of its state and its end
+pub record_behind : (c : Client) (t : Table) (states spelled : List State) (n : ℕ) (end : End) (o e : List ℕ) → AreSearched c t states → IsClosed c t → spelled ≡ states → IsEndAt c t states n end
+    → IsEndedBehind spelled n end o e → IsRecordBehind (uncut c t states []) n o e
+record_behind c t states spelled n end o e searched closed same ends put =
+    let at : slice_get states n ≡ Some put.spelled = ap (λ (l : List State). slice_get l n) (sym same) ∙ put.at in
+    record { spelled = record { state = put.spelled; end = end }; valid = worked_record c t states n put.spelled end searched closed at (ends put.spelled at); is = put.is }
 
-pub front_of : {X : Type 0} (xs all : List X) (m : ℕ) → xs ≡ take m all → AreSomeOf xs all
-front_of xs all m is k x at = (k, from_take m all k x (ap (λ l. slice_get l k) (sym is) ∙ at))
-
-pub back_of : {X : Type 0} (xs all : List X) (m : ℕ) → xs ≡ drop m all → AreSomeOf xs all
-back_of xs all m is k x at = (m + k, from_drop m all k x (ap (λ l. slice_get l k) (sym is) ∙ at))
-
-pub all_of_them : {X : Type 0} (xs : List X) → AreSomeOf xs xs
-all_of_them xs k x at = (k, at)
-
-pub some_taken : {X : Type 0} (xs all : List X) (m : ℕ) → xs ≡ take m all → 0 < m → 0 < length all → 0 < length xs
-some_taken xs all m is some more = let same = ap length is in let long = length-take m all in omega (arith, same, long, some, more)
+-- ---- halves
 
 pub some_left : {X : Type 0} (xs all : List X) (m : ℕ) → xs ≡ drop m all → m < length all → 0 < length xs
 some_left xs all m is more = let same = ap length is in let long = length-drop m all in omega (arith, same, long, more)
 
--- states cut in two, each half with some of the recorders
-pub spelled_in_two : (c : Client) (t : Table) (states : List State) (ns low high : List ℕ) (all one two : List (List State)) → 64 < length ns → low ≡ take (length ns / 2) ns → high ≡ drop (length ns / 2) ns
-    → CanBeSpelled (uncut c t states ns) all → 0 < length one → 0 < length two → AreSomeOf one all → AreSomeOf two all
-    → AreHalvesCut (uncut c t states ns) (uncut c t states low) (uncut c t states high) × CanBeSpelled (uncut c t states low) one × CanBeSpelled (uncut c t states high) two
-spelled_in_two c t states ns low high all one two many front rest ready some more first second =
-    let cut = cut_in_two c t states ns low high many front rest ready.cut in (
-      cut.0,
-      record { cut = cut.1; recorders = record { some = some; same = λ k r at. let from = first k r at in ready.recorders.same from.0 r from.1 } },
-      record { cut = cut.2; recorders = record { some = more; same = λ k r at. let from = second k r at in ready.recorders.same from.0 r from.1 } },
-    )
+-- states cut in two
+pub spelled_in_two : (c : Client) (t : Table) (states spelled : List State) (ns low high : List ℕ) → 64 < length ns → low ≡ take (length ns / 2) ns → high ≡ drop (length ns / 2) ns → CanBeSpelled (uncut c t states ns) spelled
+    → AreHalvesCut (uncut c t states ns) (uncut c t states low) (uncut c t states high) × CanBeSpelled (uncut c t states low) spelled × CanBeSpelled (uncut c t states high) spelled
+spelled_in_two c t states spelled ns low high many front rest ready =
+    let cut = cut_in_two c t states ns low high many front rest ready.cut in
+    (cut.0, record { cut = cut.1; same = ready.same }, record { cut = cut.2; same = ready.same })
 
-only_recorder : (states r : List State) → r ≡ states → (j : ℕ) (x : List State) → slice_get (r ∷ []) j ≡ Some x → x ≡ states
-only_recorder states r same zero x e = sym (same_Some r x e) ∙ same
-only_recorder states r same (suc j) x e = absurd (none-some x e)
+-- a state of these is one of those that are spelled
+pub state_of_same : (states spelled : List State) (n : ℕ) (o e : List ℕ) → spelled ≡ states → IsStateBehind spelled n o e → IsStateBehind states n o e
+state_of_same states spelled n o e same is = let P : List State → Type 0 = λ l. IsStateBehind l n o e in subst P same is
 
-pub one_more_recorder : (states : List State) (before after : List (List State)) (r : List State) → AreRecorders states before → r ≡ states → after ≡ before ++ r ∷ [] → AreRecorders states after
-one_more_recorder states before after r all same is = record {
-  some =
-      let long = ap length is in
-      let both : length (before ++ r ∷ []) ≡ length before + 1 = length-append before (r ∷ []) in
-      omega (arith, long, both);
-  same = λ k x at. got_either before (r ∷ []) k x (ap (λ l. slice_get l k) (sym is) ∙ at) (λ here. all.same k x here) (λ j past here. only_recorder states r same j x here);
-}
-
-pub first_recorder : (states : List State) (none all : List (List State)) (r : List State) → none ≡ [] → r ≡ states → all ≡ none ++ r ∷ [] → AreRecorders states all
-first_recorder states none all r empty same is =
-    let P : List (List State) → Type 0 = AreRecorders states in
-    subst P (sym (is ∙ ap (λ (l : List (List State)). l ++ r ∷ []) empty)) (record { some = omega arith; same = only_recorder states r same })
-
-pub both_recorders : (states left right : List State) (one two all : List (List State)) → left ≡ states → right ≡ states → AreRecorders left one → AreRecorders right two → all ≡ one ++ two → AreRecorders states all
-both_recorders states left right one two all here there first second is = record {
-  some =
-      let long = ap length is in
-      let both = length-append one two in
-      let some = first.some in
-      omega (arith, long, both, some);
-  same = λ k x at. got_either one two k x (ap (λ l. slice_get l k) (sym is) ∙ at) (λ e. first.same k x e ∙ here) (λ j past e. second.same j x e ∙ there);
-}
+pub number_of_same : (states spelled : List State) (n : ℕ) → spelled ≡ states → n < length states → n < length spelled
+number_of_same states spelled n same lt = let P : List State → Type 0 = λ l. n < length l in subst P (sym same) lt
 
 -- worked states can be spelled
-pub worked_ready : (c : Client) (w : Worked) (all recorders : List (List State)) (ns : List ℕ) → AreWorkedOut c w → IsRising w.store.states ns → IsNumbered w.store.states → AreRecorders w.store.states all
-    → recorders ≡ all → CanBeSpelled (uncut c w.table w.store.states ns) recorders
-worked_ready c w all recorders ns out rising differ are same =
-    let P : List (List State) → Type 0 = λ rs. CanBeSpelled (uncut c w.table w.store.states ns) rs in
-    subst P (sym same) (record {
-      cut = record { searched = out.searched; closed = out.closed; numbers = all_numbers w.store.states ns rising; rising = strictly_rising w.store.states ns rising differ };
-      recorders = are;
-    })
+pub worked_ready : (c : Client) (w : Worked) (spelled : List State) (ns : List ℕ) → AreWorkedOut c w → IsRising w.store.states ns → IsNumbered w.store.states → spelled ≡ w.store.states
+    → CanBeSpelled (uncut c w.table w.store.states ns) spelled
+worked_ready c w spelled ns out rising differ same = record {
+  cut = record { searched = out.searched; closed = out.closed; numbers = all_numbers w.store.states ns rising; rising = strictly_rising w.store.states ns rising differ };
+  same = same;
+}

@@ -18,6 +18,10 @@ abbrev pub IsEndOf : Client → Table → State → End → Type 0
 IsEndOf c t s (Choices choices) = AreChosen c t s choices × (0 < length choices)
 IsEndOf c t s (Order order) = IsOver c s × IsExplained c s (Order order)
 
+-- the same of the state with this number
+abbrev pub IsEndAt : Client → Table → List State → ℕ → End → Type 0
+IsEndAt c t states n e = (s : State) → slice_get states n ≡ Some s → IsEndOf c t s e
+
 -- where no actor has a step, an order explains the calls
 abbrev pub IsExplainedAtEnd : Client → State → Type 0
 IsExplainedAtEnd c s = IsOver c s → HasOrder c.mode c.capacity s.history

@@ -1,5 +1,7 @@
 pub mod Cutting
+pub mod Ordering
 pub mod Outcomes
+pub mod Spelled
 pub mod Spelling
 pub mod Tasks
 pub mod Firsts

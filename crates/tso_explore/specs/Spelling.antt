@@ -1,13 +1,14 @@
 -- Worked states that are spelled as the records of a tree, before there is one. Nothing here need be believed but for the fronts.
 use Rattle.std.specs.Io.KnownBytes.{Appends}
 use Rattle.std.specs.List.{flat_map}
-use Rattle.std.specs.Prelude.{◌≡◌, ◌<◌, ℕ, List, [], ◌∷◌, ◌++◌, get_or, length, Option, Some, slice_get, take}
+use Rattle.std.specs.Prelude.{◌≡◌, ℕ, List, [], ◌∷◌, ◌++◌, get_or, Option, Some, slice_get, take}
 use Rattle.tso_cert.specs.Trees.{Tree, spelling_of}
 use Rattle.tso_code.specs.States.{state}
-use Rattle.tso_explore.specs.Cutting.{AreRecordsOf}
+use Rattle.tso_explore.specs.Cutting.{AreRecordsOf, IsRecordOf}
 use Rattle.tso_explore.specs.Tasks.{AreHalvesCut, CanBeCut, IsCutOf, Numbered}
 use Rattle.tso_list.specs.Beginnings.{AppendsBeginning}
 use Rattle.tso_rec.specs.Spelling.{a_record}
+use Rattle.tso_rec.specs.declared.record.End.{End}
 use Rattle.tso_rec.specs.declared.record.Record.{Record}
 use Rattle.tso_state.specs.declared.state.State.{State}
 
@@ -42,6 +43,18 @@ pub record IsStateBehind (states : List State) (n : ℕ) (old new : List ℕ) : 
   pub at : slice_get states n ≡ Some spelled
   pub is : new ≡ old ++ state spelled
 
+-- the spelling of the record of the state with this number and this end stands behind bytes
+pub record IsEndedBehind (states : List State) (n : ℕ) (e : End) (old new : List ℕ) : Type 0 where
+  pub spelled : State
+  pub at : slice_get states n ≡ Some spelled
+  pub is : new ≡ old ++ a_record (record { state = spelled; end = e })
+
+-- the spelling of a valid record of the state with this number stands behind bytes
+pub record IsRecordBehind (u : Numbered) (n : ℕ) (old new : List ℕ) : Type 0 where
+  pub spelled : Record
+  pub valid : IsRecordOf u.client u.table u.states n spelled
+  pub is : new ≡ old ++ a_record spelled
+
 -- the spellings of the records of the first k of these states stand behind bytes
 pub record AreSpelledBehind (u : Numbered) (k : ℕ) (old new : List ℕ) : Type 0 where
   pub records : List Record
@@ -62,14 +75,9 @@ pub record IsPutInPart (u : Numbered) (old new : Option (List ℕ)) : Type 0 whe
   pub begun : IsFront u front
   pub appended : AppendsBeginning old new front
 
--- ---- recorders
+-- ---- spelling
 
--- some recorders, each of these states
-pub record AreRecorders (states : List State) (recorders : List (List State)) : Type 0 where
-  pub some : 0 < length recorders
-  pub same : (k : ℕ) (r : List State) → slice_get recorders k ≡ Some r → r ≡ states
-
--- states that can be cut, and some recorders of them
-pub record CanBeSpelled (u : Numbered) (all : List (List State)) : Type 0 where
+-- states that can be cut, and the spellings of these states' parts
+pub record CanBeSpelled (u : Numbered) (spelled : List State) : Type 0 where
   pub cut : CanBeCut u
-  pub recorders : AreRecorders u.states all
+  pub same : spelled ≡ u.states

@@ -2,7 +2,7 @@
 
 ghost use Rattle.std.specs.Prelude.{◌≡◌, ◌<◌, ◌≤◌, IfOk, Some, length, slice_get};
 ghost use Rattle.tso_cert.specs.Trees as trees;
-ghost use Rattle.tso_explore.specs.Cutting.{AreNumbers, AreRecordsOf, AreRising, IsCut, IsEndOf, IsExplainedAtEnd, IsRecordOf};
+ghost use Rattle.tso_explore.specs.Cutting.{AreNumbers, AreRecordsOf, AreRising, IsCut, IsEndAt, IsEndOf, IsExplainedAtEnd, IsRecordOf};
 ghost use Rattle.tso_search.specs.Searched.{AreSearched};
 ghost use Rattle.tso_foot.specs.Closed.{IsClosed};
 ghost use Rattle.tso_rec.specs.Keeping as keeping;
@@ -52,10 +52,31 @@ fn end_of(
     }
 }
 
-/// The record of a worked state.
+/// The end of a kept state's record.
 ///
 /// Errors: where a growth was refused.
-pub fn record_of(
+pub fn end_at(
+    alloc: Global,
+    checked: &Checked,
+    table: &Table,
+    store: &Store<'_>,
+    number: u32,
+) -> Result<End, AllocError>
+    requires searched { AreSearched checked.now.client table.now store.now.states }
+    requires there { number < length store.now.states }
+    ensures { IfOk result (λ end. IsEndAt checked.now.client table.now store.now.states number end) }
+{
+    match store.view(number) {
+        Some(view) => {
+            let end = end_of(alloc, checked, table, &view)?;
+            Ok(end)
+        }
+        None => unreachable!(),
+    }
+}
+
+// The record of a worked state.
+fn record_of(
     alloc: Global,
     checked: &Checked,
     table: &Table,
@@ -70,15 +91,10 @@ pub fn record_of(
     requires there { number < length store.now.states }
     ensures { IfOk result (λ k. IsRecordOf checked.now.client table.now store.now.states number (keeping.record_of k)) }
 {
-    match store.view(number) {
-        Some(view) => {
-            let end = end_of(alloc, checked, table, &view)?;
-            let end = share_end(alloc, ends, end)?;
-            match recorder.record(alloc, number, end)? {
-                Some(kept) => Ok(kept),
-                None => unreachable!(),
-            }
-        }
+    let end = end_at(alloc, checked, table, store, number)?;
+    let end = share_end(alloc, ends, end)?;
+    match recorder.record(alloc, number, end)? {
+        Some(kept) => Ok(kept),
         None => unreachable!(),
     }
 }
@@ -107,10 +123,8 @@ fn leaf_of(
     Ok(records)
 }
 
-/// A kept state.
-///
-/// Errors: where a growth was refused.
-pub fn state_at(alloc: Global, store: &Store<'_>, number: u32) -> Result<State, AllocError>
+// A kept state.
+fn state_at(alloc: Global, store: &Store<'_>, number: u32) -> Result<State, AllocError>
     requires { number < length store.now.states }
     ensures { IfOk result (λ s. slice_get store.now.states number ≡ Some s) }
 {

@@ -17,6 +17,7 @@ use crate::cutting::cut_by;
 use crate::ended::{Ended, Stopped};
 use crate::first::First;
 use crate::merging::{add_met, merged};
+use crate::ordering::rising_by;
 use crate::outcome::Outcome;
 use crate::showing::{trace_along, walked};
 use crate::worked::{Finding, Worked};
@@ -841,7 +842,7 @@ pub fn tree_for<R: Threads + Sync>(
 {
     worked.store.states_differ();
     certificates_fit(checked);
-    let numbers = worked.store.rising(alloc)?;
+    let numbers = rising_by(rt, alloc, &worked.store, workers.count())?;
     let cert = cut_by(
         rt,
         alloc,

@@ -2,23 +2,46 @@
 
 ghost use Rattle.std.specs.List.{flat_map};
 ghost use Rattle.std.specs.Prelude.{◌≡◌, ◌<◌, ◌≤◌, ◌++◌, ◌∷◌, [], get_or, IfOk, IfSome, OnOk, length};
-ghost use Rattle.tso_explore.specs.Spelling.{AreSpelledBehind, CanBeSpelled, IsSpelledBehind, IsSpelledCut, IsStateBehind};
+ghost use Rattle.tso_explore.specs.Spelling.{AreSpelledBehind, CanBeSpelled, IsRecordBehind, IsSpelledBehind, IsSpelledCut, IsStateBehind};
 ghost use Rattle.tso_explore.specs.Cutting.{AreNumbers, AreRising};
 ghost use Rattle.tso_explore.specs.Tasks.{AreHalvesCut, uncut};
 ghost use Rattle.tso_explore.specs.Unspelled.{numbers_of};
 ghost use Rattle.tso_foot.specs.Closed.{IsClosed};
 ghost use Rattle.tso_search.specs.Searched.{AreSearched};
 
-use crate::cutting::{LEAF, record_of, state_at};
-use crate::recorder::Recorder;
+use crate::cutting::{LEAF, end_at};
+use crate::speller::Speller;
 use std::alloc::{AllocError, Global};
 use std::thread::Threads;
 use tso_cert::{ALONE, Task, run_by};
-use tso_code::{Code, write_number};
+use tso_code::write_number;
 use tso_flow::Checked;
 use tso_foot::Table;
-use tso_rec::{End, Shelf};
 use tso_store::Store;
+
+// Room for so many bytes is made for each record: most take some fewer.
+const RECORD: usize = 96;
+
+// Puts the record of a state at the end.
+fn put_record(
+    alloc: Global,
+    checked: &Checked,
+    table: &Table,
+    store: &Store<'_>,
+    speller: &Speller<'_>,
+    number: u32,
+    out: &mut Vec<u8>,
+) -> Result<(), AllocError>
+    requires searched { AreSearched checked.now.client table.now store.now.states }
+    requires closed { IsClosed checked.now.client table.now }
+    requires same { speller.now ≡ store.now.states }
+    requires there { number < length store.now.states }
+    ensures { OnOk result (IsRecordBehind (uncut checked.now.client table.now store.now.states []) number out.old.items out.new.items) }
+{
+    let end = end_at(alloc, checked, table, store, number)?;
+    speller.put_record(number, &end, out)?;
+    Ok(())
+}
 
 // Puts the records of these states at the end, without their count.
 fn put_records(
@@ -26,20 +49,18 @@ fn put_records(
     checked: &Checked,
     table: &Table,
     store: &Store<'_>,
-    recorder: &Recorder<'_>,
-    ends: &mut Shelf<End>,
+    speller: &Speller<'_>,
     numbers: &[u32],
     out: &mut Vec<u8>,
 ) -> Result<(), AllocError>
     requires searched { AreSearched checked.now.client table.now store.now.states }
     requires closed { IsClosed checked.now.client table.now }
-    requires same { recorder.now ≡ store.now.states }
+    requires same { speller.now ≡ store.now.states }
     requires numbers { AreNumbers store.now.states numbers.now }
     ensures { OnOk result (AreSpelledBehind (uncut checked.now.client table.now store.now.states numbers.now) (length numbers.now) out.old.items out.new.items) }
 {
     for number in numbers {
-        let kept = record_of(alloc, checked, table, store, recorder, ends, *number)?;
-        kept.write(out)?;
+        put_record(alloc, checked, table, store, speller, *number, out)?;
     }
     Ok(())
 }
@@ -50,38 +71,20 @@ fn put_leaf(
     checked: &Checked,
     table: &Table,
     store: &Store<'_>,
-    recorder: &Recorder<'_>,
-    ends: &mut Shelf<End>,
+    speller: &Speller<'_>,
     numbers: &[u32],
     out: &mut Vec<u8>,
 ) -> Result<(), AllocError>
     requires searched { AreSearched checked.now.client table.now store.now.states }
     requires closed { IsClosed checked.now.client table.now }
-    requires same { recorder.now ≡ store.now.states }
+    requires same { speller.now ≡ store.now.states }
     requires numbers { AreNumbers store.now.states numbers.now }
     requires few { length numbers.now ≤ 64 }
     ensures { OnOk result (IsSpelledBehind (uncut checked.now.client table.now store.now.states numbers.now) out.old.items out.new.items) }
 {
     out.push(0)?;
     write_number(numbers.len() as u64, out)?;
-    put_records(alloc, checked, table, store, recorder, ends, numbers, out)?;
-    Ok(())
-}
-
-/// Puts the spelling of a kept state at the end.
-///
-/// Errors: where a growth was refused.
-pub fn put_state(
-    alloc: Global,
-    store: &Store<'_>,
-    number: u32,
-    out: &mut Vec<u8>,
-) -> Result<(), AllocError>
-    requires { number < length store.now.states }
-    ensures { OnOk result (IsStateBehind store.now.states number out.old.items out.new.items) }
-{
-    let state = state_at(alloc, store, number)?;
-    state.write(out)?;
+    put_records(alloc, checked, table, store, speller, numbers, out)?;
     Ok(())
 }
 
@@ -91,27 +94,26 @@ fn put_tree(
     checked: &Checked,
     table: &Table,
     store: &Store<'_>,
-    recorder: &Recorder<'_>,
-    ends: &mut Shelf<End>,
+    speller: &Speller<'_>,
     numbers: &[u32],
     out: &mut Vec<u8>,
 ) -> Result<(), AllocError>
     requires searched { AreSearched checked.now.client table.now store.now.states }
     requires closed { IsClosed checked.now.client table.now }
-    requires same { recorder.now ≡ store.now.states }
+    requires same { speller.now ≡ store.now.states }
     requires numbers { AreNumbers store.now.states numbers.now }
     requires rising { AreRising store.now.states numbers.now }
     ensures { OnOk result (IsSpelledBehind (uncut checked.now.client table.now store.now.states numbers.now) out.old.items out.new.items) }
 {
     if numbers.len() <= LEAF {
-        put_leaf(alloc, checked, table, store, recorder, ends, numbers, out)?;
+        put_leaf(alloc, checked, table, store, speller, numbers, out)?;
         return Ok(());
     }
     let (low, high) = numbers.split_at(numbers.len() / 2);
     out.push(1)?;
-    put_tree(alloc, checked, table, store, recorder, ends, low, out)?;
-    put_state(alloc, store, high[0], out)?;
-    put_tree(alloc, checked, table, store, recorder, ends, high, out)?;
+    put_tree(alloc, checked, table, store, speller, low, out)?;
+    speller.put_state(high[0], out)?;
+    put_tree(alloc, checked, table, store, speller, high, out)?;
     Ok(())
 }
 
@@ -121,31 +123,28 @@ fn spelled(
     checked: &Checked,
     table: &Table,
     store: &Store<'_>,
-    recorder: &Recorder<'_>,
+    speller: &Speller<'_>,
     numbers: &[u32],
 ) -> Result<Vec<u8>, AllocError>
     requires searched { AreSearched checked.now.client table.now store.now.states }
     requires closed { IsClosed checked.now.client table.now }
-    requires same { recorder.now ≡ store.now.states }
+    requires same { speller.now ≡ store.now.states }
     requires numbers { AreNumbers store.now.states numbers.now }
     requires rising { AreRising store.now.states numbers.now }
     ensures { IfOk result (λ bytes. IsSpelledCut (uncut checked.now.client table.now store.now.states numbers.now) bytes.items) }
 {
-    let mut ends = Shelf::new(alloc);
-    let mut out = Vec::new(alloc);
-    put_tree(
-        alloc, checked, table, store, recorder, &mut ends, numbers, &mut out,
-    )?;
+    let mut out = Vec::with_capacity(alloc, numbers.len().saturating_mul(RECORD))?;
+    put_tree(alloc, checked, table, store, speller, numbers, &mut out)?;
     Ok(out)
 }
 
 // The spelling of a kept state.
-fn state_bytes(alloc: Global, store: &Store<'_>, number: u32) -> Result<Vec<u8>, AllocError>
-    requires { number < length store.now.states }
-    ensures { IfOk result (λ bytes. IsStateBehind store.now.states number [] bytes.items) }
+fn state_bytes(alloc: Global, speller: &Speller<'_>, number: u32) -> Result<Vec<u8>, AllocError>
+    requires { number < length speller.now }
+    ensures { IfOk result (λ bytes. IsStateBehind speller.now number [] bytes.items) }
 {
     let mut bytes = Vec::new(alloc);
-    put_state(alloc, store, number, &mut bytes)?;
+    speller.put_state(number, &mut bytes)?;
     Ok(bytes)
 }
 
@@ -168,22 +167,22 @@ fn fork_of(
     Ok(pieces)
 }
 
-/// States that are to be spelled, by as many threads as there are recorders.
+/// States that are to be spelled.
 #[derive(Drop)]
 pub struct Unspelled<'a> {
     pub alloc: Global,
     pub checked: &'a Checked,
     pub table: &'a Table,
     pub store: &'a Store<'a>,
-    pub recorders: &'a [Recorder<'a>],
+    pub speller: &'a Speller<'a>,
     pub numbers: &'a [u32],
 }
 
 impl<'a> Unspelled<'a> {
-    /// The halves of what is more than a leaf. Each has all recorders, for one after the other.
+    /// The halves of what is more than a leaf.
     pub fn in_turn(&self) -> Option<(Self, Self)>
-        requires ready { CanBeSpelled (numbers_of self.now) self.now.recorders.now }
-        ensures { IfSome result (λ h. AreHalvesCut (numbers_of self.now) (numbers_of h.0) (numbers_of h.1) × CanBeSpelled (numbers_of h.0) h.0.recorders.now × CanBeSpelled (numbers_of h.1) h.1.recorders.now × (0 < length h.1.numbers.now)) }
+        requires ready { CanBeSpelled (numbers_of self.now) self.now.speller.now }
+        ensures { IfSome result (λ h. AreHalvesCut (numbers_of self.now) (numbers_of h.0) (numbers_of h.1) × CanBeSpelled (numbers_of h.0) h.0.speller.now × CanBeSpelled (numbers_of h.1) h.1.speller.now × (0 < length h.1.numbers.now)) }
     {
         let count = self.numbers.len();
         if count <= LEAF {
@@ -195,7 +194,7 @@ impl<'a> Unspelled<'a> {
             checked: self.checked,
             table: self.table,
             store: self.store,
-            recorders: self.recorders,
+            speller: self.speller,
             numbers: low,
         };
         let right = Unspelled {
@@ -203,7 +202,7 @@ impl<'a> Unspelled<'a> {
             checked: self.checked,
             table: self.table,
             store: self.store,
-            recorders: self.recorders,
+            speller: self.speller,
             numbers: high,
         };
         Some((left, right))
@@ -213,11 +212,12 @@ impl<'a> Unspelled<'a> {
     ///
     /// Errors: where a growth was refused.
     pub fn first(&self) -> Result<Vec<u8>, AllocError>
-        requires ready { CanBeSpelled (numbers_of self.now) self.now.recorders.now }
+        requires ready { CanBeSpelled (numbers_of self.now) self.now.speller.now }
         requires some { 0 < length self.now.numbers.now }
         ensures { IfOk result (λ bytes. IsStateBehind self.now.store.now.states (get_or self.now.numbers.now 0 0) [] bytes.items) }
     {
-        state_bytes(self.alloc, self.store, self.numbers[0])
+        let bytes = state_bytes(self.alloc, self.speller, self.numbers[0])?;
+        Ok(bytes)
     }
 }
 
@@ -229,7 +229,7 @@ impl<'a> Task for Unspelled<'a> {
 
     type Output = Vec<Vec<u8>>;
 
-    ghost is_ready = { λ p. CanBeSpelled (numbers_of p) p.recorders.now };
+    ghost is_ready = { λ p. CanBeSpelled (numbers_of p) p.speller.now };
 
     ghost is_output = { λ p pieces. IsSpelledCut (numbers_of p) (flat_map (λ v. v.items) pieces.items) };
 
@@ -242,7 +242,7 @@ impl<'a> Task for Unspelled<'a> {
             self.checked,
             self.table,
             self.store,
-            &self.recorders[0],
+            self.speller,
             self.numbers,
         )?;
         pieces.push(bytes)?;
@@ -251,21 +251,16 @@ impl<'a> Task for Unspelled<'a> {
 
     fn halves(&self) -> Option<(Self, Self)> {
         let count = self.numbers.len();
-        let hands = self.recorders.len();
         if count <= ALONE {
             return None;
         }
-        if hands < 2 {
-            return None;
-        }
         let (low, high) = self.numbers.split_at(count / 2);
-        let (these, those) = self.recorders.split_at(hands - hands / 2);
         let left = Unspelled {
             alloc: self.alloc,
             checked: self.checked,
             table: self.table,
             store: self.store,
-            recorders: these,
+            speller: self.speller,
             numbers: low,
         };
         let right = Unspelled {
@@ -273,7 +268,7 @@ impl<'a> Task for Unspelled<'a> {
             checked: self.checked,
             table: self.table,
             store: self.store,
-            recorders: those,
+            speller: self.speller,
             numbers: high,
         };
         Some((left, right))
@@ -286,21 +281,22 @@ impl<'a> Task for Unspelled<'a> {
         first: Vec<Vec<u8>>,
         second: Vec<Vec<u8>>,
     ) -> Result<Vec<Vec<u8>>, AllocError> {
-        let middle = state_bytes(self.alloc, self.store, right.numbers[0])?;
+        let middle = state_bytes(self.alloc, self.speller, right.numbers[0])?;
         let pieces = fork_of(self.alloc, first, middle, second)?;
         Ok(pieces)
     }
 }
 
-/// The spelling of the tree of these states in pieces, by as many threads as there are recorders.
+/// The spelling of the tree of these states in pieces, by so many workers.
 ///
 /// Errors: where a growth was refused.
 pub fn spelled_by<R: Threads + Sync>(
     rt: &R,
     unspelled: &Unspelled<'_>,
+    workers: u64,
 ) -> Result<Vec<Vec<u8>>, AllocError>
-    requires ready { CanBeSpelled (numbers_of unspelled.now) unspelled.now.recorders.now }
+    requires ready { CanBeSpelled (numbers_of unspelled.now) unspelled.now.speller.now }
     ensures { IfOk result (λ pieces. IsSpelledCut (numbers_of unspelled.now) (flat_map (λ v. v.items) pieces.items)) }
 {
-    run_by(rt, unspelled, unspelled.recorders.len() as u64)
+    run_by(rt, unspelled, workers)
 }

@@ -12,7 +12,8 @@ ghost use Rattle.tso_explore.specs.Worked.{AreWorkedOut, IsWritten, IsWrittenInP
 ghost use Rattle.tso_list.specs.Beginnings.{AppendsBeginning};
 ghost use Rattle.tso_store.specs.Orders.{IsRising};
 
-use crate::recording::recorders_by;
+use crate::ordering::rising_by;
+use crate::speller::Speller;
 use crate::spelling::{Unspelled, spelled_by};
 use crate::worked::Worked;
 use std::alloc::{AllocError, Global};
@@ -29,7 +30,7 @@ use tso_list::write_bytes;
 const SLAB: usize = 1024;
 
 // As many several threads do.
-const SHARED_SLAB: usize = 65_536;
+const SHARED_SLAB: usize = 131_072;
 
 // The front of a certificate, before its tree.
 fn front_of(alloc: Global, table: &Table) -> Result<Vec<u8>, AllocError>
@@ -70,13 +71,14 @@ fn put_pieces<W: Write>(pieces: &[Vec<u8>], out: &mut W) -> Result<(), WriteErro
 fn put_slab<R: Threads + Sync, W: Write>(
     rt: &R,
     whole: &Unspelled<'_>,
+    workers: u64,
     out: &mut W,
 ) -> Result<(), WriteError>
-    requires ready { CanBeSpelled (numbers_of whole.now) whole.now.recorders.now }
+    requires ready { CanBeSpelled (numbers_of whole.now) whole.now.speller.now }
     ensures ok { OnOk result (IsPut (numbers_of whole.now) (W.contents out.old) (W.contents out.new)) }
     ensures err { OnErr result (IsPutInPart (numbers_of whole.now) (W.contents out.old) (W.contents out.new)) }
 {
-    let pieces = spelled_by(rt, whole)?;
+    let pieces = spelled_by(rt, whole, workers)?;
     put_pieces(pieces.as_slice(), out)?;
     Ok(())
 }
@@ -86,25 +88,26 @@ fn put_slabs<R: Threads + Sync, W: Write>(
     rt: &R,
     whole: &Unspelled<'_>,
     halvings: u32,
+    workers: u64,
     out: &mut W,
 ) -> Result<(), WriteError>
-    requires ready { CanBeSpelled (numbers_of whole.now) whole.now.recorders.now }
+    requires ready { CanBeSpelled (numbers_of whole.now) whole.now.speller.now }
     ensures ok { OnOk result (IsPut (numbers_of whole.now) (W.contents out.old) (W.contents out.new)) }
     ensures err { OnErr result (IsPutInPart (numbers_of whole.now) (W.contents out.old) (W.contents out.new)) }
 {
     if halvings == 0 {
-        put_slab(rt, whole, out)?;
+        put_slab(rt, whole, workers, out)?;
         return Ok(());
     }
     let Some((left, right)) = whole.in_turn() else {
-        put_slab(rt, whole, out)?;
+        put_slab(rt, whole, workers, out)?;
         return Ok(());
     };
     put_bytes(&[1], out)?;
-    put_slabs(rt, &left, halvings - 1, out)?;
+    put_slabs(rt, &left, halvings - 1, workers, out)?;
     let middle = right.first()?;
     put_bytes(middle.as_slice(), out)?;
-    put_slabs(rt, &right, halvings - 1, out)?;
+    put_slabs(rt, &right, halvings - 1, workers, out)?;
     Ok(())
 }
 
@@ -134,23 +137,23 @@ fn put_worked<R: Threads + Sync, W: Write>(
     ensures err { OnErr result (IsPutInPart (uncut checked.now.client worked.now.table worked.now.store.states numbers.now) (W.contents out.old) (W.contents out.new)) }
 {
     worked.store.states_differ();
-    let recorders = recorders_by(rt, alloc, &worked.store, workers.count())?;
+    let speller = Speller::new(alloc, &worked.store)?;
     let whole = Unspelled {
         alloc,
         checked,
         table: &worked.table,
         store: &worked.store,
-        recorders: recorders.as_slice(),
+        speller: &speller,
         numbers,
     };
     let halvings = halvings_of(numbers.len(), workers);
-    put_slabs(rt, &whole, halvings, out)?;
+    put_slabs(rt, &whole, halvings, workers.count(), out)?;
     Ok(())
 }
 
 /// Writes worked states as a certificate with this table, by so many workers: what goes out is what `tso_cert::encode` spells of
 /// the table and of a tree of the states' records. It takes memory for the order of the states, and for the bytes of some 1,000 records
-/// where there is one worker, else of some 65,000.
+/// where there is one worker, else of some 131,000.
 ///
 /// Errors: `Io` where a write fails, and `Memory`; a beginning of such bytes has gone out then, perhaps none of them, and nothing
 /// else.
@@ -170,7 +173,7 @@ pub fn write<R: Threads + Sync, W: Write>(
     worked.store.states_differ();
     certificates_fit(checked);
     let front = front_of(alloc, table)?;
-    let numbers = worked.store.rising(alloc)?;
+    let numbers = rising_by(rt, alloc, &worked.store, workers.count())?;
     put_bytes(front.as_slice(), out)?;
     let rising = numbers.as_slice();
     put_worked(rt, alloc, checked, worked, rising, workers, out)?;

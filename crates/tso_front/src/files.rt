@@ -10,6 +10,9 @@ use std::io::{ErrorKind, Read, Write};
 /// The name that stands for standard input where a file is read, and for standard output where one is written.
 pub const STREAM: &str = "-";
 
+// So many bytes are read at once.
+const BLOCK: usize = 65_536;
+
 /// Opens files.
 pub trait Files {
     type Reader: Read + Drop;
@@ -45,7 +48,7 @@ fn read_bytes<R: Read>(
     ensures short { IfOk result (λ bytes. vec_len bytes ≤ limit) }
 {
     let mut bytes = Vec::new(alloc);
-    let mut buffer = [0u8; 4096];
+    let mut buffer = [0u8; BLOCK];
     for _ in 0..u64::MAX {
         let left = limit.saturating_sub(bytes.len());
         let room = left.min(buffer.len());

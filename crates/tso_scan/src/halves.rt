@@ -57,6 +57,8 @@ pub struct Unread<'c, 'b> {
     pub depth: u8,
     pub room: u32,
     pub bytes: &'b [u8],
+    /// So many of the bytes the tree is guessed to take.
+    pub taken: usize,
 }
 
 // ---- a tree that is read
@@ -369,14 +371,16 @@ impl<'c, 'b> Task for Unread<'c, 'b> {
                 if self.depth == 0 {
                     return None;
                 }
-                match right_half(self.alloc, rest) {
+                match right_half(self.alloc, rest, self.taken) {
                     Some(behind) => {
+                        let taken = rest.len().saturating_sub(behind.len());
                         let left = Unread {
                             alloc: self.alloc,
                             checked: self.checked,
                             depth: self.depth - 1,
                             room: self.room,
                             bytes: rest,
+                            taken,
                         };
                         let right = Unread {
                             alloc: self.alloc,
@@ -384,6 +388,7 @@ impl<'c, 'b> Task for Unread<'c, 'b> {
                             depth: self.depth - 1,
                             room: self.room,
                             bytes: behind,
+                            taken: self.taken.saturating_sub(taken),
                         };
                         Some((left, right))
                     }

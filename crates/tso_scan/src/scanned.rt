@@ -103,6 +103,7 @@ fn read_tree<'c>(
         depth: FORKS,
         room: RECORDS,
         bytes,
+        taken: bytes.len(),
     };
     read_alone(&unread)
 }
@@ -123,6 +124,7 @@ fn read_tree_with<'c, R: Threads + Sync>(
         depth: FORKS,
         room: RECORDS,
         bytes,
+        taken: bytes.len(),
     };
     run_by(rt, &unread, workers)
 }

@@ -87,8 +87,9 @@ fn is_led(alloc: Global, bytes: &[u8], tree: &[u8], forks: usize) -> bool {
 }
 
 /// The bytes from where the right half of a fork may begin, behind whose own byte these stand: a tree with as many forks on the
-/// way to its first leaf as the left half has, and before it the state of its first record.
-pub fn right_half(alloc: Global, bytes: &[u8]) -> Option<&[u8]>
+/// way to its first leaf as the left half has, and before it the state of its first record. Both halves are guessed to take so many
+/// bytes: half of the records are mostly half of these, so it is looked for from a little before their middle on.
+pub fn right_half(alloc: Global, bytes: &[u8], taken: usize) -> Option<&[u8]>
     ensures { IfSome result (λ end. IsEnd bytes.now end.now) }
 {
     let forks = forks_before(bytes, MOST);
@@ -96,10 +97,14 @@ pub fn right_half(alloc: Global, bytes: &[u8]) -> Option<&[u8]>
         return None;
     }
     let mut tries = TRIES;
-    for turn in 1..bytes.len() / forks {
+    let turns = bytes.len() / forks;
+    let first = taken / forks / 16 * 7;
+    for step in 0..turns {
         if tries == 0 {
             return None;
         }
+        // From there to the end, and then from the front.
+        let turn = first.saturating_add(step) % turns;
         if let Some(tree) = tree_around(bytes, forks, turn.saturating_mul(forks)) {
             if is_led(alloc, bytes, tree, forks) {
                 return Some(tree);

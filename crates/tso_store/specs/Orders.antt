@@ -9,6 +9,7 @@ use Rattle.tso_state.specs.Order.{state_cmp}
 use Rattle.tso_state.specs.declared.state.State.{State}
 use Rattle.tso_hist.specs.contracts.call.CallOrd.TheImpl as call_impl
 use Rattle.tso_state.specs.contracts.state.ThreadOrd.TheImpl as thread_impl
+use Rattle.tso_store.specs.contracts.rank_rows.RowOrd.TheImpl as row_impl
 use Rattle.tso_store.specs.Numbers.{AreNumbersOf}
 use Rattle.tso_store.specs.declared.key.Key.{Key}
 use Rattle.tso_store.specs.declared.parts.Parts.{Parts}
@@ -60,11 +61,11 @@ pub record AreRanks {X : Type 0} (R : X → X → Ordering) (pool : List X) (ran
   pub all : length ranks ≡ length pool
   pub alike : (n m r s : ℕ) → slice_get ranks n ≡ Some r → slice_get ranks m ≡ Some s → nat_cmp r s ≡ option_cmp R (slice_get pool n) (slice_get pool m)
 
--- these are ranks of the parts of states
-pub record AreRanksOfParts (p : Parts) (r : Ranks) : Type 0 where
-  pub memories : AreRanks (slice_cmp nat_cmp) p.memories r.memories.now
-  pub threads : AreRanks thread_impl.cmp-value.it p.threads r.threads.now
-  pub histories : AreRanks (slice_cmp (slice_cmp call_impl.cmp-value.it)) p.histories r.histories.now
+-- these are ranks of the parts of states: of memories, of threads and of histories
+pub record AreRanksBy (p : Parts) (ms ts hs : List ℕ) : Type 0 where
+  pub memories : AreRanks (slice_cmp nat_cmp) p.memories ms
+  pub threads : AreRanks thread_impl.cmp-value.it p.threads ts
+  pub histories : AreRanks (slice_cmp (slice_cmp call_impl.cmp-value.it)) p.histories hs
 
 -- the rank of a number; 0 where it has none
 abbrev pub rank_at : List ℕ → ℕ → ℕ
@@ -74,10 +75,18 @@ rank_at ranks n = slice_index_or ranks n 0
 abbrev pub rank_of : List ℕ → List ℕ → ℕ → ℕ
 rank_of ranks ns i = rank_at ranks (slice_index_or ns i 0)
 
--- those of a state's parts
-abbrev pub row_at : Ranks → Key → Row
-row_at r k = record {
-  memory = rank_at r.memories.now k.memory;
-  threads = rank_of r.threads.now k.threads 0 ∷ rank_of r.threads.now k.threads 1 ∷ rank_of r.threads.now k.threads 2 ∷ rank_of r.threads.now k.threads 3 ∷ rank_of r.threads.now k.threads 4 ∷ [];
-  history = rank_at r.histories.now k.history;
+-- those of a state's parts, by the ranks of memories, of threads and of histories
+abbrev pub row_by : List ℕ → List ℕ → List ℕ → Key → Row
+row_by memories threads histories k = record {
+  memory = rank_at memories k.memory;
+  threads = rank_of threads k.threads 0 ∷ rank_of threads k.threads 1 ∷ rank_of threads k.threads 2 ∷ rank_of threads k.threads 3 ∷ rank_of threads k.threads 4 ∷ [];
+  history = rank_at histories k.history;
 }
+
+abbrev pub row_at : Ranks → Key → Row
+row_at r k = row_by r.memories.now r.threads.now r.histories.now k
+
+-- a row for each state, and the states are ordered as their rows
+pub record AreRowsOf (states : List State) (rows : List Row) : Type 0 where
+  pub count : length rows ≡ length states
+  pub alike : (n m : ℕ) → option_cmp row_impl.cmp-value.it (slice_get rows n) (slice_get rows m) ≡ option_cmp state_cmp (slice_get states n) (slice_get states m)

@@ -3,7 +3,7 @@ ghost use Rattle.std.specs.Prelude.{◌≡◌, ◌↔◌, ◌+◌, ◌<◌, ◌�
 ghost use Rattle.tso_parts.specs.Numbers.{IsNumbered, IsNowhere};
 ghost use Rattle.tso_parts.specs.declared.refused.Refused.TheVariants as reasons;
 ghost use Rattle.tso_store.specs.Keys.{AreKept, FitsClient, states_at};
-ghost use Rattle.tso_store.specs.Orders.{IsCompared, IsRising};
+ghost use Rattle.tso_store.specs.Orders.{AreRowsOf, IsCompared};
 ghost use Rattle.tso_store.specs.Sheets.{CanStep, IsAdded, IsFound, IsSuccessorOrNone};
 ghost use Rattle.tso_store.specs.Unions.{IsUnion, IsWithinUnion};
 ghost use Rattle.tso_store.specs.declared.fault.AddError.TheVariants as errors;
@@ -14,9 +14,10 @@ use crate::key::{Key, NO_KEY};
 use crate::known::{Known, learn_runs};
 use crate::moved::{add_keys, add_parts};
 use crate::parts::Parts;
-use crate::ranking::{compare_at, key_at, rising};
-use crate::ranks::{Ranks, ranks_of};
+use crate::ranking::{compare_at, key_at};
+use crate::ranks::ranks_of;
 use crate::sought::{Found, Sought, find_step};
+use crate::standings::Standings;
 use crate::stepped::step_key;
 use crate::view::{View, copy_of};
 use crate::viewed_key::{find_view_key, key_of_view, view_fits_client};
@@ -302,22 +303,21 @@ impl<'a> Store<'a> {
         compare_at(&self.parts, &self.keys, a, b)
     }
 
-    /// The numbers of all states, in the order of the states. Each memory, thread and history is ranked among its kind first,
-    /// and states are then ordered by ranks.
+    /// The rows of ranks of all states, which are ordered as these. Each memory, thread and history is ranked among its kind.
     ///
     /// Errors: where a growth was refused.
-    pub fn rising(&self, alloc: Global) -> Result<Vec<u32>, AllocError>
-        ensures { IfOk result (λ ns. IsRising self.now.states ns.items) }
+    pub fn standings(&self, alloc: Global) -> Result<Standings<'_>, AllocError>
+        ensures { IfOk result (AreRowsOf self.now.states) }
     {
         let memories = ranks_of(alloc, &self.parts.memories)?;
         let threads = ranks_of(alloc, &self.parts.threads)?;
         let histories = ranks_of(alloc, &self.parts.histories)?;
-        let ranks = Ranks {
-            memories: memories.as_slice(),
-            threads: threads.as_slice(),
-            histories: histories.as_slice(),
-        };
-        rising(alloc, &self.parts, &self.keys, &ranks)
+        Ok(Standings {
+            keys: &self.keys,
+            memories,
+            threads,
+            histories,
+        })
     }
 
     /// The parts of the states, and for each state, in their order, the numbers of its parts.

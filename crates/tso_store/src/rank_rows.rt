@@ -8,9 +8,9 @@ use crate::ranks::Ranks;
 /// The ranks of a state's memory, threads and history, compared in this order.
 #[derive(Clone, Copy, PartialEq, Eq, PartialOrd, Ord)]
 pub struct Row {
-    memory: u32,
-    threads: [u32; 5],
-    history: u32,
+    pub memory: u32,
+    pub threads: [u32; 5],
+    pub history: u32,
 }
 
 // The rank of a number; 0 where it has none.
