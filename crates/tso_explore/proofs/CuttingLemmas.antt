@@ -1,5 +1,5 @@
 -- Worked states as valid records, and the trees that are cut of them.
-use Rattle.std.proofs.Common.{◌≡◌, ℕ, zero, suc, ◌+◌, ◌*◌, ◌/◌, ◌^◌, ◌<◌, ◌≤◌, Bool, true, false, List, [], ◌∷◌, ◌++◌, length, map, take, drop, get_or, None, Option, Some, slice_get, refl, sym, ap, subst, take-suc, ◌∙◌, arith}
+use Rattle.std.proofs.Common.{◌≡◌, ℕ, zero, suc, ◌+◌, ◌*◌, ◌/◌, ◌^◌, ◌<◌, ◌≤◌, Bool, true, false, List, [], ◌∷◌, ◌++◌, length, map, take, drop, get_or, Option, Some, slice_get, refl, sym, ap, subst, take-suc, ◌∙◌, arith}
 use Rattle.std.proofs.lemmas.Bool.{eqb-false, eqb-true, false≢true}
 use Rattle.std.proofs.lemmas.List.{length-append, take-append-drop, length-take, length-drop}
 use Rattle.std.proofs.lemmas.List.Sorted.{All-permutation, Contains-permutation, length_permutation, sorted_far}
@@ -97,12 +97,6 @@ mapped_at : {X Y : Type 0} (f : X → Y) (xs : List X) (k : ℕ) (x : X) → sli
 mapped_at f [] k x e = absurd (none-some x e)
 mapped_at f (y ∷ xs) zero x e = ap (λ z. Some (f z)) (same_Some y x e)
 mapped_at f (y ∷ xs) (suc k) x e = mapped_at f xs k x e
-
--- an item below the end is there
-pub never_past : {X : Type 0} (xs : List X) (n : ℕ) → slice_get xs n ≡ None → n < length xs → ⊥
-never_past [] n e lt = omega (arith, lt)
-never_past (x ∷ xs) zero e lt = none-some x (sym e)
-never_past (x ∷ xs) (suc n) e lt = never_past xs n e (omega (arith, lt))
 
 -- ---- one record
 

@@ -4,7 +4,7 @@ use Rattle.std.proofs.Math.Seq.{take-suc}
 use Rattle.std.proofs.lemmas.Bool.Decides.{nat_tests}
 use Rattle.std.proofs.lemmas.Grind.{flat_map-append}
 use Rattle.std.proofs.lemmas.List.{append-nil, append_assoc, length-append, length-map, map-append, take-append-drop}
-use Rattle.std.proofs.lemmas.List.Sorted.{Contains-permutation, IsPermutation-append, IsPermutation-append_right, IsPermutation-map, IsPermutation-refl, IsPermutation-sym, IsPermutation-to_front, IsPermutation-trans, IsPermutation-append_left}
+use Rattle.std.proofs.lemmas.List.Sorted.{Contains-permutation, IsPermutation-append, IsPermutation-append_right, IsPermutation-map, IsPermutation-sym, IsPermutation-to_front, IsPermutation-trans, IsPermutation-append_left}
 use Rattle.std.proofs.lemmas.Option.{get_or_from_slice_get, none-some, same_Some, slice_get_within, slice_get-get_or}
 use Rattle.std.specs.List.{flat_map}
 use Rattle.std.specs.List.Sorted.{IsPermutation, IsSorted, IsSortedBy}
@@ -155,18 +155,6 @@ both_ordered rows low mid high gs hs xs ys l h a b = record {
   sorted = sorted_joined (row_lt rows) xs ys a.sorted b.sorted (λ i j x y p q. apart rows low mid high x y (a.among i x p) (b.among j y q));
 }
 
-abbrev pub whole : List ℕ → List ℕ
-whole g = g
-
--- no group
-pub none_ordered : (rows : List Row) (first : ℕ) (groups : List (List ℕ)) (ns : List ℕ) → ns ≡ [] → AreOrdered rows first (first + 0) (flat_map (λ g. g) (take 0 groups)) ns
-none_ordered rows first groups ns none =
-    subst (λ (l : List ℕ). AreOrdered rows first (first + 0) [] l) (sym none) (record {
-      all = IsPermutation-refl [];
-      among = λ i n at. absurd (none-some n at);
-      sorted = λ k d low less. absurd (omega (arith, less));
-    })
-
 one_more_group : (groups : List (List ℕ)) (i : ℕ) (g : List ℕ) → slice_get groups i ≡ Some g → flat_map (λ g. g) (take (i + 1) groups) ≡ flat_map (λ g. g) (take i groups) ++ g
 one_more_group groups i g at =
     let lt : i < length groups = slice_get_within groups i g at in
@@ -183,14 +171,6 @@ more_ordered rows first i groups g old new at done more =
     let far : first + i + 1 ≡ first + (i + 1) = omega arith in
     subst (λ (n : ℕ). AreOrdered rows first n (flat_map (λ g. g) (take (i + 1) groups)) new) far
     (subst (λ (l : List ℕ). AreOrdered rows first (first + i + 1) l new) (sym (one_more_group groups i g at)) (subst (λ (l : List ℕ). AreOrdered rows first (first + i + 1) (flat_map (λ g. g) (take i groups) ++ g) l) (sym more.is) both))
-
-all_taken : {X : Type 0} (xs : List X) → take (length xs) xs ≡ xs
-all_taken [] = refl
-all_taken (x ∷ xs) = ap (λ l. x ∷ l) (all_taken xs)
-
-pub all_ordered : (rows : List Row) (first : ℕ) (groups : List (List ℕ)) (ns : List ℕ) → AreOrdered rows first (first + length groups) (flat_map (λ g. g) (take (length groups) groups)) ns
-    → AreOrdered rows first (first + length groups) (flat_map (λ g. g) groups) ns
-all_ordered rows first groups ns o = subst (λ (gs : List (List ℕ)). AreOrdered rows first (first + length groups) (flat_map (λ g. g) gs) ns) (all_taken groups) o
 
 -- each number of a group has a row
 pub group_numbered : (rows : List Row) (first i : ℕ) (groups : List (List ℕ)) (g : List ℕ) → AreGroups rows first groups → slice_get groups i ≡ Some g → AreNumbered rows g
@@ -298,10 +278,6 @@ put_grouped rows row n old mid new d within same groups is at grouped =
         let these : AreAmong rows (0 + m) (0 + m + 1) (g ++ n ∷ []) = each_joined (IsAmong rows (0 + m) (0 + m + 1)) g (n ∷ []) (groups m g (slice_get-get_or mid m d within)) one in
         subst (λ (k : ℕ). AreAmong rows (0 + k) (0 + k + 1) h) (sym e.0) (subst (AreAmong rows (0 + m) (0 + m + 1)) (sym e.1) these)
     by i h (inr e) = groups i h e.1
-
-pub none_grouped : (rows : List Row) (groups : List (List ℕ)) → groups ≡ [] → AreGrouped rows 0 groups
-none_grouped rows groups none =
-    subst (AreGrouped rows 0) (sym none) (record { groups_are = λ i g at. absurd (none-some g at); all = IsPermutation-refl [] })
 
 -- ---- all states
 
