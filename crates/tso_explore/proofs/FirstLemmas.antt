@@ -1,9 +1,9 @@
 -- What the first states of a search tell.
-use Rattle.std.proofs.Common.{◌≡◌, ◌∙◌, ℕ, zero, suc, ◌<◌, ◌≤◌, ◌⊎◌, inl, inr, Bool, true, false, List, [], ◌∷◌, length, Some, slice_get, refl, sym, ap, subst, arith}
+use Rattle.std.proofs.Common.{◌≡◌, ◌∙◌, ℕ, zero, suc, ◌<◌, ◌≤◌, ◌⊎◌, inl, inr, Bool, true, false, List, [], ◌∷◌, length, get_or, Some, slice_get, refl, sym, ap, subst, arith}
 use Rattle.std.specs.Prelude.{Err, IfOk, MatchBool, Ok, Result}
-use Rattle.std.proofs.lemmas.Option.{none-some, same_Some}
+use Rattle.std.proofs.lemmas.Option.{none-some, same_Some, slice_get-get_or}
 use Rattle.tso_search.proofs.SearchLemmas.{all_searched, begun_first, done_none, longer, searched_stays}
-use Rattle.tso_explore.specs.Firsts.{IsFirstOf, IsFound, IsPaused}
+use Rattle.tso_explore.specs.Firsts.{IsBegunAlone, IsFirstAlone, IsFirstOf, IsFound, IsPaused}
 use Rattle.tso_search.specs.Goodness.{AllGood, IsGood}
 use Rattle.tso_search.specs.Reached.{IsBad, IsBadAt}
 use Rattle.tso_search.specs.Searched.{AreSearched, IsBegun, IsHunting, IsSearched, IsStarted}
@@ -95,3 +95,21 @@ worked_without_pause c t limit states origins number searched low over few small
   | inl high ↦ worked_to_end c t limit states origins number searched low high few
   | inr more ↦ absurd (omega (arith, more, few, small))
 ]
+
+-- states that are searched so far, from which several workers go on
+pub begun_alone : (c : Client) (t : Table) (store : Sheet) (origins : List Origin) (number : ℕ) → store.client ≡ c → IsSearched c t store.states origins number → AllGood c store.states → number ≤ length store.states
+    → IsBegunAlone c t store number
+begun_alone c t store origins number client searched good low = record {
+  client = client;
+  sound = record { met = searched.begun.met; good = good };
+  worked = λ n lt.
+      let s : State = get_or store.states n searched.begun.initial in
+      let at : slice_get store.states n ≡ Some s = slice_get-get_or store.states n searched.begun.initial (omega (arith, lt, low)) in
+      record { state = s; at = at; worked = searched.worked n s lt at };
+}
+
+-- where it stopped
+pub first_alone_as : {E : Type 0} (c : Client) (limit : ℕ) (t : Table) (store : Sheet) (r : Result First E) → IfOk r (IsFound c limit) → IfOk r (IsFirstAlone c limit t store)
+first_alone_as c limit t store (Ok (firsts.Stopped why)) found = found
+first_alone_as c limit t store (Ok (firsts.GoesOn number)) found = absurd found
+first_alone_as c limit t store (Err e) found = tt

@@ -1,6 +1,7 @@
 pub mod CuttingLemmas
 pub mod ExistingLemmas
 pub mod FirstLemmas
+pub mod LoneEnds
 pub mod MergingLemmas
 pub mod OrderingLemmas
 pub mod Sorting

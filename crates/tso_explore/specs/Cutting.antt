@@ -1,10 +1,14 @@
 -- Worked states as the records of a tree.
-use Rattle.std.specs.Prelude.{◌≡◌, ◌+◌, ◌<◌, ◌≤◌, ◌*◌, ◌/◌, ◌^◌, ℕ, List, length, Some, slice_get}
+use Rattle.std.specs.Prelude.{◌≡◌, ◌+◌, ◌<◌, ◌≤◌, ◌*◌, ◌/◌, ◌^◌, ◌==◌, ◌++◌, ℕ, zero, suc, List, [], ◌∷◌, if◌then◌else◌, length, Some, slice_get}
 use Rattle.tso_cert.specs.Lookup.{ForksSplit, IsBelow, tree_states}
 use Rattle.tso_cert.specs.Trees.{IsWithin, Tree, fork, leaf, record_count, records_of}
 use Rattle.tso_choose.specs.Choices.{AreChosen}
+use Rattle.tso_compact.specs.declared.sort.StepKind.{StepKind}
+use Rattle.tso_compact.specs.declared.sort.StepKind.TheVariants as kinds
 use Rattle.tso_fifo.specs.Orders.{HasOrder}
 use Rattle.tso_foot.specs.declared.table.Table.{Table}
+use Rattle.tso_indep.specs.declared.reason.Reason.{Reason}
+use Rattle.tso_indep.specs.declared.reason.Reason.TheVariants as reasons
 use Rattle.tso_rec.specs.Conditions.{IsExplained, IsOver}
 use Rattle.tso_judge.specs.Valid.{IsValidRecord}
 use Rattle.tso_prog.specs.declared.client.Client.{Client}
@@ -12,6 +16,8 @@ use Rattle.tso_rec.specs.declared.record.End.{End}
 use Rattle.tso_rec.specs.declared.record.End.TheVariants.{Choices, Order}
 use Rattle.tso_rec.specs.declared.record.Record.{Record}
 use Rattle.tso_state.specs.declared.state.State.{State}
+use Rattle.tso_store.specs.Lone.{IsFirstLoneCore}
+use Rattle.tso_store.specs.declared.lone.Lone.{Lone}
 
 -- the chosen actors, if there are some; else no actor has a step, and an order explains the calls
 abbrev pub IsEndOf : Client → Table → State → End → Type 0
@@ -21,6 +27,20 @@ IsEndOf c t s (Order order) = IsOver c s × IsExplained c s (Order order)
 -- the same of the state with this number
 abbrev pub IsEndAt : Client → Table → List State → ℕ → End → Type 0
 IsEndAt c t states n e = (s : State) → slice_get states n ≡ Some s → IsEndOf c t s e
+
+-- against each other thread a return has the reason that it is one, and a local step that it is its own
+abbrev pub lone_reason : StepKind → Reason
+lone_reason kinds.Return = reasons.Return
+lone_reason _ = reasons.Own
+
+-- a reason once for each thread below n but thread i
+abbrev pub reasons_but : Reason → ℕ → ℕ → List Reason
+reasons_but r i zero = []
+reasons_but r i (suc j) = if j == i then reasons_but r i j else reasons_but r i j ++ r ∷ []
+
+-- the end of each state of n threads whose lowest core with a step that goes first alone this is
+abbrev pub IsLoneEnd : Lone → ℕ → End → Type 0
+IsLoneEnd l n e = (c : Client) (t : Table) (s : State) → IsFirstLoneCore c s l → length s.threads ≡ n → IsEndOf c t s e
 
 -- where no actor has a step, an order explains the calls
 abbrev pub IsExplainedAtEnd : Client → State → Type 0

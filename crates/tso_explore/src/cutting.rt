@@ -9,6 +9,7 @@ ghost use Rattle.tso_rec.specs.Keeping as keeping;
 ghost use Rattle.tso_state.specs.WellFormed.{IsWellFormed};
 
 use crate::ends::share_end;
+use crate::lone::lone_end;
 use crate::recorder::Recorder;
 use std::alloc::{AllocError, Global};
 use std::boxed::Box;
@@ -19,8 +20,8 @@ use tso_fifo::linearize;
 use tso_flow::Checked;
 use tso_foot::Table;
 use tso_rec::{End, Kept, Packed, Shelf};
-use tso_state::State;
-use tso_store::{Store, View};
+use tso_state::{State, Viewed};
+use tso_store::{Store, View, lone_in};
 
 /// The most records of a leaf.
 pub const LEAF: usize = 64;
@@ -36,6 +37,9 @@ fn end_of(
     requires explained { IsExplainedAtEnd checked.now.client state.now }
     ensures { IfOk result (IsEndOf checked.now.client table.now state.now) }
 {
+    if let Some(lone) = lone_in(checked, state) {
+        return lone_end(alloc, lone, state.thread_count());
+    }
     let choices = choose(alloc, checked, table, state)?;
     if !choices.is_empty() {
         return Ok(End::Choices(choices));

@@ -1,7 +1,7 @@
 //! The search of a client.
 
 ghost use Rattle.std.specs.Prelude.{◌≡◌, ◌≤◌, ◌⊎◌, [], IfOk, IfSome, MatchBool, Some, length, true};
-ghost use Rattle.tso_explore.specs.Firsts.{IsFirstOf, IsFound, IsPaused};
+ghost use Rattle.tso_explore.specs.Firsts.{IsBegunAlone, IsFirstAlone, IsFirstOf, IsFound, IsPaused, IsSoon};
 ghost use Rattle.tso_search.specs.Goodness.{AllGood};
 ghost use Rattle.tso_cert.specs.Trees as trees;
 ghost use Rattle.tso_explore.specs.Outcomes.{IsOutcome, IsStopped};
@@ -15,7 +15,7 @@ ghost use Rattle.tso_table.specs.Leading.{IsKept};
 use crate::closing::are_worked;
 use crate::cutting::cut_by;
 use crate::ended::{Ended, Stopped};
-use crate::first::First;
+use crate::first::{First, Soon};
 use crate::merging::{add_met, merged};
 use crate::ordering::rising_by;
 use crate::outcome::Outcome;
@@ -30,6 +30,7 @@ use tso_foot::{Table, build};
 use tso_judge::certificates_fit;
 use tso_machine::thread_count;
 use tso_pool::{Ending, search as search_together};
+use tso_rounds::in_rounds;
 use tso_search::{Judged, Marks, Origin, Stop, Way, hunt, is_good, search, shortened, trace_to};
 use tso_state::initial_state;
 use tso_store::{AddError, Store};
@@ -38,6 +39,12 @@ use tso_trace::Trace;
 
 /// How many states a search meets before it pauses for hunts.
 const FIRST: u32 = 65_536;
+
+/// How many states the caller meets alone before several workers go on in rounds.
+const ALONE: u32 = 16_384;
+
+/// So many workers go on in rounds at once; of fewer, the caller hunts first, alone.
+const TOGETHER: u64 = 8;
 
 /// A store with the initial state.
 ///
@@ -429,7 +436,7 @@ fn found_whole<R: Wait>(
 }
 
 // What the first states and hunts tell, from the initial state on.
-fn found_soon<R: Wait>(
+fn found_hunting<R: Wait>(
     rt: &R,
     alloc: Global,
     checked: &Checked,
@@ -475,11 +482,46 @@ fn found_early<R: Wait, W: Watch>(
     requires room { store.old.kept ≤ 8 }
     ensures { IfOk result (λ found. IfSome found (IsEnded checked.now.client limit table.now store.new)) }
 {
-    let found = found_soon(rt, alloc, checked, table, store, limit)?;
+    let found = found_hunting(rt, alloc, checked, table, store, limit)?;
     if found.is_some() {
         watch.met(store.len() as u64, 0);
     }
     Ok(found)
+}
+
+// What the first states tell, from the initial state on, and where a search of them is not over how far it has come.
+fn first_alone<R: Wait>(
+    rt: &R,
+    alloc: Global,
+    checked: &Checked,
+    table: &Table,
+    store: &mut Store<'_>,
+    limit: u32,
+) -> Result<First, AllocError>
+    requires client { store.old.client ≡ checked.now.client }
+    requires started { IsStarted checked.now.client store.old.states }
+    requires few { length store.old.states ≤ limit }
+    requires limit { limit ≤ 4194304 }
+    requires room { store.old.kept ≤ 8 }
+    ensures { IfOk result (IsFirstAlone checked.now.client limit table.now store.new) }
+{
+    let mut origins = Vec::new(alloc);
+    if !is_first_good(alloc, checked, store)? {
+        let trace = short_trace(alloc, checked, store, origins.as_slice(), 0)?;
+        return Ok(First::Stopped(Stopped::Trace(trace)));
+    }
+    let mut judged = Judged::new(alloc)?;
+    let marks = Marks::new(alloc);
+    let (ways, noted) = (&mut origins, &mut judged);
+    match search(
+        rt, alloc, checked, table, store, ways, noted, &marks, 0, ALONE, limit, &NoWatch,
+    ) {
+        Ok(number) => Ok(First::GoesOn(number)),
+        Err(stop) => {
+            let slice = origins.as_slice();
+            stopped_first(alloc, checked, table, store, slice, limit, stop, true)
+        }
+    }
 }
 
 // The least closed table of footprints, and a store with the initial state.
@@ -577,6 +619,83 @@ fn finding_of<'c>(
             drop(store);
             drop(table);
             finding_for(checked, why, limit)
+        }
+    }
+}
+
+// What several workers find in rounds, from the first states on that one has searched up to state `number`.
+fn found_in_rounds<'c, R: Threads + Wait + Sync, W: Watch>(
+    rt: &R,
+    alloc: Global,
+    checked: &'c Checked,
+    table: Table,
+    store: Store<'c>,
+    number: u32,
+    workers: u64,
+    limit: u32,
+    watch: &W,
+) -> Result<Soon<'c>, AllocError>
+    requires workers { (1 ≤ workers) × (workers ≤ 64) }
+    requires limit { limit ≤ 4194304 }
+    requires closed { IsClosed checked.now.client table }
+    requires least { IsLeastClosed checked.now.client table }
+    requires begun { IsBegunAlone checked.now.client table store number }
+    ensures { IfOk result (IsSoon checked.now.client limit) }
+{
+    if number as usize >= store.len() {
+        drop(store);
+        drop(table);
+        return Ok(Soon::Few);
+    }
+    match in_rounds(
+        rt, alloc, checked, &table, store, number, workers, limit, watch,
+    ) {
+        Ok(Some(store)) => Ok(Soon::Found(worked_out(checked, table, store, limit))),
+        Ok(None) => {
+            drop(table);
+            Ok(Soon::Unknown)
+        }
+        Err(reason) => {
+            drop(table);
+            Err(reason)
+        }
+    }
+}
+
+// What the first states tell, and rounds from them on, where there is memory.
+fn found_soon<'c, R: Threads + Wait + Sync, W: Watch>(
+    rt: &R,
+    alloc: Global,
+    checked: &'c Checked,
+    workers: u64,
+    limit: u32,
+    watch: &W,
+) -> Result<Soon<'c>, AllocError>
+    requires workers { (1 ≤ workers) × (workers ≤ 64) }
+    requires limit { limit ≤ 4194304 }
+    ensures { IfOk result (IsSoon checked.now.client limit) }
+{
+    let made = begun(alloc, checked)?;
+    let (table, mut store) = made;
+    if store.len() > limit as usize {
+        store.states_differ();
+        drop(store);
+        drop(table);
+        return Ok(Soon::Found(Finding::LimitReached));
+    }
+    match first_alone(rt, alloc, checked, &table, &mut store, limit) {
+        Ok(First::GoesOn(number)) => found_in_rounds(
+            rt, alloc, checked, table, store, number, workers, limit, watch,
+        ),
+        Ok(First::Stopped(why)) => {
+            drop(store);
+            drop(table);
+            Ok(Soon::Found(finding_for(checked, why, limit)))
+        }
+        Err(reason) => {
+            drop(store);
+            drop(table);
+            Err(reason)
         }
     }
 }
@@ -792,8 +911,15 @@ fn explored_by<'c, R: Threads + Wait + Sync, W: Watch + Sync>(
     if count < 2 || count > 64 {
         return explored(rt, alloc, checked, limit, watch);
     }
-    if let Some(finding) = found_first(rt, alloc, checked, limit, watch)? {
-        return Ok(finding);
+    if count < TOGETHER {
+        if let Some(finding) = found_first(rt, alloc, checked, limit, watch)? {
+            return Ok(finding);
+        }
+    }
+    match found_soon(rt, alloc, checked, count, limit, watch)? {
+        Soon::Found(finding) => return Ok(finding),
+        Soon::Unknown => return explored(rt, alloc, checked, limit, watch),
+        Soon::Few => {}
     }
     match explored_together(rt, alloc, checked, count, limit, watch)? {
         Some(finding) => Ok(finding),
@@ -808,8 +934,10 @@ fn explored_by<'c, R: Threads + Wait + Sync, W: Watch + Sync>(
 /// depth, which come to states that lie deep sooner, and then by breadth again. A violation among the first states, or of a hunt by
 /// breadth, is hunted once more by depth, and the shorter trace is handed out, with those labels left out that it does without.
 ///
-/// Several workers search together where the caller, alone, has found no violation among the first states and by these hunts, and
-/// the hunts have left states that are not worked; the watch is then told of theirs. Where several end without an answer, as where a table is not what it was made for, one searches anew.
+/// Several workers go on in rounds where the caller, alone, has met 16,384 states and has found nothing. Of fewer than eight workers
+/// the caller first searches as one worker does, up to its hunts, and where these work all that there is, that is the answer. A client
+/// of fewer states is searched by all of them in shards; the watch is then told of theirs. Where several end without an answer, as
+/// where a run is met that is not good, one searches anew.
 pub fn find<'c, R: Threads + Wait + Sync, W: Watch + Sync>(
     rt: &R,
     alloc: Global,

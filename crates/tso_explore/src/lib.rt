@@ -9,6 +9,7 @@ mod ends;
 mod exploring;
 mod first;
 mod laws;
+mod lone;
 mod merging;
 mod ordering;
 mod outcome;

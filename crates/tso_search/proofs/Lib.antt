@@ -1,5 +1,6 @@
 pub mod GoodLemmas
 pub mod KeptOrders
+pub mod LoneLemmas
 pub mod MarkLemmas
 pub mod SearchLemmas
 pub mod WayLemmas

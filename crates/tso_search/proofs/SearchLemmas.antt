@@ -215,22 +215,28 @@ nobody_followed c t s states is choices chosen i d lt =
 -- ---- a search
 
 -- a state whose chosen steps are followed is worked, and so are those before it
-pub searched_moves : (c : Client) (t : Table) (limit : ℕ) (old new : List State) (origins origins' : List Origin) (number set : ℕ) (s : State)
-    → IsSearched c t old origins number → AllGood c old → GoesOn c limit old new origins' → slice_get old number ≡ Some s → IsChoice c t s set → AreFollowed c old new number set 10
+pub searched_moves : (c : Client) (t : Table) (limit : ℕ) (old new : List State) (origins origins' : List Origin) (number set : ℕ)
+    → IsSearched c t old origins number → AllGood c old → GoesOn c limit old new origins' → number < length old → ((s : State) → slice_get old number ≡ Some s → IsChoice c t s set) → AreFollowed c old new number set 10
     → IsSearched c t new origins' (number + 1)
-searched_moves c t limit old new origins origins' number set s searched good on here is followed = record {
+searched_moves c t limit old new origins origins' number set searched good on inside chosen followed = record {
   begun = on.begun;
   worked = λ n x lt at. by n x at (cases_lt n number) lt;
 }
   where
+    s : State
+    s = get_or old number searched.begun.initial
+
+    here : slice_get old number ≡ Some s
+    here = slice_get-get_or old number searched.begun.initial inside
+
     well : IsWellFormed c s
     well = (searched.begun.met number s here).plausible.well_formed
 
     this : IsWorked c t new s
     this = record {
       set = set;
-      chosen = is;
-      moves = chosen_followed c t s set old new number well is here followed;
+      chosen = chosen s here;
+      moves = chosen_followed c t s set old new number well (chosen s here) here followed;
       unstopped = λ over. (good number s here).unstopped;
       explained = λ over. (good number s here).explained;
     }

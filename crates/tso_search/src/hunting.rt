@@ -8,12 +8,12 @@ ghost use Rattle.tso_state.specs.declared.state.State.{State as StateValue};
 
 use crate::following::follow_all;
 use crate::judging::Judged;
+use crate::looking::chosen_at;
 use crate::marks::Marks;
 use crate::origin::Origin;
 use crate::stop::Stop;
 use crate::track::{Next, Track, Way};
 use std::alloc::Global;
-use tso_choose::chosen;
 use tso_flow::Checked;
 use tso_foot::Table;
 use tso_store::Store;
@@ -81,10 +81,10 @@ fn leave(
     if marks.has(number) {
         return Ok(());
     }
-    let Some(view) = store.view(number) else {
+    if number as usize >= store.len() {
         return Ok(());
-    };
-    let set = chosen(checked, table, &view);
+    }
+    let set = chosen_at(checked, table, store, number);
     if !in_turn && set.count_ones() > 1 {
         track.put_off(number)?;
         return Ok(());

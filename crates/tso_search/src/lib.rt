@@ -5,6 +5,7 @@ mod ending;
 mod following;
 mod hunting;
 mod judging;
+mod looking;
 mod marks;
 mod origin;
 mod searching;
@@ -15,7 +16,8 @@ mod way;
 
 pub use ending::is_good;
 pub use hunting::hunt;
-pub use judging::Judged;
+pub use judging::{Judged, is_new_good};
+pub use looking::chosen_at;
 pub use marks::Marks;
 pub use origin::Origin;
 pub use searching::search;

@@ -7,13 +7,13 @@ ghost use Rattle.tso_search.specs.Searched.{AreDone, IsSearched, IsStop};
 
 use crate::following::follow_all;
 use crate::judging::Judged;
+use crate::looking::chosen_at;
 use crate::marks::Marks;
 use crate::origin::Origin;
 use crate::stop::Stop;
 use std::alloc::Global;
 use std::sync::Wait;
 use tso_cert::Watch;
-use tso_choose::chosen;
 use tso_flow::Checked;
 use tso_foot::Table;
 use tso_store::Store;
@@ -44,10 +44,7 @@ fn work(
     ensures room { store.new.kept ≤ store.old.kept + 40 }
     ensures client { store.new.client ≡ store.old.client }
 {
-    let Some(view) = store.view(number) else {
-        unreachable!()
-    };
-    let set = chosen(checked, table, &view);
+    let set = chosen_at(checked, table, store, number);
     met.clear();
     follow_all(
         alloc, checked, store, origins, judged, number, set, limit, met,

@@ -2,6 +2,7 @@ pub mod Rows
 pub mod Lists
 pub mod Recalls
 pub mod Performed
+pub mod Alone
 pub mod Sheeted
 pub mod Closing
 pub mod Views
@@ -11,3 +12,4 @@ pub mod Risen
 pub mod Histories
 pub mod Ranked
 pub mod Moves
+pub mod Gatherings

@@ -68,7 +68,7 @@ five ts (a ∷ b ∷ c ∷ d ∷ []) e = absurd (omega (arith, e))
 five ts (a ∷ b ∷ c ∷ d ∷ f ∷ []) e = refl
 five ts (a ∷ b ∷ c ∷ d ∷ f ∷ g ∷ ns) e = absurd (omega (arith, e))
 
-key_moved : (others parts : Parts) (r : PartNumbers) (k : Key) (s : State) → AreNumbersIn others parts r → length others.threads < 2 ^ 32 → IsKeyOf others k s → IsKeyOf parts (moved_key r k) s
+pub key_moved : (others parts : Parts) (r : PartNumbers) (k : Key) (s : State) → AreNumbersIn others parts r → length others.threads < 2 ^ 32 → IsKeyOf others k s → IsKeyOf parts (moved_key r k) s
 key_moved others parts r k s are small is =
     let row = moved_row parts.threads others.threads r.threads k.threads s.threads are.threads (omega (arith, small, are.wide)) is.threads in
     let P : List ℕ → Type 0 = λ ns. AreNumbersOf parts.threads ns s.threads in

@@ -173,7 +173,7 @@ stepped c old new k a m own nm nh nt kept small ext planned at mem log left =
 
 -- ---- the state after a step that changes only its thread
 
-next_move : (c : Client) (s : State) (i : ℕ) (t : Thread) (m : Motion) → slice_get s.threads i ≡ Some t → IsNextMotion c (procedure_in s i) t m
+pub next_move : (c : Client) (s : State) (i : ℕ) (t : Thread) (m : Motion) → slice_get s.threads i ≡ Some t → IsNextMotion c (procedure_in s i) t m
     → move (program_of c) (state_of s) (actor_of (Exec i)) ≡ Some (move_of (procedure_in s i) t m)
 next_move c s i t m here next =
     let p = program_of c in

@@ -6,6 +6,8 @@ pub mod Stepping
 pub mod Seeking
 pub mod Orders
 pub mod Likes
+pub mod Lone
 pub mod Marks
 pub mod Unions
 pub mod Moving
+pub mod Gathering

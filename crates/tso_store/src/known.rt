@@ -161,8 +161,8 @@ pub fn next_thread(
     Ok(next)
 }
 
-// What is known of the thread's next step in a call of this procedure.
-fn run_of(
+/// What is known of the thread's next step in a call of this procedure.
+pub fn run_of(
     client: &Client,
     threads: &Catalog<Thread>,
     known: &Seq<Known>,

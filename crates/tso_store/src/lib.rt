@@ -2,10 +2,12 @@
 #![tactic(auto)]
 
 mod fault;
+mod gathered;
 mod history_after;
 mod kept;
 mod key;
 mod known;
+mod lone;
 mod lookup;
 mod moved;
 mod numbered;
@@ -22,7 +24,9 @@ mod view;
 mod viewed_key;
 
 pub use fault::AddError;
+pub use gathered::Gathered;
 pub use key::{Key, NO_KEY, NONE};
+pub use lone::{Lone, lone_in};
 pub use numbered::Store;
 pub use parts::Parts;
 pub use rank_rows::Row;

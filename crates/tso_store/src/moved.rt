@@ -96,8 +96,8 @@ fn moved_at(numbers: &[u32], row: &[u32], place: usize) -> u32
     moved_number(numbers, row.get(place).copied().unwrap_or(NONE))
 }
 
-// The key of the same parts by their new numbers.
-fn moved_key(numbers: &PartNumbers, key: &Key) -> Key
+/// The key of the same parts by their new numbers.
+pub fn moved_key(numbers: &PartNumbers, key: &Key) -> Key
     ensures { result ≡ moved_key numbers.now key.now }
 {
     let row = key.threads.as_slice();

@@ -2,7 +2,8 @@
 ghost use Rattle.std.specs.Prelude.{◌≡◌, ◌↔◌, ◌+◌, ◌<◌, ◌≤◌, ◌^◌, List, [], length, Some, None, Err, IfOk, OnErr, OnOk, IfSome, MatchOption, slice_get};
 ghost use Rattle.tso_parts.specs.Numbers.{IsNumbered, IsNowhere};
 ghost use Rattle.tso_parts.specs.declared.refused.Refused.TheVariants as reasons;
-ghost use Rattle.tso_store.specs.Keys.{AreKept, FitsClient, states_at};
+ghost use Rattle.tso_store.specs.Keys.{AreKept, FitsClient, part_count, states_at};
+ghost use Rattle.tso_store.specs.Lone.{HasNoLoneAt, IsLoneAt};
 ghost use Rattle.tso_store.specs.Orders.{AreRowsOf, IsCompared};
 ghost use Rattle.tso_store.specs.Sheets.{CanStep, IsAdded, IsFound, IsSuccessorOrNone};
 ghost use Rattle.tso_store.specs.Unions.{IsUnion, IsWithinUnion};
@@ -10,11 +11,12 @@ ghost use Rattle.tso_store.specs.declared.fault.AddError.TheVariants as errors;
 
 use crate::fault::AddError;
 use crate::kept::{find_key, fits_client, key_of};
-use crate::key::{Key, NO_KEY};
+use crate::key::Key;
 use crate::known::{Known, learn_runs};
+use crate::lone::{Lone, lone_at};
 use crate::moved::{add_keys, add_parts};
 use crate::parts::Parts;
-use crate::ranking::{compare_at, key_at};
+use crate::ranking::{compare_at, key_at, key_or_none};
 use crate::ranks::ranks_of;
 use crate::sought::{Found, Sought, find_step};
 use crate::standings::Standings;
@@ -26,7 +28,7 @@ use std::cmp::Ordering;
 use std::marker::Model;
 use tso_flow::Checked;
 use tso_list::Seq;
-use tso_parts::{Catalog, Pool, Refused};
+use tso_parts::{Pool, Refused};
 use tso_state::{Actor, State};
 
 /// A client and its states, numbered from 0 in the order in which they came. A state's number stays as more come.
@@ -60,11 +62,7 @@ impl<'a> Store<'a> {
     {
         Store {
             checked,
-            parts: Parts {
-                memories: Catalog::new(alloc, seed),
-                histories: Catalog::new(alloc, seed),
-                threads: Catalog::new(alloc, seed),
-            },
+            parts: Parts::new(alloc, seed),
             keys: Pool::new(alloc, seed),
             known: Seq::new(alloc),
         }
@@ -99,6 +97,17 @@ impl<'a> Store<'a> {
     {
         match self.keys.get(number) {
             Some(key) => View::of_key(&self.parts, key),
+            None => None,
+        }
+    }
+
+    /// The lowest thread of state `number` whose core has a step within its thread, or a return, if there is such a state and such a
+    /// thread. What is remembered of threads' next steps tells it of most states; where it does not, the state is looked at.
+    pub fn lone(&self, number: u32) -> Option<Lone>
+        ensures { MatchOption result (HasNoLoneAt self.now.client self.now.states number) (IsLoneAt self.now.client self.now.states number) }
+    {
+        match self.keys.get(number) {
+            Some(key) => lone_at(self.checked, &self.parts, &self.known, key),
             None => None,
         }
     }
@@ -144,10 +153,7 @@ impl<'a> Store<'a> {
     /// The numbers of the parts of state `number`; those of nothing where there is no such state. They say where to look first
     /// in this store, and nothing rests on them.
     pub fn key(&self, number: u32) -> Key {
-        match self.keys.get(number) {
-            Some(key) => *key,
-            None => NO_KEY,
-        }
+        key_or_none(&self.keys, number)
     }
 
     /// The number of a state that is kept, maybe in another store, and whether it is new here; it is kept here then. It is as
@@ -324,6 +330,7 @@ impl<'a> Store<'a> {
     pub fn keyed_parts(&self) -> (&Parts, &Pool<Key>)
         ensures states { states_at result.0.now result.1.now ≡ self.now.states }
         ensures kept { AreKept self.now.client result.0.now result.1.now }
+        ensures count { self.now.kept ≡ part_count result.0.now + length result.1.now }
     {
         (&self.parts, &self.keys)
     }

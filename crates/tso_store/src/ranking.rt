@@ -1,10 +1,10 @@
 //! How kept states are ordered.
-ghost use Rattle.std.specs.Prelude.{◌≡◌, slice_get};
+ghost use Rattle.std.specs.Prelude.{◌≡◌, slice_get, slice_index_or};
 ghost use Rattle.tso_prog.specs.declared.client.Client.{Client};
 ghost use Rattle.tso_store.specs.Keys.{AreKept, states_at};
 ghost use Rattle.tso_store.specs.Orders.{IsCompared};
 
-use crate::key::Key;
+use crate::key::{Key, NO_KEY};
 use crate::orders::compare_keys;
 use crate::parts::Parts;
 use std::cmp::Ordering;
@@ -15,6 +15,13 @@ pub fn key_at(keys: &Pool<Key>, number: u32) -> Option<Key>
     ensures { result ≡ slice_get keys.now number }
 {
     keys.get(number).copied()
+}
+
+/// The key with this number; the numbers of nothing where there is none.
+pub fn key_or_none(keys: &Pool<Key>, number: u32) -> Key
+    ensures { result ≡ slice_index_or keys.now number NO_KEY }
+{
+    key_at(keys, number).unwrap_or(NO_KEY)
 }
 
 /// How the states with two numbers are ordered, if there are so many.

@@ -1,15 +1,11 @@
-use Rattle.std.proofs.Common.{sym}
 use Rattle.tso_search.proofs.SearchLemmas.{on_both, on_ok, searched_moves}
 use Rattle.tso_search.proofs.searching.work.Goals as goal
-
-pub chosen-set-requires : goal.chosen-set-requires
-chosen-set-requires c = (c.requires.searched.begun.met c.args.number c.in-Some.view (sym c.in-Some.ensures.state)).plausible.well_formed
 
 pub returns-clause-searched : goal.returns-clause-searched
 returns-clause-searched c =
     on_both c.follow_all.result c.follow_all.ensures.on c.follow_all.ensures.followed
     (λ on followed. searched_moves c.args.checked.now.client c.args.table.now c.args.limit c.args.store.now.states c.follow_all.new.store.states c.args.origins.now.items c.follow_all.new.origins.items c.args.number
-    c.chosen-set.result c.in-Some.view c.requires.searched c.requires.good on (sym c.in-Some.ensures.state) c.chosen-set.ensures followed)
+    c.chosen_at-set.result c.requires.searched c.requires.good on c.requires.from c.chosen_at-set.ensures followed)
 
 pub returns-clause-stays : goal.returns-clause-stays
 returns-clause-stays c = on_ok c.follow_all.result c.follow_all.ensures.on (λ on. on.stays)

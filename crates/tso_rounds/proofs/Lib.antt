@@ -1,0 +1,4 @@
+pub mod RegionLemmas
+pub mod GatheringLemmas
+pub mod SettlingLemmas
+pub mod ConclusionLemmas
