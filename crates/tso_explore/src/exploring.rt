@@ -44,7 +44,7 @@ const FIRST: u32 = 65_536;
 const ALONE: u32 = 16_384;
 
 /// So many workers go on in rounds at once; of fewer, the caller hunts first, alone.
-const TOGETHER: u64 = 8;
+const TOGETHER: u64 = 4;
 
 /// A store with the initial state.
 ///
@@ -934,7 +934,7 @@ fn explored_by<'c, R: Threads + Wait + Sync, W: Watch + Sync>(
 /// depth, which come to states that lie deep sooner, and then by breadth again. A violation among the first states, or of a hunt by
 /// breadth, is hunted once more by depth, and the shorter trace is handed out, with those labels left out that it does without.
 ///
-/// Several workers go on in rounds where the caller, alone, has met 16,384 states and has found nothing. Of fewer than eight workers
+/// Several workers go on in rounds where the caller, alone, has met 16,384 states and has found nothing. Of fewer than four workers
 /// the caller first searches as one worker does, up to its hunts, and where these work all that there is, that is the answer. A client
 /// of fewer states is searched by all of them in shards; the watch is then told of theirs. Where several end without an answer, as
 /// where a run is met that is not good, one searches anew.
