@@ -53,11 +53,8 @@ pub trait Task {
         ensures { IfOk result (is_output self.now) };
 }
 
-/// The output of a task that so many workers do. The left half has half of them, and one more of an odd number, and the right
-/// half the rest; a worker alone goes on alone, and where no thread can be started for a half, this one does it.
-///
-/// Errors: where a growth was refused.
-pub fn run_by<R: Threads + Sync, T: Task + Sync + Drop>(
+// The output of a task that so many workers do, of whom each starts those of one half of its own part.
+fn by_halves<R: Threads + Sync, T: Task + Sync + Drop>(
     rt: &R,
     task: &T,
     workers: u64,
@@ -79,13 +76,152 @@ pub fn run_by<R: Threads + Sync, T: Task + Sync + Drop>(
                 || -> Result<T::Output, AllocError>
                     requires { IsSync R.row × IsSync T.row × T.is_ready left.now }
                     ensures { IfOk result (T.is_output left.entry.now) }
-                { run_by(rt, left, more) },
+                { by_halves(rt, left, more) },
                 || -> Result<T::Output, AllocError>
                     requires { IsSync R.row × IsSync T.row × T.is_ready right.now }
                     ensures { IfOk result (T.is_output right.entry.now) }
-                { run_by(rt, right, fewer) },
+                { by_halves(rt, right, fewer) },
             );
             task.joined(left, right, first?, second?)
         }
     }
+}
+
+// The outputs of two tasks, of which each has a part of the workers.
+fn by_two<R: Threads + Sync, T: Task + Sync + Drop>(
+    rt: &R,
+    left: &T,
+    right: &T,
+    workers: u64,
+) -> (Result<T::Output, AllocError>, Result<T::Output, AllocError>)
+    requires left { T.is_ready left.now }
+    requires right { T.is_ready right.now }
+    ensures left { IfOk result.0 (T.is_output left.now) }
+    ensures right { IfOk result.1 (T.is_output right.now) }
+{
+    let fewer = workers / 2;
+    let more = workers - fewer;
+    thread::join(
+        rt,
+        || -> Result<T::Output, AllocError>
+            requires { IsSync R.row × IsSync T.row × T.is_ready left.now }
+            ensures { IfOk result (T.is_output left.entry.now) }
+        { by_halves(rt, left, more) },
+        || -> Result<T::Output, AllocError>
+            requires { IsSync R.row × IsSync T.row × T.is_ready right.now }
+            ensures { IfOk result (T.is_output right.entry.now) }
+        { by_halves(rt, right, fewer) },
+    )
+}
+
+// The outputs of three tasks, of which the first has so many workers.
+fn by_three<R: Threads + Sync, T: Task + Sync + Drop>(
+    rt: &R,
+    first: &T,
+    alone: u64,
+    left: &T,
+    right: &T,
+    workers: u64,
+) -> (
+    Result<T::Output, AllocError>,
+    (Result<T::Output, AllocError>, Result<T::Output, AllocError>),
+)
+    requires first { T.is_ready first.now }
+    requires left { T.is_ready left.now }
+    requires right { T.is_ready right.now }
+    ensures first { IfOk result.0 (T.is_output first.now) }
+    ensures left { IfOk result.1.0 (T.is_output left.now) }
+    ensures right { IfOk result.1.1 (T.is_output right.now) }
+{
+    thread::join(
+        rt,
+        || -> Result<T::Output, AllocError>
+            requires { IsSync R.row × IsSync T.row × T.is_ready first.now }
+            ensures { IfOk result (T.is_output first.entry.now) }
+        { by_halves(rt, first, alone) },
+        || -> (Result<T::Output, AllocError>, Result<T::Output, AllocError>)
+            requires { IsSync R.row × IsSync T.row × T.is_ready left.now × T.is_ready right.now }
+            ensures { IfOk result.0 (T.is_output left.entry.now) × IfOk result.1 (T.is_output right.entry.now) }
+        { by_two(rt, left, right, workers) },
+    )
+}
+
+// The outputs of the halves of a task, from those of their halves. The caller starts all threads: of those that two threads start at
+// one time two may go to one processor, and wait for each other there.
+fn by_quarters<R: Threads + Sync, T: Task + Sync + Drop>(
+    rt: &R,
+    left: &T,
+    right: &T,
+    low: &(T, T),
+    high: &(T, T),
+    workers: u64,
+) -> (Result<T::Output, AllocError>, Result<T::Output, AllocError>)
+    requires low { T.are_halves left.now low.now.0 low.now.1 × T.is_ready left.now × T.is_ready low.now.0 × T.is_ready low.now.1 }
+    requires high { T.are_halves right.now high.now.0 high.now.1 × T.is_ready right.now × T.is_ready high.now.0 × T.is_ready high.now.1 }
+    ensures left { IfOk result.0 (T.is_output left.now) }
+    ensures right { IfOk result.1 (T.is_output right.now) }
+{
+    let fewer = workers / 2;
+    let more = workers - fewer;
+    let (a, b, c, d) = (&low.0, &low.1, &high.0, &high.1);
+    let (first, (second, (third, fourth))) = thread::join(
+        rt,
+        || -> Result<T::Output, AllocError>
+            requires { IsSync R.row × IsSync T.row × T.is_ready a.now }
+            ensures { IfOk result (T.is_output a.entry.now) }
+        { by_halves(rt, a, more - more / 2) },
+        || -> (
+            Result<T::Output, AllocError>,
+            (Result<T::Output, AllocError>, Result<T::Output, AllocError>),
+        )
+            requires { IsSync R.row × IsSync T.row × T.is_ready b.now × T.is_ready c.now × T.is_ready d.now }
+            ensures { IfOk result.0 (T.is_output b.entry.now) × IfOk result.1.0 (T.is_output c.entry.now) × IfOk result.1.1 (T.is_output d.entry.now) }
+        { by_three(rt, b, more / 2, c, d, fewer) },
+    );
+    (
+        joined(left, a, b, first, second),
+        joined(right, c, d, third, fourth),
+    )
+}
+
+// The output of a task from those of its halves, where both were found.
+fn joined<T: Task>(
+    task: &T,
+    left: &T,
+    right: &T,
+    first: Result<T::Output, AllocError>,
+    second: Result<T::Output, AllocError>,
+) -> Result<T::Output, AllocError>
+    requires ready { T.is_ready task.now }
+    requires halves { T.are_halves task.now left.now right.now }
+    requires first { IfOk first (T.is_output left.now) }
+    requires second { IfOk second (T.is_output right.now) }
+    ensures { IfOk result (T.is_output task.now) }
+{
+    task.joined(left, right, first?, second?)
+}
+
+/// The output of a task that so many workers do. The left half has half of them, and one more of an odd number, and the right
+/// half the rest; a worker alone goes on alone, and where no thread can be started for a half, this one does it.
+///
+/// Errors: where a growth was refused.
+pub fn run_by<R: Threads + Sync, T: Task + Sync + Drop>(
+    rt: &R,
+    task: &T,
+    workers: u64,
+) -> Result<T::Output, AllocError>
+    requires ready { T.is_ready task.now }
+    ensures { IfOk result (T.is_output task.now) }
+{
+    if workers < 4 {
+        return by_halves(rt, task, workers);
+    }
+    let Some((left, right)) = task.halves() else {
+        return task.run();
+    };
+    let (Some(low), Some(high)) = (left.halves(), right.halves()) else {
+        return by_halves(rt, task, workers);
+    };
+    let (first, second) = by_quarters(rt, &left, &right, &low, &high, workers);
+    joined(task, &left, &right, first, second)
 }

@@ -136,7 +136,7 @@ fn decide_stored_with<R: Threads + Wait + Sync, N: Notice + Sync>(
                 start: 0,
                 notice,
             };
-            let found = judge_with(rt, &part, workers.count())?;
+            let found = judge_with(rt, part, workers.count())?;
             Ok(verdict_of(found))
         }
     }
@@ -161,7 +161,7 @@ fn decide_tree_with<R: Threads + Wait + Sync, N: Notice + Sync>(
                 start: 0,
                 notice,
             };
-            let found = judge_with(rt, &part, workers.count())?;
+            let found = judge_with(rt, part, workers.count())?;
             Ok(verdict_of(found))
         }
     }

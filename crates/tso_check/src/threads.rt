@@ -1,15 +1,13 @@
 //! Records, judged by several threads.
 
 ghost use Rattle.std.specs.Prelude.{IfOk};
-ghost use Rattle.std.specs.Thread.{IsSync};
 ghost use Rattle.tso_check.specs.Spans.{IsSpanJudged};
 
 use crate::judging::{Bad, Notice, Part};
 use std::alloc::AllocError;
 use std::sync::Wait;
-use std::thread;
 use std::thread::Threads;
-use tso_cert::Watch;
+use tso_cert::{Task, Watch, run_by};
 
 /// Tells a watch of each record.
 #[derive(Drop)]
@@ -24,43 +22,59 @@ impl<'a, R: Wait, W: Watch> Notice for Told<'a, R, W> {
     }
 }
 
-/// The first record of a part that is not valid, by so many workers. At a fork the left half has half of them, and one more of an
-/// odd number, and the right half the rest; a worker alone goes on alone, and where no thread can be started for a half, this one
-/// judges it. What is found in the left half stands, and only where that is nothing, what is found in the right one.
+// A part that several threads judge.
+#[derive(Drop)]
+struct Judging<P: Part> {
+    part: P,
+}
+
+impl<P: Part> Task for Judging<P> {
+    ghost use Rattle.tso_check.specs.Spans.{AreHalves, IsSpanJudged};
+
+    type Output = Option<Bad>;
+
+    ghost is_ready = { λ p. P.is_ready p.part };
+
+    ghost is_output = { λ p found. IsSpanJudged (P.span p.part) found };
+
+    ghost are_halves = { λ p left right. AreHalves (P.span p.part) (P.span left.part) (P.span right.part) };
+
+    fn run(&self) -> Result<Option<Bad>, AllocError> {
+        self.part.judge()
+    }
+
+    fn halves(&self) -> Option<(Self, Self)> {
+        match self.part.halves() {
+            Some((left, right)) => Some((Judging { part: left }, Judging { part: right })),
+            None => None,
+        }
+    }
+
+    fn joined(
+        &self,
+        _left: &Self,
+        _right: &Self,
+        first: Option<Bad>,
+        second: Option<Bad>,
+    ) -> Result<Option<Bad>, AllocError> {
+        match first {
+            Some(bad) => Ok(Some(bad)),
+            None => Ok(second),
+        }
+    }
+}
+
+/// The first record of a part that is not valid, by so many workers (`run_by`), who share a part by the halves of its forks. What is
+/// found in the left half stands, and only where that is nothing, what is found in the right one.
 ///
 /// Errors: where a growth was refused.
 pub fn judge_with<R: Threads + Sync, P: Part + Sync + Drop>(
     rt: &R,
-    part: &P,
+    part: P,
     workers: u64,
 ) -> Result<Option<Bad>, AllocError>
-    requires ready { P.is_ready part.now }
-    ensures { IfOk result (IsSpanJudged (P.span part.now)) }
+    requires ready { P.is_ready part }
+    ensures { IfOk result (IsSpanJudged (P.span part)) }
 {
-    if workers < 2 {
-        return part.judge();
-    }
-    match part.halves() {
-        None => part.judge(),
-        Some((left, right)) => {
-            let fewer = workers / 2;
-            let more = workers - fewer;
-            let (left, right) = (&left, &right);
-            let (one, two) = thread::join(
-                rt,
-                || -> Result<Option<Bad>, AllocError>
-                    requires { IsSync R.row × IsSync P.row × P.is_ready left.now }
-                    ensures { IfOk result (IsSpanJudged (P.span left.entry.now)) }
-                { judge_with(rt, left, more) },
-                || -> Result<Option<Bad>, AllocError>
-                    requires { IsSync R.row × IsSync P.row × P.is_ready right.now }
-                    ensures { IfOk result (IsSpanJudged (P.span right.entry.now)) }
-                { judge_with(rt, right, fewer) },
-            );
-            match one? {
-                Some(bad) => Ok(Some(bad)),
-                None => two,
-            }
-        }
-    }
+    run_by(rt, &Judging { part }, workers)
 }

@@ -1,6 +1,7 @@
 -- Ends of states in which a core's step goes first alone.
 use Rattle.std.proofs.Common.{◌≡◌, ◌∙◌, ℕ, zero, suc, ◌*◌, ◌^◌, ◌<◌, ◌≤◌, ◌==◌, ◌++◌, inl, inr, Bool, true, false, List, [], ◌∷◌, length, if◌then◌else◌, map, Option, None, Some, refl, sym, ap, subst, arith, ne_eqb}
 use Rattle.std.proofs.lemmas.Bool.{cases_lt, eq-eqb}
+use Rattle.std.proofs.lemmas.Option.{same_Some}
 use Rattle.tso_choose.proofs.ChoosingLemmas.{at_number}
 use Rattle.tso_choose.specs.Choices.{actors_below, choice_of, choices_of, reasons_below, reasons_if}
 use Rattle.tso_choose.specs.Closures.{has_bit}
@@ -8,18 +9,23 @@ use Rattle.tso_choose.specs.Sets.{actor_at}
 use Rattle.tso_choose.specs.declared.choice.Choice.{Choice}
 use Rattle.tso_compact.specs.declared.sort.StepKind.{StepKind}
 use Rattle.tso_compact.specs.declared.sort.StepKind.TheVariants as kinds
-use Rattle.tso_explore.specs.Cutting.{IsLoneEnd, lone_reason, reasons_but}
+use Rattle.tso_explore.proofs.CuttingLemmas.{searched_well_formed}
+use Rattle.tso_explore.specs.Cutting.{IsEndAt, IsLoneEnd, lone_reason, reasons_but}
 use Rattle.tso_foot.specs.declared.table.Table.{Table}
 use Rattle.tso_indep.specs.Reasons.{kind_in}
 use Rattle.tso_indep.specs.declared.reason.Reason.{Reason}
 use Rattle.tso_indep.specs.declared.reason.Reason.TheVariants as reasons
+use Rattle.tso_machine.specs.Programs.{calls_of}
 use Rattle.tso_prog.specs.declared.client.Client.{Client}
+use Rattle.tso_rec.specs.declared.record.End.{End}
 use Rattle.tso_rec.specs.declared.record.End.TheVariants.{Choices}
 use Rattle.tso_search.proofs.LoneLemmas.{core_chosen, one_bit, one_core}
+use Rattle.tso_search.specs.Searched.{AreSearched}
+use Rattle.tso_state.proofs.ClientLemmas.{calls_of-width}
 use Rattle.tso_state.specs.declared.actor.Actor.{Actor}
 use Rattle.tso_state.specs.declared.actor.Actor.TheVariants.{Exec}
 use Rattle.tso_state.specs.declared.state.State.{State}
-use Rattle.tso_store.specs.Lone.{IsFirstLoneCore, lone_of}
+use Rattle.tso_store.specs.Lone.{IsFirstLoneCore, IsLoneAt, lone_of}
 use Rattle.tso_store.specs.declared.lone.Lone.{Lone}
 
 -- ---- its actors
@@ -102,3 +108,11 @@ lone_ended l n reason given choices same are is c t s first count =
     let all : choices ≡ choices_of c t s set = made ∙ ap (λ m. alone l m ∷ []) (sym count) ∙ sym (lone_choices c t s l first) in
     let some = ap (λ (xs : List Choice). length xs) is in
     (record { set = set; is = core_chosen c t s l set first (one_core l.thread); all = all }, omega (arith, some))
+
+-- that of a worked state of which the store tells it
+pub lone_end_at : (d c : Client) (t : Table) (states : List State) (n count : ℕ) (l : Lone) (end : End) → d ≡ c → AreSearched c t states → count ≡ length (calls_of c) → IsLoneAt d states n l → IsLoneEnd l count end
+    → IsEndAt c t states n end
+lone_end_at d c t states n count l end same searched all at ended s here =
+    let first : IsFirstLoneCore d s l = subst (λ x. IsFirstLoneCore d x l) (same_Some _ _ (sym at.at ∙ here)) at.first in
+    let sizes = (searched_well_formed c t states n s searched here).sizes in
+    ended c t s (subst (λ x. IsFirstLoneCore x s l) same first) (sizes.threads ∙ sym (all ∙ calls_of-width c))

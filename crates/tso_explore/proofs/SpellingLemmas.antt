@@ -126,11 +126,11 @@ pub some_left : {X : Type 0} (xs all : List X) (m : ℕ) → xs ≡ drop m all �
 some_left xs all m is more = let same = ap length is in let long = length-drop m all in omega (arith, same, long, more)
 
 -- states cut in two
-pub spelled_in_two : (c : Client) (t : Table) (states spelled : List State) (ns low high : List ℕ) → 64 < length ns → low ≡ take (length ns / 2) ns → high ≡ drop (length ns / 2) ns → CanBeSpelled (uncut c t states ns) spelled
-    → AreHalvesCut (uncut c t states ns) (uncut c t states low) (uncut c t states high) × CanBeSpelled (uncut c t states low) spelled × CanBeSpelled (uncut c t states high) spelled
-spelled_in_two c t states spelled ns low high many front rest ready =
+pub spelled_in_two : (c kept : Client) (t : Table) (states spelled : List State) (ns low high : List ℕ) → 64 < length ns → low ≡ take (length ns / 2) ns → high ≡ drop (length ns / 2) ns → CanBeSpelled (uncut c t states ns) kept spelled
+    → AreHalvesCut (uncut c t states ns) (uncut c t states low) (uncut c t states high) × CanBeSpelled (uncut c t states low) kept spelled × CanBeSpelled (uncut c t states high) kept spelled
+spelled_in_two c kept t states spelled ns low high many front rest ready =
     let cut = cut_in_two c t states ns low high many front rest ready.cut in
-    (cut.0, record { cut = cut.1; same = ready.same }, record { cut = cut.2; same = ready.same })
+    (cut.0, record { client = ready.client; cut = cut.1; same = ready.same }, record { client = ready.client; cut = cut.2; same = ready.same })
 
 -- a state of these is one of those that are spelled
 pub state_of_same : (states spelled : List State) (n : ℕ) (o e : List ℕ) → spelled ≡ states → IsStateBehind spelled n o e → IsStateBehind states n o e
@@ -141,8 +141,9 @@ number_of_same states spelled n same lt = let P : List State → Type 0 = λ l. 
 
 -- worked states can be spelled
 pub worked_ready : (c : Client) (w : Worked) (spelled : List State) (ns : List ℕ) → AreWorkedOut c w → IsRising w.store.states ns → IsNumbered w.store.states → spelled ≡ w.store.states
-    → CanBeSpelled (uncut c w.table w.store.states ns) spelled
+    → CanBeSpelled (uncut c w.table w.store.states ns) w.store.client spelled
 worked_ready c w spelled ns out rising differ same = record {
+  client = out.client;
   cut = record { searched = out.searched; closed = out.closed; numbers = all_numbers w.store.states ns rising; rising = strictly_rising w.store.states ns rising differ };
   same = same;
 }

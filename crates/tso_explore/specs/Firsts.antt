@@ -3,7 +3,7 @@ use Rattle.std.specs.Prelude.{◌≡◌, ◌<◌, ◌≤◌, ℕ, Bool, List, le
 use Rattle.tso_search.specs.Goodness.{AllGood}
 use Rattle.tso_explore.specs.Outcomes.{IsStopped}
 use Rattle.tso_explore.specs.Worked.{IsFinding}
-use Rattle.tso_rounds.specs.Regions.{AreSound}
+use Rattle.tso_regions.specs.Regions.{AreSound}
 use Rattle.tso_search.specs.Searched.{AreDone, IsDone, IsSearched}
 use Rattle.tso_explore.specs.declared.first.First.{First}
 use Rattle.tso_explore.specs.declared.first.First.TheVariants as firsts

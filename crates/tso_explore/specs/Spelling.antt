@@ -7,6 +7,7 @@ use Rattle.tso_code.specs.States.{state}
 use Rattle.tso_explore.specs.Cutting.{AreRecordsOf, IsRecordOf}
 use Rattle.tso_explore.specs.Tasks.{AreHalvesCut, CanBeCut, IsCutOf, Numbered}
 use Rattle.tso_list.specs.Beginnings.{AppendsBeginning}
+use Rattle.tso_prog.specs.declared.client.Client.{Client}
 use Rattle.tso_rec.specs.Spelling.{a_record}
 use Rattle.tso_rec.specs.declared.record.End.{End}
 use Rattle.tso_rec.specs.declared.record.Record.{Record}
@@ -77,7 +78,8 @@ pub record IsPutInPart (u : Numbered) (old new : Option (List ℕ)) : Type 0 whe
 
 -- ---- spelling
 
--- states that can be cut, and the spellings of these states' parts
-pub record CanBeSpelled (u : Numbered) (spelled : List State) : Type 0 where
+-- a store of this client has such states, which can be cut, and these are the spellings of their parts
+pub record CanBeSpelled (u : Numbered) (kept : Client) (spelled : List State) : Type 0 where
+  pub client : kept ≡ u.client
   pub cut : CanBeCut u
   pub same : spelled ≡ u.states

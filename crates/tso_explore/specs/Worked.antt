@@ -25,13 +25,15 @@ use Rattle.tso_trace.specs.Runs.{IsErrorTrace}
 
 -- ---- what was found
 
--- all states of the store are worked, and there are no more of them than the limit allows; or this is why the search stopped early
+-- the store is of this client, all its states are worked, and there are no more of them than the limit allows; or this is why the
+-- search stopped early
 abbrev pub IsEnded : Client → ℕ → Table → Sheet → Ended → Type 0
-IsEnded c limit t store endings.Worked = AreSearched c t store.states × (length store.states ≤ limit)
+IsEnded c limit t store endings.Worked = (store.client ≡ c) × AreSearched c t store.states × (length store.states ≤ limit)
 IsEnded c limit t store (endings.Early why) = IsStopped c limit why
 
--- the states are worked by the least closed table
+-- a store of this client, whose states are worked by the least closed table
 pub record AreWorkedOut (c : Client) (w : Worked) : Type 0 where
+  pub client : w.store.client ≡ c
   pub closed : IsClosed c w.table
   pub least : IsLeastClosed c w.table
   pub searched : AreSearched c w.table w.store.states

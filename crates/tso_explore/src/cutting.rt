@@ -19,14 +19,15 @@ use tso_choose::choose;
 use tso_fifo::linearize;
 use tso_flow::Checked;
 use tso_foot::Table;
+use tso_machine::thread_count;
 use tso_rec::{End, Kept, Packed, Shelf};
-use tso_state::{State, Viewed};
-use tso_store::{Store, View, lone_in};
+use tso_state::State;
+use tso_store::{Store, View};
 
 /// The most records of a leaf.
 pub const LEAF: usize = 64;
 
-// The end of a worked state.
+// The end of a worked state, found by looking at it.
 fn end_of(
     alloc: Global,
     checked: &Checked,
@@ -37,9 +38,6 @@ fn end_of(
     requires explained { IsExplainedAtEnd checked.now.client state.now }
     ensures { IfOk result (IsEndOf checked.now.client table.now state.now) }
 {
-    if let Some(lone) = lone_in(checked, state) {
-        return lone_end(alloc, lone, state.thread_count());
-    }
     let choices = choose(alloc, checked, table, state)?;
     if !choices.is_empty() {
         return Ok(End::Choices(choices));
@@ -56,7 +54,8 @@ fn end_of(
     }
 }
 
-/// The end of a kept state's record.
+/// The end of a kept state's record. Where a core's step goes first alone, the store mostly remembers it, and the state is not
+/// looked at.
 ///
 /// Errors: where a growth was refused.
 pub fn end_at(
@@ -66,10 +65,15 @@ pub fn end_at(
     store: &Store<'_>,
     number: u32,
 ) -> Result<End, AllocError>
+    requires client { store.now.client ≡ checked.now.client }
     requires searched { AreSearched checked.now.client table.now store.now.states }
     requires there { number < length store.now.states }
     ensures { IfOk result (λ end. IsEndAt checked.now.client table.now store.now.states number end) }
 {
+    if let Some(lone) = store.lone(number) {
+        let end = lone_end(alloc, lone, thread_count(&checked.client))?;
+        return Ok(end);
+    }
     match store.view(number) {
         Some(view) => {
             let end = end_of(alloc, checked, table, &view)?;
@@ -89,6 +93,7 @@ fn record_of(
     ends: &mut Shelf<End>,
     number: u32,
 ) -> Result<Kept, AllocError>
+    requires client { store.now.client ≡ checked.now.client }
     requires searched { AreSearched checked.now.client table.now store.now.states }
     requires closed { IsClosed checked.now.client table.now }
     requires same { recorder.now ≡ store.now.states }
@@ -113,6 +118,7 @@ fn leaf_of(
     ends: &mut Shelf<End>,
     numbers: &[u32],
 ) -> Result<Packed, AllocError>
+    requires client { store.now.client ≡ checked.now.client }
     requires searched { AreSearched checked.now.client table.now store.now.states }
     requires closed { IsClosed checked.now.client table.now }
     requires same { recorder.now ≡ store.now.states }
@@ -149,6 +155,7 @@ fn tree_of(
     ends: &mut Shelf<End>,
     numbers: &[u32],
 ) -> Result<Cert, AllocError>
+    requires client { store.now.client ≡ checked.now.client }
     requires searched { AreSearched checked.now.client table.now store.now.states }
     requires closed { IsClosed checked.now.client table.now }
     requires same { recorder.now ≡ store.now.states }
@@ -180,6 +187,7 @@ pub fn cut(
     store: &Store<'_>,
     numbers: &[u32],
 ) -> Result<Cert, AllocError>
+    requires client { store.now.client ≡ checked.now.client }
     requires searched { AreSearched checked.now.client table.now store.now.states }
     requires closed { IsClosed checked.now.client table.now }
     requires numbers { AreNumbers store.now.states numbers.now }
@@ -203,12 +211,13 @@ struct Uncut<'a> {
 }
 
 impl<'a> Task for Uncut<'a> {
+    ghost use Rattle.std.specs.Prelude.{◌≡◌};
     ghost use Rattle.tso_cert.specs.Trees as trees;
     ghost use Rattle.tso_explore.specs.Tasks.{AreHalvesCut, CanBeCut, IsCutOf, uncut};
 
     type Output = Cert;
 
-    ghost is_ready = { λ p. CanBeCut (uncut p.checked.now.client p.table.now p.store.now.states p.numbers.now) };
+    ghost is_ready = { λ p. (p.store.now.client ≡ p.checked.now.client) × CanBeCut (uncut p.checked.now.client p.table.now p.store.now.states p.numbers.now) };
 
     ghost is_output = { λ p cert. IsCutOf (uncut p.checked.now.client p.table.now p.store.now.states p.numbers.now) (trees.tree_of cert) };
 
@@ -273,6 +282,7 @@ pub fn cut_by<R: Threads + Sync>(
     numbers: &[u32],
     workers: u64,
 ) -> Result<Cert, AllocError>
+    requires client { store.now.client ≡ checked.now.client }
     requires searched { AreSearched checked.now.client table.now store.now.states }
     requires closed { IsClosed checked.now.client table.now }
     requires numbers { AreNumbers store.now.states numbers.now }

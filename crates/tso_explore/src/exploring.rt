@@ -30,7 +30,7 @@ use tso_foot::{Table, build};
 use tso_judge::certificates_fit;
 use tso_machine::thread_count;
 use tso_pool::{Ending, search as search_together};
-use tso_rounds::in_rounds;
+use tso_regions::by_regions;
 use tso_search::{Judged, Marks, Origin, Stop, Way, hunt, is_good, search, shortened, trace_to};
 use tso_state::initial_state;
 use tso_store::{AddError, Store};
@@ -40,11 +40,8 @@ use tso_trace::Trace;
 /// How many states a search meets before it pauses for hunts.
 const FIRST: u32 = 65_536;
 
-/// How many states the caller meets alone before several workers go on in rounds.
+/// How many states the caller meets alone before several workers go on by regions.
 const ALONE: u32 = 16_384;
-
-/// So many workers go on in rounds at once; of fewer, the caller hunts first, alone.
-const TOGETHER: u64 = 4;
 
 /// A store with the initial state.
 ///
@@ -396,99 +393,6 @@ fn found_from<R: Wait, W: Watch>(
     }
 }
 
-// Whether all is worked behind the hunts of a search that has come to state `number`. Where the first states are all that there are,
-// nothing is said: several workers are to search these.
-fn found_whole<R: Wait>(
-    rt: &R,
-    alloc: Global,
-    checked: &Checked,
-    table: &Table,
-    store: &mut Store<'_>,
-    origins: &mut Vec<Origin>,
-    judged: &mut Judged,
-    marks: &Marks,
-    number: u32,
-    limit: u32,
-) -> Result<Option<Ended>, AllocError>
-    requires paused { IsPaused checked.now.client limit table.now store.old origins.old.items marks.now number }
-    requires limit { limit ≤ 4194304 }
-    ensures { IfOk result (λ found. IfSome found (IsEnded checked.now.client limit table.now store.new)) }
-{
-    if number as usize >= store.len() {
-        return Ok(None);
-    }
-    let pause = store.len() as u32;
-    match search(
-        rt, alloc, checked, table, store, origins, judged, marks, number, pause, limit, &NoWatch,
-    ) {
-        Ok(last) => {
-            if last as usize >= store.len() {
-                return Ok(Some(Ended::Worked));
-            }
-            Ok(None)
-        }
-        Err(stop) => {
-            let slice = origins.as_slice();
-            let why = stopped(alloc, checked, table, store, slice, limit, stop, false)?;
-            Ok(Some(Ended::Early(why)))
-        }
-    }
-}
-
-// What the first states and hunts tell, from the initial state on.
-fn found_hunting<R: Wait>(
-    rt: &R,
-    alloc: Global,
-    checked: &Checked,
-    table: &Table,
-    store: &mut Store<'_>,
-    limit: u32,
-) -> Result<Option<Ended>, AllocError>
-    requires client { store.old.client ≡ checked.now.client }
-    requires started { IsStarted checked.now.client store.old.states }
-    requires few { length store.old.states ≤ limit }
-    requires limit { limit ≤ 4194304 }
-    requires room { store.old.kept ≤ 8 }
-    ensures { IfOk result (λ found. IfSome found (IsEnded checked.now.client limit table.now store.new)) }
-{
-    let mut origins = Vec::new(alloc);
-    let mut judged = Judged::new(alloc)?;
-    let mut marks = Marks::new(alloc);
-    let (ways, noted, worked) = (&mut origins, &mut judged, &mut marks);
-    match first_found(
-        rt, alloc, checked, table, store, ways, noted, worked, limit, &NoWatch,
-    )? {
-        First::Stopped(why) => Ok(Some(Ended::Early(why))),
-        First::GoesOn(number) => found_whole(
-            rt, alloc, checked, table, store, ways, noted, worked, number, limit,
-        ),
-    }
-}
-
-// The same. The watch hears of it at its end alone, and only where that is the answer.
-fn found_early<R: Wait, W: Watch>(
-    rt: &R,
-    alloc: Global,
-    checked: &Checked,
-    table: &Table,
-    store: &mut Store<'_>,
-    limit: u32,
-    watch: &W,
-) -> Result<Option<Ended>, AllocError>
-    requires client { store.old.client ≡ checked.now.client }
-    requires started { IsStarted checked.now.client store.old.states }
-    requires few { length store.old.states ≤ limit }
-    requires limit { limit ≤ 4194304 }
-    requires room { store.old.kept ≤ 8 }
-    ensures { IfOk result (λ found. IfSome found (IsEnded checked.now.client limit table.now store.new)) }
-{
-    let found = found_hunting(rt, alloc, checked, table, store, limit)?;
-    if found.is_some() {
-        watch.met(store.len() as u64, 0);
-    }
-    Ok(found)
-}
-
 // What the first states tell, from the initial state on, and where a search of them is not over how far it has come.
 fn first_alone<R: Wait>(
     rt: &R,
@@ -542,44 +446,11 @@ fn begun<'a>(alloc: Global, checked: &'a Checked) -> Result<(Table, Store<'a>), 
     }
 }
 
-// What the first states and hunts find, where there is memory.
-fn found_first<'c, R: Wait, W: Watch>(
-    rt: &R,
-    alloc: Global,
-    checked: &'c Checked,
-    limit: u32,
-    watch: &W,
-) -> Result<Option<Finding<'c>>, AllocError>
-    requires { limit ≤ 4194304 }
-    ensures { IfOk result (λ found. IfSome found (IsFinding checked.now.client limit)) }
-{
-    let made = begun(alloc, checked)?;
-    let (table, mut store) = made;
-    if store.len() > limit as usize {
-        store.states_differ();
-        drop(store);
-        drop(table);
-        return Ok(Some(Finding::LimitReached));
-    }
-    match found_early(rt, alloc, checked, &table, &mut store, limit, watch) {
-        Ok(Some(ended)) => Ok(Some(finding_of(checked, table, store, ended, limit))),
-        Ok(None) => {
-            drop(store);
-            drop(table);
-            Ok(None)
-        }
-        Err(reason) => {
-            drop(store);
-            drop(table);
-            Err(reason)
-        }
-    }
-}
-
 // What a search found that all states of this store are worked by.
 fn worked_out<'c>(checked: &Checked, table: Table, store: Store<'c>, limit: u32) -> Finding<'c>
     requires closed { IsClosed checked.now.client table }
     requires least { IsLeastClosed checked.now.client table }
+    requires client { store.client ≡ checked.now.client }
     requires searched { AreSearched checked.now.client table store.states }
     requires few { length store.states ≤ limit }
     requires limit { limit ≤ 4194304 }
@@ -623,8 +494,8 @@ fn finding_of<'c>(
     }
 }
 
-// What several workers find in rounds, from the first states on that one has searched up to state `number`.
-fn found_in_rounds<'c, R: Threads + Wait + Sync, W: Watch>(
+// What several workers find by regions, from the first states on that one has searched up to state `number`.
+fn found_by_regions<'c, R: Threads + Wait + Sync, W: Watch + Sync>(
     rt: &R,
     alloc: Global,
     checked: &'c Checked,
@@ -647,7 +518,7 @@ fn found_in_rounds<'c, R: Threads + Wait + Sync, W: Watch>(
         drop(table);
         return Ok(Soon::Few);
     }
-    match in_rounds(
+    match by_regions(
         rt, alloc, checked, &table, store, number, workers, limit, watch,
     ) {
         Ok(Some(store)) => Ok(Soon::Found(worked_out(checked, table, store, limit))),
@@ -662,8 +533,8 @@ fn found_in_rounds<'c, R: Threads + Wait + Sync, W: Watch>(
     }
 }
 
-// What the first states tell, and rounds from them on, where there is memory.
-fn found_soon<'c, R: Threads + Wait + Sync, W: Watch>(
+// What the first states tell, and a search by regions from them on, where there is memory.
+fn found_soon<'c, R: Threads + Wait + Sync, W: Watch + Sync>(
     rt: &R,
     alloc: Global,
     checked: &'c Checked,
@@ -684,7 +555,7 @@ fn found_soon<'c, R: Threads + Wait + Sync, W: Watch>(
         return Ok(Soon::Found(Finding::LimitReached));
     }
     match first_alone(rt, alloc, checked, &table, &mut store, limit) {
-        Ok(First::GoesOn(number)) => found_in_rounds(
+        Ok(First::GoesOn(number)) => found_by_regions(
             rt, alloc, checked, table, store, number, workers, limit, watch,
         ),
         Ok(First::Stopped(why)) => {
@@ -911,11 +782,6 @@ fn explored_by<'c, R: Threads + Wait + Sync, W: Watch + Sync>(
     if count < 2 || count > 64 {
         return explored(rt, alloc, checked, limit, watch);
     }
-    if count < TOGETHER {
-        if let Some(finding) = found_first(rt, alloc, checked, limit, watch)? {
-            return Ok(finding);
-        }
-    }
     match found_soon(rt, alloc, checked, count, limit, watch)? {
         Soon::Found(finding) => return Ok(finding),
         Soon::Unknown => return explored(rt, alloc, checked, limit, watch),
@@ -934,10 +800,9 @@ fn explored_by<'c, R: Threads + Wait + Sync, W: Watch + Sync>(
 /// depth, which come to states that lie deep sooner, and then by breadth again. A violation among the first states, or of a hunt by
 /// breadth, is hunted once more by depth, and the shorter trace is handed out, with those labels left out that it does without.
 ///
-/// Several workers go on in rounds where the caller, alone, has met 16,384 states and has found nothing. Of fewer than four workers
-/// the caller first searches as one worker does, up to its hunts, and where these work all that there is, that is the answer. A client
-/// of fewer states is searched by all of them in shards; the watch is then told of theirs. Where several end without an answer, as
-/// where a run is met that is not good, one searches anew.
+/// Several workers go on by regions where the caller, alone, has met 16,384 states and has found nothing. A client of fewer states is
+/// searched by all of them in shards; the watch is then told of theirs. Where several end without an answer, as where a run is met
+/// that is not good, one searches anew.
 pub fn find<'c, R: Threads + Wait + Sync, W: Watch + Sync>(
     rt: &R,
     alloc: Global,

@@ -32,6 +32,7 @@ fn put_record(
     number: u32,
     out: &mut Vec<u8>,
 ) -> Result<(), AllocError>
+    requires client { store.now.client ≡ checked.now.client }
     requires searched { AreSearched checked.now.client table.now store.now.states }
     requires closed { IsClosed checked.now.client table.now }
     requires same { speller.now ≡ store.now.states }
@@ -53,6 +54,7 @@ fn put_records(
     numbers: &[u32],
     out: &mut Vec<u8>,
 ) -> Result<(), AllocError>
+    requires client { store.now.client ≡ checked.now.client }
     requires searched { AreSearched checked.now.client table.now store.now.states }
     requires closed { IsClosed checked.now.client table.now }
     requires same { speller.now ≡ store.now.states }
@@ -75,6 +77,7 @@ fn put_leaf(
     numbers: &[u32],
     out: &mut Vec<u8>,
 ) -> Result<(), AllocError>
+    requires client { store.now.client ≡ checked.now.client }
     requires searched { AreSearched checked.now.client table.now store.now.states }
     requires closed { IsClosed checked.now.client table.now }
     requires same { speller.now ≡ store.now.states }
@@ -98,6 +101,7 @@ fn put_tree(
     numbers: &[u32],
     out: &mut Vec<u8>,
 ) -> Result<(), AllocError>
+    requires client { store.now.client ≡ checked.now.client }
     requires searched { AreSearched checked.now.client table.now store.now.states }
     requires closed { IsClosed checked.now.client table.now }
     requires same { speller.now ≡ store.now.states }
@@ -126,6 +130,7 @@ fn spelled(
     speller: &Speller<'_>,
     numbers: &[u32],
 ) -> Result<Vec<u8>, AllocError>
+    requires client { store.now.client ≡ checked.now.client }
     requires searched { AreSearched checked.now.client table.now store.now.states }
     requires closed { IsClosed checked.now.client table.now }
     requires same { speller.now ≡ store.now.states }
@@ -181,8 +186,8 @@ pub struct Unspelled<'a> {
 impl<'a> Unspelled<'a> {
     /// The halves of what is more than a leaf.
     pub fn in_turn(&self) -> Option<(Self, Self)>
-        requires ready { CanBeSpelled (numbers_of self.now) self.now.speller.now }
-        ensures { IfSome result (λ h. AreHalvesCut (numbers_of self.now) (numbers_of h.0) (numbers_of h.1) × CanBeSpelled (numbers_of h.0) h.0.speller.now × CanBeSpelled (numbers_of h.1) h.1.speller.now × (0 < length h.1.numbers.now)) }
+        requires ready { CanBeSpelled (numbers_of self.now) self.now.store.now.client self.now.speller.now }
+        ensures { IfSome result (λ h. AreHalvesCut (numbers_of self.now) (numbers_of h.0) (numbers_of h.1) × CanBeSpelled (numbers_of h.0) h.0.store.now.client h.0.speller.now × CanBeSpelled (numbers_of h.1) h.1.store.now.client h.1.speller.now × (0 < length h.1.numbers.now)) }
     {
         let count = self.numbers.len();
         if count <= LEAF {
@@ -212,7 +217,7 @@ impl<'a> Unspelled<'a> {
     ///
     /// Errors: where a growth was refused.
     pub fn first(&self) -> Result<Vec<u8>, AllocError>
-        requires ready { CanBeSpelled (numbers_of self.now) self.now.speller.now }
+        requires ready { CanBeSpelled (numbers_of self.now) self.now.store.now.client self.now.speller.now }
         requires some { 0 < length self.now.numbers.now }
         ensures { IfOk result (λ bytes. IsStateBehind self.now.store.now.states (get_or self.now.numbers.now 0 0) [] bytes.items) }
     {
@@ -229,7 +234,7 @@ impl<'a> Task for Unspelled<'a> {
 
     type Output = Vec<Vec<u8>>;
 
-    ghost is_ready = { λ p. CanBeSpelled (numbers_of p) p.speller.now };
+    ghost is_ready = { λ p. CanBeSpelled (numbers_of p) p.store.now.client p.speller.now };
 
     ghost is_output = { λ p pieces. IsSpelledCut (numbers_of p) (flat_map (λ v. v.items) pieces.items) };
 
@@ -295,7 +300,7 @@ pub fn spelled_by<R: Threads + Sync>(
     unspelled: &Unspelled<'_>,
     workers: u64,
 ) -> Result<Vec<Vec<u8>>, AllocError>
-    requires ready { CanBeSpelled (numbers_of unspelled.now) unspelled.now.speller.now }
+    requires ready { CanBeSpelled (numbers_of unspelled.now) unspelled.now.store.now.client unspelled.now.speller.now }
     ensures { IfOk result (λ pieces. IsSpelledCut (numbers_of unspelled.now) (flat_map (λ v. v.items) pieces.items)) }
 {
     run_by(rt, unspelled, workers)

@@ -74,7 +74,7 @@ fn put_slab<R: Threads + Sync, W: Write>(
     workers: u64,
     out: &mut W,
 ) -> Result<(), WriteError>
-    requires ready { CanBeSpelled (numbers_of whole.now) whole.now.speller.now }
+    requires ready { CanBeSpelled (numbers_of whole.now) whole.now.store.now.client whole.now.speller.now }
     ensures ok { OnOk result (IsPut (numbers_of whole.now) (W.contents out.old) (W.contents out.new)) }
     ensures err { OnErr result (IsPutInPart (numbers_of whole.now) (W.contents out.old) (W.contents out.new)) }
 {
@@ -91,7 +91,7 @@ fn put_slabs<R: Threads + Sync, W: Write>(
     workers: u64,
     out: &mut W,
 ) -> Result<(), WriteError>
-    requires ready { CanBeSpelled (numbers_of whole.now) whole.now.speller.now }
+    requires ready { CanBeSpelled (numbers_of whole.now) whole.now.store.now.client whole.now.speller.now }
     ensures ok { OnOk result (IsPut (numbers_of whole.now) (W.contents out.old) (W.contents out.new)) }
     ensures err { OnErr result (IsPutInPart (numbers_of whole.now) (W.contents out.old) (W.contents out.new)) }
 {

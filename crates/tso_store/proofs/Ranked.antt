@@ -1,14 +1,14 @@
 -- Ranks of kept values.
-use Rattle.std.proofs.Common.{◌≡◌, ℕ, zero, suc, ◌<◌, ◌≤◌, Bool, true, false, List, [], ◌∷◌, ◌++◌, length, map, Option, Some, refl, sym, ap, subst, ◌∙◌, arith, get_or, slice_get}
+use Rattle.std.proofs.Common.{◌≡◌, ℕ, zero, suc, ◌+◌, ◌<◌, ◌≤◌, ◌⊎◌, inl, inr, Bool, true, false, List, [], ◌∷◌, ◌++◌, length, map, Option, Some, refl, sym, ap, subst, ◌∙◌, arith, get_or, slice_get, slice_set}
 use Rattle.std.proofs.lemmas.Bool.{false≢true, true≢false}
 use Rattle.std.proofs.lemmas.List.MinMax.{ranks_by}
-use Rattle.std.proofs.lemmas.List.Sorted.{Contains-permutation, sorted_far}
+use Rattle.std.proofs.lemmas.List.Sorted.{Contains-permutation, IsPermutation-sym, sorted_far}
 use Rattle.std.proofs.lemmas.List.{length_push}
-use Rattle.std.proofs.lemmas.Option.{get_or_from_slice_get}
+use Rattle.std.proofs.lemmas.Option.{get_or_from_slice_get, same_Some, slice_get-get_or}
 use Rattle.std.specs.Cmp.{IsTotalOrder, ranks}
 use Rattle.std.specs.Cmp.Lexicographic.{options_total, slice_cmp}
 use Rattle.std.specs.List.{Contains}
-use Rattle.std.specs.List.Sorted.{IsPartitionedBy, IsSortedBy}
+use Rattle.std.specs.List.Sorted.{IsPermutation, IsSortedBy}
 use Rattle.std.specs.Option.{option_cmp}
 use Rattle.std.specs.Ordering.{MatchOrdering, is_eq, is_lt, nat_cmp, ordering_reverse, ordering_then}
 use Rattle.std.specs.declared.cmp.Ordering.{Ordering}
@@ -17,7 +17,7 @@ use Rattle.tso_parts.proofs.Marked.{found_or_not, item_at, new_item, of_longer, 
 use Rattle.tso_list.specs.Same.{IsExact}
 use Rattle.tso_parts.specs.Numbers.{IsNumbered}
 use Rattle.tso_store.specs.Numbers.{AreNumbersOf}
-use Rattle.tso_store.specs.Orders.{AreRanks, IsInOrder, IsRankIn, numbers_below, rank_at, rank_of}
+use Rattle.tso_store.specs.Orders.{AreRanks, HasPlace, IsInOrder, numbers_below, rank_at, rank_of}
 
 is_less : (o : Ordering) → is_lt o ≡ true → o ≡ Less
 is_less Less e = refl
@@ -30,26 +30,13 @@ by_order zero (suc b) less most = less (omega arith)
 by_order (suc a) zero less most = most (omega arith)
 by_order (suc a) (suc b) less most = by_order a b (λ h. less (omega (arith, h))) (λ h. most (omega (arith, h)))
 
-below : {K : Type 0} (O : K → K → Ordering) → IsTotalOrder O → (a b c : K) → is_lt (O b a) ≡ false → is_lt (O b c) ≡ true → is_lt (O a c) ≡ true
-below O o a b c e f = by_case (O b a) refl
-  where
-    by_case : (r : Ordering) → O b a ≡ r → is_lt (O a c) ≡ true
-    by_case Less s = absurd (true≢false (sym (ap is_lt s) ∙ e))
-    by_case Equal s = ap is_lt (sym (o.congr b a c s)) ∙ f
-    by_case Greater s = ap is_lt (o.trans a b c (o.antisymm a b ∙ ap ordering_reverse s) (is_less (O b c) f))
-
-not_itself : {K : Type 0} (O : K → K → Ordering) → IsTotalOrder O → (a : K) → is_lt (O a a) ≡ true → ⊥
-not_itself O o a e =
-    let l : O a a ≡ Less = is_less (O a a) e in
-    let same : Less ≡ Greater = sym l ∙ o.antisymm a a ∙ ap ordering_reverse l in
-    true≢false (ap is_lt same)
-
--- the numbers of values below one come first
-pub parted : {X : Type 0} (R : X → X → Ordering) → IsTotalOrder R → (pool : List X) (ns : List ℕ) (n : ℕ) → IsSortedBy (λ a b. is_lt (option_cmp R (slice_get pool a) (slice_get pool b))) ns
-    → IsPartitionedBy (λ m. is_lt (option_cmp R (slice_get pool m) (slice_get pool n))) ns
-parted R o pool ns n up i j d le lt e =
-    let far = sorted_far (λ a b. is_lt (option_cmp R (slice_get pool a) (slice_get pool b))) (ranks_by (options_total o) (slice_get pool)) ns up i j d le lt in
-    below (option_cmp R) (options_total o) (slice_get pool (get_or ns i d)) (slice_get pool (get_or ns j d)) (slice_get pool n) far e
+-- no number is that of a value above one that stands behind it
+not_above : {X : Type 0} (R : X → X → Ordering) → IsTotalOrder R → (pool : List X) (ns : List ℕ) (i j n m : ℕ) → IsSortedBy (λ a b. is_lt (option_cmp R (slice_get pool a) (slice_get pool b))) ns
+    → i ≤ j → slice_get ns i ≡ Some n → slice_get ns j ≡ Some m → is_lt (option_cmp R (slice_get pool m) (slice_get pool n)) ≡ false
+not_above R o pool ns i j n m up le a b =
+    let far = sorted_far (λ a b. is_lt (option_cmp R (slice_get pool a) (slice_get pool b))) (ranks_by (options_total o) (slice_get pool)) ns up i j 0 le (within ns j m b) in
+    ap (λ (k : ℕ). is_lt (option_cmp R (slice_get pool m) (slice_get pool k))) (sym (get_or_from_slice_get ns i n 0 a))
+    ∙ ap (λ (k : ℕ). is_lt (option_cmp R (slice_get pool k) (slice_get pool (get_or ns i 0)))) (sym (get_or_from_slice_get ns j m 0 b)) ∙ far
 
 pub length_below : (n : ℕ) → length (numbers_below n) ≡ n
 length_below zero = refl
@@ -64,22 +51,51 @@ own_place (suc n) k less = found_or_not k n (omega (arith, less))
 contains_below : (n k : ℕ) → k < n → Contains (numbers_below n) k
 contains_below n k less = let h = length_below n in (k, omega (arith, h, less), get_or_from_slice_get (numbers_below n) k k k (own_place n k less))
 
--- a value below another has a lower rank
-rank_less : {X : Type 0} (R : X → X → Ordering) → IsTotalOrder R → (pool : List X) (ns : List ℕ) (n m r s : ℕ) → Contains ns n → IsRankIn R pool ns n r → IsRankIn R pool ns m s
-    → is_lt (option_cmp R (slice_get pool n) (slice_get pool m)) ≡ true → r < s
-rank_less R o pool ns n m r s there first second less =
-    let i = there.0 in
-    let at : get_or ns i n ≡ n = there.2 in
-    let key = slice_get pool in
-    by_order i r
-    (λ h.
-    let low : is_lt (option_cmp R (key (get_or ns i n)) (key n)) ≡ true = first.0 i n (omega arith) h in
-    absurd (not_itself (option_cmp R) (options_total o) (key n) (subst (λ (k : ℕ). is_lt (option_cmp R (key k) (key n)) ≡ true) at low)))
-    (λ h. by_order i s
-    (λ g. omega (arith, h, g))
-    (λ g.
-    let high : is_lt (option_cmp R (key (get_or ns i n)) (key m)) ≡ false = second.1 i n g there.1 in
-    absurd (false≢true (sym (subst (λ (k : ℕ). is_lt (option_cmp R (key k) (key m)) ≡ false) at high) ∙ less))))
+-- a number that stands among all below one is below it
+pub order_below : (count : ℕ) (ns : List ℕ) (i n : ℕ) → IsPermutation (numbers_below count) ns → slice_get ns i ≡ Some n → n < count
+order_below count ns i n all at =
+    let (j, less, same) = Contains-permutation ns (numbers_below count) n (IsPermutation-sym (numbers_below count) ns all) (i, within ns i n at, get_or_from_slice_get ns i n n at) in
+    let long = length_below count in
+    let own : get_or (numbers_below count) j n ≡ j = get_or_from_slice_get (numbers_below count) j j n (own_place count j (omega (arith, less, long))) in
+    let is : n ≡ j = sym same ∙ own in
+    omega (arith, is, less, long)
+
+set_here : (xs : List ℕ) (m a : ℕ) → m < length xs → slice_get (slice_set xs m a) m ≡ Some a
+set_here [] m a less = absurd (omega (arith, less))
+set_here (x ∷ xs) zero a less = refl
+set_here (x ∷ xs) (suc m) a less = set_here xs m a (omega (arith, less))
+
+set_elsewhere : (xs : List ℕ) (m n a : ℕ) → (n ≡ m → ⊥) → slice_get (slice_set xs m a) n ≡ slice_get xs n
+set_elsewhere [] m n a other = refl
+set_elsewhere (x ∷ xs) zero zero a other = absurd (other refl)
+set_elsewhere (x ∷ xs) zero (suc n) a other = refl
+set_elsewhere (x ∷ xs) (suc m) zero a other = refl
+set_elsewhere (x ∷ xs) (suc m) (suc n) a other = set_elsewhere xs m n a (λ e. other (ap suc e))
+
+pub length_set : (xs : List ℕ) (m a : ℕ) → length (slice_set xs m a) ≡ length xs
+length_set [] m a = refl
+length_set (x ∷ xs) zero a = refl
+length_set (x ∷ xs) (suc m) a = ap suc (length_set xs m a)
+
+same_or_not : (n m : ℕ) → (n ≡ m) ⊎ (n ≡ m → ⊥)
+same_or_not n m = by_order n m (λ l. inr (λ e. omega (arith, l, e))) (λ h. found_or_not m n h (λ e. inl (sym e)) (λ l. inr (λ e. omega (arith, l, e))))
+
+-- one more place
+pub places_more : (order old new : List ℕ) (k m : ℕ) → slice_get order k ≡ Some m → m < length old → new ≡ slice_set old m k → ((i n : ℕ) → i < k → slice_get order i ≡ Some n → HasPlace order old n)
+    → (i n : ℕ) → i < k + 1 → slice_get order i ≡ Some n → HasPlace order new n
+places_more order old new k m here less is before i n low at = elim (same_or_not n m) [
+  | inl same ↦ record {
+    place = k;
+    rank_is = ap (slice_get new) same ∙ ap (λ (xs : List ℕ). slice_get xs m) is ∙ set_here old m k less;
+    here = here ∙ ap Some (sym same);
+  }
+  | inr other ↦
+      found_or_not i k (omega (arith, low))
+      (λ e. absurd (other (same_Some n m (sym at ∙ ap (slice_get order) e ∙ here))))
+      (λ l.
+      let h = before i n l at in
+      record { place = h.place; rank_is = ap (λ (xs : List ℕ). slice_get xs n) is ∙ set_elsewhere old m n k other ∙ h.rank_is; here = h.here })
+]
 
 cmp_less : (r s : ℕ) → r < s → nat_cmp r s ≡ Less
 cmp_less r s less = by_case (nat_cmp r s) (ranks r s)
@@ -105,13 +121,17 @@ cmp_equal r s same = by_case (nat_cmp r s) (ranks r s)
     by_case Equal h = refl
     by_case Greater h = absurd (omega (arith, h, same))
 
--- ranks in one order of all numbers compare as the values
+-- places in an order of all numbers compare as the values
 pub ranked : {X : Type 0} (R : X → X → Ordering) → IsTotalOrder R → ((x y : X) → R x y ≡ Equal → x ≡ y) → (pool : List X) (ns ranks : List ℕ) → IsNumbered pool → IsInOrder R pool ns
-    → length ranks ≡ length pool → ((n r : ℕ) → slice_get ranks n ≡ Some r → IsRankIn R pool ns n r) → AreRanks R pool ranks
+    → length ranks ≡ length pool → ((i n : ℕ) → slice_get ns i ≡ Some n → HasPlace ns ranks n) → AreRanks R pool ranks
 ranked {X} R o exact pool ns ranks one order long each = record { all = long; alike = alike }
   where
-    there : (n r : ℕ) → slice_get ranks n ≡ Some r → Contains ns n
-    there n r e = let w = within ranks n r e in Contains-permutation (numbers_below (length pool)) ns n order.all (contains_below (length pool) n (omega (arith, w, long)))
+    there : (n r : ℕ) → slice_get ranks n ≡ Some r → slice_get ns r ≡ Some n
+    there n r e =
+        let w = within ranks n r e in
+        let (i, less, same) = Contains-permutation (numbers_below (length pool)) ns n order.all (contains_below (length pool) n (omega (arith, w, long))) in
+        let p = each i n (slice_get-get_or ns i n less ∙ ap Some same) in
+        ap (slice_get ns) (same_Some r p.place (sym e ∙ p.rank_is)) ∙ p.here
 
     alike : (n m r s : ℕ) → slice_get ranks n ≡ Some r → slice_get ranks m ≡ Some s → nat_cmp r s ≡ option_cmp R (slice_get pool n) (slice_get pool m)
     alike n m r s e f =
@@ -121,10 +141,13 @@ ranked {X} R o exact pool ns ranks one order long each = record { all = long; al
         by_case n m r s e f x y a b (option_cmp R (slice_get pool n) (slice_get pool m)) refl))
       where
         by_case : (n m r s : ℕ) → slice_get ranks n ≡ Some r → slice_get ranks m ≡ Some s → (x y : X) → slice_get pool n ≡ Some x → slice_get pool m ≡ Some y → (c : Ordering) → option_cmp R (slice_get pool n) (slice_get pool m) ≡ c → nat_cmp r s ≡ option_cmp R (slice_get pool n) (slice_get pool m)
-        by_case n m r s e f x y a b Less c = cmp_less r s (rank_less R o pool ns n m r s (there n r e) (each n r e) (each m s f) (ap is_lt c)) ∙ sym c
+        by_case n m r s e f x y a b Less c =
+            by_order r s (λ h. cmp_less r s h ∙ sym c)
+            (λ g. absurd (false≢true (sym (not_above R o pool ns s r m n order.rising g (there m s f) (there n r e)) ∙ ap is_lt c)))
         by_case n m r s e f x y a b Greater c =
             let back = (options_total o).antisymm (slice_get pool m) (slice_get pool n) ∙ ap ordering_reverse c in
-            cmp_greater r s (rank_less R o pool ns m n s r (there m s f) (each m s f) (each n r e) (ap is_lt back)) ∙ sym c
+            by_order s r (λ h. cmp_greater r s h ∙ sym c)
+            (λ g. absurd (false≢true (sym (not_above R o pool ns r s n m order.rising g (there n r e) (there m s f)) ∙ ap is_lt back)))
         by_case n m r s e f x y a b Equal c =
             let values : R x y ≡ Equal = ap (λ (k : Option X). option_cmp R k (Some y)) (sym a) ∙ ap (λ (k : Option X). option_cmp R (slice_get pool n) k) (sym b) ∙ c in
             let same : n ≡ m = one n m x a (b ∙ ap Some (sym (exact x y values))) in
@@ -133,16 +156,6 @@ ranked {X} R o exact pool ns ranks one order long each = record { all = long; al
 
 pub equal_is_same : {X : Type 0} (eq : X → X → Bool) (R : X → X → Ordering) → IsExact eq → ((x y : X) → eq x y ≡ is_eq (R x y)) → (x y : X) → R x y ≡ Equal → x ≡ y
 equal_is_same eq R exact ties x y e = (exact x y).0 (ties x y ∙ ap is_eq e)
-
--- one more rank
-pub ranks_more : {X : Type 0} (R : X → X → Ordering) (pool : List X) (ns ranks after : List ℕ) (k : ℕ) → length ranks ≡ k → ((n r : ℕ) → slice_get ranks n ≡ Some r → IsRankIn R pool ns n r)
-    → (r : ℕ) → IsRankIn R pool ns k r → after ≡ ranks ++ r ∷ [] → (n s : ℕ) → slice_get after n ≡ Some s → IsRankIn R pool ns n s
-ranks_more R pool ns ranks after k long each r is e n s at =
-    of_longer ranks r s n (ap (λ (xs : List ℕ). slice_get xs n) (sym e) ∙ at) (λ f. each n s f)
-    (λ place same.
-    let P : ℕ → Type 0 = λ m. IsRankIn R pool ns m s in
-    let Q : ℕ → Type 0 = λ t. IsRankIn R pool ns k t in
-    subst P (sym (place ∙ long)) (subst Q same is))
 
 -- two values as their ranks
 pub by_ranks : {X : Type 0} (R : X → X → Ordering) (pool : List X) (ranks : List ℕ) → AreRanks R pool ranks → (n m : ℕ) (x y : X) → slice_get pool n ≡ Some x → slice_get pool m ≡ Some y → nat_cmp (rank_at ranks n) (rank_at ranks m) ≡ R x y

@@ -1,6 +1,6 @@
 -- How kept values and states are ordered.
-use Rattle.std.specs.Prelude.{◌≡◌, ℕ, zero, suc, true, false, List, [], ◌∷◌, ◌++◌, Option, Some, None, length, slice_get, slice_index_or}
-use Rattle.std.specs.List.Sorted.{IsPartitionPoint, IsPermutation, IsSortedBy}
+use Rattle.std.specs.Prelude.{◌≡◌, ℕ, zero, suc, List, [], ◌∷◌, ◌++◌, Option, Some, None, length, slice_get, slice_index_or}
+use Rattle.std.specs.List.Sorted.{IsPermutation, IsSortedBy}
 use Rattle.std.specs.Option.{option_cmp}
 use Rattle.std.specs.Ordering.{is_lt, nat_cmp}
 use Rattle.std.specs.Cmp.Lexicographic.{slice_cmp}
@@ -52,9 +52,11 @@ pub record IsInOrder {X : Type 0} (R : X → X → Ordering) (pool : List X) (ns
   pub all : IsPermutation (numbers_below (length pool)) ns
   pub rising : IsSortedBy (λ n m. is_lt (option_cmp R (slice_get pool n) (slice_get pool m))) ns
 
--- so many of the numbers are those of values below that of number n, and these come first
-abbrev pub IsRankIn : {X : Type 0} → (X → X → Ordering) → List X → List ℕ → ℕ → ℕ → Type 0
-IsRankIn R pool ns n r = IsPartitionPoint (λ m. is_lt (option_cmp R (slice_get pool m) (slice_get pool n)) ≡ true) (λ m. is_lt (option_cmp R (slice_get pool m) (slice_get pool n)) ≡ false) ns r
+-- a number's rank is a place that it has in a list
+pub record HasPlace (order ranks : List ℕ) (n : ℕ) : Type 0 where
+  pub place : ℕ
+  pub rank_is : slice_get ranks n ≡ Some place
+  pub here : slice_get order place ≡ Some n
 
 -- a number for each value of a pool, and values are ordered as these
 pub record AreRanks {X : Type 0} (R : X → X → Ordering) (pool : List X) (ranks : List ℕ) : Type 0 where

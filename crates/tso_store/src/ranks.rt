@@ -1,9 +1,7 @@
 //! Ranks of kept values: numbers that are ordered as the values.
-ghost use Rattle.std.specs.Prelude.{◌≡◌, ◌<◌, ◌^◌, length, IfOk, slice_get};
+ghost use Rattle.std.specs.Prelude.{◌≡◌, ◌<◌, ◌^◌, ℕ, length, IfOk, Some, slice_get, slice_set};
 ghost use Rattle.std.specs.Option.{option_cmp};
-ghost use Rattle.std.specs.List.Sorted.{IsSortedBy};
-ghost use Rattle.std.specs.Ordering.{is_lt};
-ghost use Rattle.tso_store.specs.Orders.{AreRanks, IsInOrder, IsRankIn, numbers_below};
+ghost use Rattle.tso_store.specs.Orders.{AreRanks, HasPlace, IsInOrder, numbers_below};
 
 use std::alloc::{AllocError, Global};
 use std::cmp::Ordering;
@@ -57,17 +55,30 @@ fn in_order<T: Exact + Ord + Hash>(alloc: Global, pool: &Catalog<T>) -> Result<V
     Ok(numbers)
 }
 
-// How many of these numbers in order are those of values below that of one.
-fn rank_in<T: Exact + Ord + Hash>(pool: &Catalog<T>, order: &[u32], number: u32) -> u32
-    requires few { length order.now < 2 ^ 32 }
-    requires sorted { IsSortedBy (λ n m. is_lt (option_cmp T.cmp (slice_get pool.now n) (slice_get pool.now m))) order.now }
-    ensures { IsRankIn T.cmp pool.now order.now number result }
+// Gives a number this rank.
+fn put_rank(ranks: &mut Vec<u32>, number: u32, rank: u32)
+    requires { number < length ranks.old.items }
+    ensures { ranks.new.items ≡ slice_set ranks.old.items number rank }
 {
-    let below = order.partition_point(|other: &u32| compare_at(pool, *other, number).is_lt());
-    below as u32
+    ranks[number as usize] = rank;
 }
 
-/// For each number of a value its rank.
+// For each of the numbers below one a place of it in a list of them.
+fn places_in(alloc: Global, order: &[u32], count: usize) -> Result<Vec<u32>, AllocError>
+    requires few { length order.now < 2 ^ 32 }
+    requires count { count < 2 ^ 32 }
+    requires below { (i n : ℕ) → slice_get order.now i ≡ Some n → n < count }
+    ensures len { IfOk result (λ rs. length rs.items ≡ count) }
+    ensures places { IfOk result (λ rs. (i n : ℕ) → slice_get order.now i ≡ Some n → HasPlace order.now rs.items n) }
+{
+    let mut ranks = all_numbers(alloc, count)?;
+    for place in 0..order.len() {
+        put_rank(&mut ranks, order[place], place as u32);
+    }
+    Ok(ranks)
+}
+
+/// For each number of a value its rank: its place among the numbers in the order of their values.
 pub fn ranks_of<T: Exact + Ord + Hash>(
     alloc: Global,
     pool: &Catalog<T>,
@@ -76,9 +87,6 @@ pub fn ranks_of<T: Exact + Ord + Hash>(
 {
     pool.is_numbered();
     let order = in_order(alloc, pool)?;
-    let mut ranks = Vec::new(alloc);
-    for number in 0..pool.len() {
-        ranks.push(rank_in(pool, order.as_slice(), number as u32))?;
-    }
+    let ranks = places_in(alloc, order.as_slice(), pool.len())?;
     Ok(ranks)
 }

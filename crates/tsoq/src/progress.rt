@@ -25,6 +25,8 @@ pub struct Progress<'a, L: Listener> {
     listener: &'a L,
     is_wanted: bool,
     states: AtomicU64,
+    // How many it has left.
+    done: AtomicU64,
     // When the search was last heard of, and when it had its answer, in milliseconds since the program started.
     last: AtomicU64,
     answered: AtomicU64,
@@ -37,6 +39,7 @@ impl<'a, L: Listener> Progress<'a, L> {
             listener,
             is_wanted,
             states: AtomicU64::new(0),
+            done: AtomicU64::new(0),
             last: AtomicU64::new(0),
             answered: AtomicU64::new(0),
         }
@@ -107,7 +110,9 @@ impl<'a, L: Listener> Watch for Progress<'a, L> {
     fn at<R: Wait>(&self, _rt: &R, _n: u64) {}
 
     fn met(&self, found: u64, left: u64) {
-        let is_told = found.saturating_sub(left) % EVERY == 0;
+        let done = found.saturating_sub(left);
+        let before = self.done.swap(done, Ordering::SeqCst);
+        let is_told = done % EVERY == 0 || done / EVERY != before / EVERY;
         self.states.store(found, Ordering::SeqCst);
         if is_told || left <= 1 {
             self.note();

@@ -7,22 +7,10 @@ pub tree_of-requires : goal.tree_of-requires
 tree_of-requires t c =
     let states = c.args.store.now.states in
     let ns = c.args.numbers.now in
-    let low = c.split_at.result.0.now in (
-      search rules,
-      (
-        c.requires.searched,
-        (
-          c.requires.closed,
-          (
-            c.requires.same,
-            (
-              numbers_low states ns low (length ns / 2) c.split_at.ensures.front c.requires.numbers,
-              rising_low states ns low (length ns / 2) c.split_at.ensures.front c.requires.rising,
-            ),
-          ),
-        ),
-      ),
-    )
+    let low = c.split_at.result.0.now in
+    let there = numbers_low states ns low (length ns / 2) c.split_at.ensures.front c.requires.numbers in
+    let rising = rising_low states ns low (length ns / 2) c.split_at.ensures.front c.requires.rising in
+    (search rules, (c.requires.client, (c.requires.searched, (c.requires.closed, (c.requires.same, (there, rising))))))
 
 pub state_at-requires : goal.state_at-requires
 state_at-requires t c =
@@ -32,22 +20,10 @@ pub tree_of-requires-2 : goal.tree_of-requires-2
 tree_of-requires-2 t c =
     let states = c.args.store.now.states in
     let ns = c.args.numbers.now in
-    let high = c.split_at.result.1.now in (
-      search rules,
-      (
-        c.requires.searched,
-        (
-          c.requires.closed,
-          (
-            c.requires.same,
-            (
-              numbers_high states ns high (length ns / 2) c.split_at.ensures.back c.requires.numbers,
-              rising_high states ns high (length ns / 2) c.split_at.ensures.back c.requires.rising,
-            ),
-          ),
-        ),
-      ),
-    )
+    let high = c.split_at.result.1.now in
+    let there = numbers_high states ns high (length ns / 2) c.split_at.ensures.back c.requires.numbers in
+    let rising = rising_high states ns high (length ns / 2) c.split_at.ensures.back c.requires.rising in
+    (search rules, (c.requires.client, (c.requires.searched, (c.requires.closed, (c.requires.same, (there, rising))))))
 
 pub returns : goal.returns
 returns t c =

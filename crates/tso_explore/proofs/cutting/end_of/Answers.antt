@@ -11,4 +11,4 @@ unreachable-requires c =
 pub returns : goal.returns
 returns c =
     let over = none_over c.args.checked.now.client c.args.table.now c.args.state.now c.in_ok-choices.choices c.requires.well_formed c.in_ok-choices.ensures (grind (arith, nat_tests)) in
-    (over, rw (c.in-Some-2.is, c.history.ensures) at c.in_ok-order.ensures.found)
+    (over, rw (c.in-Some.is, c.history.ensures) at c.in_ok-order.ensures.found)

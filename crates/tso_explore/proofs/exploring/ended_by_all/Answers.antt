@@ -6,4 +6,4 @@ pub returns-then-len-limit : goal.returns-then-len-limit
 returns-then-len-limit g c = more_met c.args.checked.now.client c.args.limit c.args.store.now.states c.requires.begun c.states_differ.ensures (omega (arith, c.len.ensures, c.if-len-limit.true))
 
 pub returns : goal.returns
-returns g c = (c.in_ok-are_worked.ensures c.if-not-branch.false, omega (arith, c.len.ensures, c.if-len-limit.false))
+returns g c = (c.requires.client, c.in_ok-are_worked.ensures c.if-not-branch.false, omega (arith, c.len.ensures, c.if-len-limit.false))

@@ -9,22 +9,10 @@ pub put_tree-requires : goal.put_tree-requires
 put_tree-requires t c =
     let states = c.args.store.now.states in
     let ns = c.args.numbers.now in
-    let low = c.split_at.result.0.now in (
-      search rules,
-      (
-        c.requires.searched,
-        (
-          c.requires.closed,
-          (
-            c.requires.same,
-            (
-              numbers_low states ns low (length ns / 2) c.split_at.ensures.front c.requires.numbers,
-              rising_low states ns low (length ns / 2) c.split_at.ensures.front c.requires.rising,
-            ),
-          ),
-        ),
-      ),
-    )
+    let low = c.split_at.result.0.now in
+    let there = numbers_low states ns low (length ns / 2) c.split_at.ensures.front c.requires.numbers in
+    let rising = rising_low states ns low (length ns / 2) c.split_at.ensures.front c.requires.rising in
+    (search rules, (c.requires.client, (c.requires.searched, (c.requires.closed, (c.requires.same, (there, rising))))))
 
 pub put_state-requires : goal.put_state-requires
 put_state-requires t c =
@@ -35,22 +23,10 @@ pub put_tree-requires-2 : goal.put_tree-requires-2
 put_tree-requires-2 t c =
     let states = c.args.store.now.states in
     let ns = c.args.numbers.now in
-    let high = c.split_at.result.1.now in (
-      search rules,
-      (
-        c.requires.searched,
-        (
-          c.requires.closed,
-          (
-            c.requires.same,
-            (
-              numbers_high states ns high (length ns / 2) c.split_at.ensures.back c.requires.numbers,
-              rising_high states ns high (length ns / 2) c.split_at.ensures.back c.requires.rising,
-            ),
-          ),
-        ),
-      ),
-    )
+    let high = c.split_at.result.1.now in
+    let there = numbers_high states ns high (length ns / 2) c.split_at.ensures.back c.requires.numbers in
+    let rising = rising_high states ns high (length ns / 2) c.split_at.ensures.back c.requires.rising in
+    (search rules, (c.requires.client, (c.requires.searched, (c.requires.closed, (c.requires.same, (there, rising))))))
 
 pub returns : goal.returns
 returns t c =

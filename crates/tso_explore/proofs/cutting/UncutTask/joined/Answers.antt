@@ -9,7 +9,7 @@ state_at-requires c =
     let l = c.args._left.now in
     let r = c.args.right.now in
     first_right (uncut p.checked.now.client p.table.now p.store.now.states p.numbers.now) (uncut l.checked.now.client l.table.now l.store.now.states l.numbers.now)
-    (uncut r.checked.now.client r.table.now r.store.now.states r.numbers.now) c.requires.ready c.requires.halves
+    (uncut r.checked.now.client r.table.now r.store.now.states r.numbers.now) c.requires.ready.1 c.requires.halves
 
 pub returns : goal.returns
 returns c =
@@ -18,4 +18,4 @@ returns c =
     let r = c.args.right.now in
     rw (c.in_ok-first.ensures.ok, c.in_ok-second.ensures.ok)
     (fork_of_halves (uncut p.checked.now.client p.table.now p.store.now.states p.numbers.now) (uncut l.checked.now.client l.table.now l.store.now.states l.numbers.now)
-    (uncut r.checked.now.client r.table.now r.store.now.states r.numbers.now) (tree_of c.args.first) (tree_of c.args.second) c.in_ok-middle.middle c.requires.ready c.requires.halves c.requires.first c.requires.second c.in_ok-middle.ensures)
+    (uncut r.checked.now.client r.table.now r.store.now.states r.numbers.now) (tree_of c.args.first) (tree_of c.args.second) c.in_ok-middle.middle c.requires.ready.1 c.requires.halves c.requires.first c.requires.second c.in_ok-middle.ensures)

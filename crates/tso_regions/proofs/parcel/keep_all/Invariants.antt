@@ -1,0 +1,9 @@
+use Rattle.std.proofs.Common.{◌≡◌}
+use Rattle.tso_regions.specs.Regions.{AreSound}
+use Rattle.tso_regions.proofs.parcel.keep_all.Given as goal
+
+abbrev pub invariant-loop-number : goal.invariant-loop-number
+invariant-loop-number l = record {
+  client : l.store.client ≡ l.initial.store.client;
+  sound : AreSound l.store.client l.store.states;
+}

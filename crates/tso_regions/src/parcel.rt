@@ -1,0 +1,112 @@
+//! States on their way to their owner.
+
+ghost use Rattle.std.specs.Prelude.{◌≡◌, IfOk, IfSome, None, Ok, OnErr, Some, slice_get};
+ghost use Rattle.tso_parts.specs.Numbers.{Extends};
+ghost use Rattle.tso_regions.specs.Regions.{AreSound, IsSound};
+ghost use Rattle.tso_prog.specs.declared.client.Client.{Client};
+ghost use Rattle.tso_state.specs.declared.state.State.{State as StateValue};
+ghost use Rattle.tso_store.specs.Keys.{FitsClient};
+
+use crate::halt::Halt;
+use crate::realm::Realm;
+use std::alloc::Global;
+use std::marker::{Model, PhantomData};
+use tso_flow::Checked;
+use tso_store::{AddError, NO_KEY, Store, View};
+
+/// States on their way to their owner. All are met, and the runs to each are good.
+#[derive(Drop)]
+pub struct Parcel<'a, U: Realm> {
+    store: Store<'a>,
+    realm: PhantomData<U>,
+}
+
+impl<'a, U: Realm> Model for Parcel<'a, U> {
+    ghost use Rattle.std.specs.Prelude.{List};
+    ghost use Rattle.tso_regions.specs.Regions.{IsParcel};
+    ghost use Rattle.tso_state.specs.declared.state.State.{State as StateValue};
+
+    ghost Value = { List StateValue };
+
+    ghost view = { λ p. p.store.states };
+
+    ghost invariant = { λ p. IsParcel U.client p.store };
+}
+
+/// Keeps a state that is met, and to which the runs are good: its number. `None` where it is none of the client's.
+///
+/// Errors: where it cannot be kept.
+pub fn keep(store: &mut Store<'_>, view: &View<'_>) -> Result<Option<u32>, Halt>
+    requires state { IsSound store.old.client view.now }
+    requires sound { AreSound store.old.client store.old.states }
+    ensures number { IfOk result (λ kept. IfSome kept (λ n. slice_get store.new.states n ≡ Some view.now)) }
+    ensures misfit { result ≡ Ok None → FitsClient store.old.client view.now → ⊥ }
+    ensures err { OnErr result (store.new.states ≡ store.old.states) }
+    ensures sound { AreSound store.new.client store.new.states }
+    ensures stays { Extends store.old.states store.new.states }
+    ensures client { store.new.client ≡ store.old.client }
+{
+    match store.add_view(&NO_KEY, view) {
+        Ok((number, _)) => Ok(Some(number)),
+        Err(AddError::Misfit) => Ok(None),
+        Err(AddError::Memory) => Err(Halt::Memory),
+        Err(AddError::Full) => Err(Halt::Full),
+    }
+}
+
+// Keeps states of another store.
+fn keep_all(store: &mut Store<'_>, from: &Store<'_>, numbers: &[u32]) -> Result<(), Halt>
+    requires client { from.now.client ≡ store.old.client }
+    requires from { AreSound from.now.client from.now.states }
+    requires sound { AreSound store.old.client store.old.states }
+    ensures sound { AreSound store.new.client store.new.states }
+    ensures client { store.new.client ≡ store.old.client }
+{
+    for number in numbers {
+        if let Some(view) = from.view(*number) {
+            keep(store, &view)?;
+        }
+    }
+    Ok(())
+}
+
+/// How many states there are, as far as numbers go.
+pub fn count_of(store: &Store<'_>) -> u32 {
+    u32::try_from(store.len()).unwrap_or(u32::MAX)
+}
+
+impl<'a, U: Realm> Parcel<'a, U> {
+    /// No states.
+    pub fn new(alloc: Global, checked: &'a Checked) -> Self
+        requires { U.client ≡ Some checked.now.client }
+    {
+        let store = Store::new(alloc, checked, 0);
+        Parcel {
+            store,
+            realm: PhantomData,
+        }
+    }
+
+    /// Takes in states of a region.
+    ///
+    /// Errors: where they cannot be kept.
+    pub fn put(&mut self, from: &Store<'_>, numbers: &[u32]) -> Result<(), Halt>
+        requires client { U.client ≡ Some from.now.client }
+        requires from { AreSound from.now.client from.now.states }
+    {
+        keep_all(&mut self.store, from, numbers)
+    }
+
+    /// How many states there are, as far as numbers go.
+    pub fn count(&self) -> u32 {
+        count_of(&self.store)
+    }
+
+    /// A state, if there are so many.
+    pub fn view(&self, number: u32) -> Option<View<'_>>
+        ensures state { result ≡ slice_get self.now number }
+        ensures sound { IfSome result (λ s. (c : Client) → U.client ≡ Some c → IsSound c s) }
+    {
+        self.store.view(number)
+    }
+}

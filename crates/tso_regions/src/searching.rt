@@ -1,0 +1,392 @@
+//! The search by regions.
+
+ghost use Rattle.std.specs.Prelude.{◌≡◌, ◌<◌, ◌≤◌, ℕ, IfOk, IfSome, IsTrue, Some, length, true};
+ghost use Rattle.std.specs.Thread.{IsSync};
+ghost use Rattle.tso_parts.specs.Numbers.{IsNumbered};
+ghost use Rattle.tso_regions.specs.Gathering.{AreAllTaken, AreSettledBetween, IsBegunAt};
+ghost use Rattle.tso_regions.specs.Regions.{AreSound};
+ghost use Rattle.tso_search.specs.Marking.{is_marked};
+ghost use Rattle.tso_search.specs.Searched.{AreDone, AreSearched, IsDone};
+
+use crate::gathering::Ungathered;
+use crate::parcel::Parcel;
+use crate::pile::{Ended, Pile};
+use crate::realm::Realm;
+use crate::region::{Owner, Region};
+use crate::settling::Asked;
+use crate::team::{Team, work_all};
+use std::alloc::{AllocError, Global};
+use std::marker::Brand;
+use std::sync::{Condvar, Mutex, Wait};
+use std::thread;
+use std::thread::Threads;
+use tso_cert::{Task, Watch, run_by};
+use tso_flow::Checked;
+use tso_foot::Table;
+use tso_search::Marks;
+use tso_state::initial_state;
+use tso_store::{Gathered, Store};
+
+/// How many regions there are for each worker: with more of them none has much more than its share to do.
+const REGIONS: u64 = 4;
+
+// A region without states.
+fn empty_region<'a, U: Realm>(
+    alloc: Global,
+    checked: &'a Checked,
+    table: &'a Table,
+    owner: Owner,
+) -> Result<Region<'a, U>, AllocError>
+    requires client { U.client ≡ Some checked.now.client }
+    requires table { U.table ≡ Some table.now }
+{
+    let store = Store::new(alloc, checked, 0);
+    let marks = Marks::new(alloc);
+    Region::new(alloc, checked, table, owner, store, marks)
+}
+
+// So many regions, of which the first begins with these states.
+fn regions_of<'a, U: Realm>(
+    alloc: Global,
+    checked: &'a Checked,
+    table: &'a Table,
+    first: Store<'a>,
+    marks: Marks,
+    count: u64,
+) -> Result<Vec<Region<'a, U>>, AllocError>
+    requires client { U.client ≡ Some checked.now.client }
+    requires table { U.table ≡ Some table.now }
+    requires store { first.client ≡ checked.now.client }
+    requires sound { AreSound checked.now.client first.states }
+    requires done { AreDone checked.now.client table.now first.states marks }
+{
+    let mut regions = Vec::new(alloc);
+    let owner = Owner { number: 0, count };
+    let region = Region::new(alloc, checked, table, owner, first, marks)?;
+    regions.push(region)?;
+    for number in 1..count {
+        let owner = Owner { number, count };
+        regions.push(empty_region(alloc, checked, table, owner)?)?;
+    }
+    Ok(regions)
+}
+
+// How many states are listed by their owners.
+fn own_count<U: Realm>(regions: &[Region<'_, U>]) -> u64 {
+    regions.iter().fold(0u64, |count, region| {
+        count.saturating_add(region.own_count() as u64)
+    })
+}
+
+// A lock for each region.
+fn locked<'a, U: Realm>(
+    alloc: Global,
+    regions: Vec<Region<'a, U>>,
+) -> Result<Vec<Mutex<Region<'a, U>>>, AllocError> {
+    let mut locks = Vec::new(alloc);
+    for region in regions {
+        locks.push(Mutex::new(region))?;
+    }
+    Ok(locks)
+}
+
+// The regions without their locks.
+fn unlocked<'a, U: Realm>(
+    alloc: Global,
+    locks: Vec<Mutex<Region<'a, U>>>,
+) -> Result<Vec<Region<'a, U>>, AllocError> {
+    let mut regions = Vec::new(alloc);
+    for lock in locks {
+        regions.push(lock.into_inner())?;
+    }
+    Ok(regions)
+}
+
+// A parcel for each of so many regions.
+fn parcels_for<'a, U: Realm>(
+    alloc: Global,
+    checked: &'a Checked,
+    count: u64,
+) -> Result<Vec<Mutex<Parcel<'a, U>>>, AllocError>
+    requires { U.client ≡ Some checked.now.client }
+{
+    let mut parcels = Vec::new(alloc);
+    for _ in 0..count {
+        parcels.push(Mutex::new(Parcel::new(alloc, checked)))?;
+    }
+    Ok(parcels)
+}
+
+// Lets the workers work regions, which list so many states, until no state is left to work: whether it came to that.
+fn go_on<'a, U: Realm + Send + Sync, R: Threads + Wait + Sync, W: Watch + Sync>(
+    rt: &R,
+    alloc: Global,
+    checked: &'a Checked,
+    regions: &[Mutex<Region<'a, U>>],
+    own: u64,
+    workers: u64,
+    limit: u32,
+    watch: &W,
+) -> Result<bool, AllocError>
+    requires { U.client ≡ Some checked.now.client }
+{
+    let count = regions.len() as u64;
+    let parcels = parcels_for(alloc, checked, count)?;
+    let pile = Mutex::new(Pile::new(alloc, count, own)?);
+    let woken = Condvar::new();
+    let team = Team {
+        rt,
+        alloc,
+        checked,
+        regions,
+        parcels: parcels.as_slice(),
+        pile: &pile,
+        woken: &woken,
+        limit,
+        watch,
+    };
+    Ok(work_all(rt, &team, workers)? == Ended::Over)
+}
+
+// Whether the first region begins with the initial state.
+fn is_begun<U: Realm>(
+    alloc: Global,
+    checked: &Checked,
+    regions: &[Region<'_, U>],
+) -> Result<bool, AllocError>
+    ensures { IfOk result (λ begun. begun ≡ true → IsBegunAt checked.now.client regions.now) }
+{
+    let initial = initial_state(alloc, checked)?;
+    match regions.first() {
+        Some(region) => Ok(region.begins_with(&initial)),
+        None => Ok(false),
+    }
+}
+
+// The states of all regions in one store, if all are settled and there are not too many.
+fn concluded<'c, U: Realm + Send + Sync, R: Threads + Sync>(
+    rt: &R,
+    alloc: Global,
+    checked: &'c Checked,
+    table: &Table,
+    regions: &[Region<'_, U>],
+    workers: u64,
+    limit: u32,
+) -> Result<Option<Store<'c>>, AllocError>
+    requires client { U.client ≡ Some checked.now.client }
+    requires table { U.table ≡ Some table.now }
+    requires limit { limit ≤ 4194304 }
+    ensures client { IfOk result (λ found. IfSome found (λ store. store.client ≡ checked.now.client)) }
+    ensures searched { IfOk result (λ found. IfSome found (λ store. AreSearched checked.now.client table.now store.states)) }
+    ensures few { IfOk result (λ found. IfSome found (λ store. length store.states ≤ limit)) }
+{
+    let count = regions.len() as u64;
+    if count == 0 || !is_begun(alloc, checked, regions)? {
+        return Ok(None);
+    }
+    let (settled, found) = asked_and_gathered(rt, alloc, checked, regions, count, workers);
+    match found? {
+        Some(gathered) => {
+            if settled? {
+                return finished(gathered, limit);
+            }
+            drop(gathered);
+            Ok(None)
+        }
+        None => Ok(None),
+    }
+}
+
+// Whether all regions are settled, which all workers but one ask, and what they list, which the last one gathers meanwhile.
+fn asked_and_gathered<'c, U: Realm + Send + Sync, R: Threads + Sync>(
+    rt: &R,
+    alloc: Global,
+    checked: &'c Checked,
+    regions: &[Region<'_, U>],
+    count: u64,
+    workers: u64,
+) -> (
+    Result<bool, AllocError>,
+    Result<Option<Gathered<'c>>, AllocError>,
+)
+    requires client { U.client ≡ Some checked.now.client }
+    requires some { 0 < count }
+    ensures settled { IfOk result.0 (λ settled. settled ≡ true → AreSettledBetween U.client U.table count regions.now 0 (length regions.now)) }
+    ensures gathered { IfOk result.1 (λ found. IfSome found (AreAllTaken checked.now.client count regions.now)) }
+{
+    let asked = Asked {
+        alloc,
+        regions,
+        count,
+        from: 0,
+        to: regions.len(),
+    };
+    let ungathered = Ungathered {
+        alloc,
+        checked,
+        regions,
+        count,
+    };
+    by_both(rt, &asked, workers.saturating_sub(1), &ungathered)
+}
+
+// The outputs of two tasks, of which the first has so many workers, and the second the caller.
+fn by_both<R: Threads + Sync, A: Task + Sync + Drop, B: Task + Sync + Drop>(
+    rt: &R,
+    first: &A,
+    workers: u64,
+    second: &B,
+) -> (Result<A::Output, AllocError>, Result<B::Output, AllocError>)
+    requires first { A.is_ready first.now }
+    requires second { B.is_ready second.now }
+    ensures first { IfOk result.0 (A.is_output first.now) }
+    ensures second { IfOk result.1 (B.is_output second.now) }
+{
+    thread::join(
+        rt,
+        || -> Result<A::Output, AllocError>
+            requires { IsSync R.row × IsSync A.row × A.is_ready first.now }
+            ensures { IfOk result (A.is_output first.entry.now) }
+        { run_by(rt, first, workers) },
+        || -> Result<B::Output, AllocError>
+            requires { B.is_ready second.now }
+            ensures { IfOk result (B.is_output second.entry.now) }
+        { second.run() },
+    )
+}
+
+// One store of these states, which has learnt where the next steps of their threads lead, if there are not too many.
+fn finished<'c>(gathered: Gathered<'c>, limit: u32) -> Result<Option<Store<'c>>, AllocError>
+    requires differ { IsNumbered gathered.states }
+    requires limit { limit ≤ 4194304 }
+    ensures client { IfOk result (λ found. IfSome found (λ store. store.client ≡ gathered.entry.client)) }
+    ensures states { IfOk result (λ found. IfSome found (λ store. store.states ≡ gathered.entry.states)) }
+    ensures few { IfOk result (λ found. IfSome found (λ store. length store.states ≤ limit)) }
+{
+    if gathered.len() > limit as usize {
+        drop(gathered);
+        return Ok(None);
+    }
+    let mut store = gathered.finish();
+    match store.learn() {
+        Ok(()) => Ok(Some(store)),
+        Err(reason) => {
+            drop(store);
+            Err(reason)
+        }
+    }
+}
+
+// Marks the states with numbers below this one.
+fn marked(alloc: Global, worked: u32) -> Result<Marks, AllocError>
+    ensures { IfOk result (λ marks. (n : ℕ) → IsTrue (is_marked marks n) → n < worked) }
+{
+    let mut marks = Marks::new(alloc);
+    for number in 0..worked {
+        marks.mark(number)?;
+    }
+    Ok(marks)
+}
+
+// Lets go of what regions have, by so many threads: it takes as long as to gather it.
+fn let_go<U: Realm + Send + Sync, R: Threads + Sync>(
+    rt: &R,
+    alloc: Global,
+    regions: &mut [Region<'_, U>],
+    workers: u64,
+)
+    requires { 0 < workers }
+{
+    thread::for_each_mut(
+        rt,
+        regions,
+        workers as usize,
+        &|_, region| region.clear(alloc),
+    );
+}
+
+// What a search by regions finds, where the realm is this.
+fn run_as<'c, U: Realm + Send + Sync, R: Threads + Wait + Sync, W: Watch + Sync>(
+    rt: &R,
+    alloc: Global,
+    checked: &'c Checked,
+    table: &Table,
+    first: Store<'c>,
+    worked: u32,
+    workers: u64,
+    limit: u32,
+    watch: &W,
+) -> Result<Option<Store<'c>>, AllocError>
+    requires realm { U.client ≡ Some checked.now.client }
+    requires table { U.table ≡ Some table.now }
+    requires workers { (1 ≤ workers) × (workers ≤ 64) }
+    requires limit { limit ≤ 4194304 }
+    requires client { first.client ≡ checked.now.client }
+    requires sound { AreSound checked.now.client first.states }
+    requires worked { (n : ℕ) → n < worked → IsDone checked.now.client table.now first.states n }
+    ensures client { IfOk result (λ found. IfSome found (λ store. store.client ≡ checked.now.client)) }
+    ensures searched { IfOk result (λ found. IfSome found (λ store. AreSearched checked.now.client table.now store.states)) }
+    ensures few { IfOk result (λ found. IfSome found (λ store. length store.states ≤ limit)) }
+{
+    let marks = marked(alloc, worked)?;
+    let made = regions_of::<U>(alloc, checked, table, first, marks, REGIONS * workers)?;
+    let own = own_count(made.as_slice());
+    let locks = locked(alloc, made)?;
+    if !go_on(
+        rt,
+        alloc,
+        checked,
+        locks.as_slice(),
+        own,
+        workers,
+        limit,
+        watch,
+    )? {
+        return Ok(None);
+    }
+    let unlocked = unlocked(alloc, locks)?;
+    let mut regions = unlocked;
+    let found = concluded(
+        rt,
+        alloc,
+        checked,
+        table,
+        regions.as_slice(),
+        workers,
+        limit,
+    );
+    let_go(rt, alloc, regions.as_mut_slice(), workers);
+    found
+}
+
+/// Lets so many workers, from 1 to 64, search on from states of which those with numbers below one are worked: all states that there are
+/// then, each worked, in one store that is read by their numbers. Each state belongs to one of four regions for each worker, which its
+/// history tells, and is worked there alone. A worker takes a region that has something to do, works some of its states, what was met last
+/// first, and hands on what belongs to others. `None` where a run is met that is not good, where there are more states than the limit, or
+/// where there are too many for numbers: that tells nothing.
+///
+/// Errors: where a growth was refused.
+pub fn by_regions<'c, R: Threads + Wait + Sync, W: Watch + Sync>(
+    rt: &R,
+    alloc: Global,
+    checked: &'c Checked,
+    table: &Table,
+    first: Store<'c>,
+    worked: u32,
+    workers: u64,
+    limit: u32,
+    watch: &W,
+) -> Result<Option<Store<'c>>, AllocError>
+    requires workers { (1 ≤ workers) × (workers ≤ 64) }
+    requires limit { limit ≤ 4194304 }
+    requires client { first.client ≡ checked.now.client }
+    requires sound { AreSound checked.now.client first.states }
+    requires worked { (n : ℕ) → n < worked → IsDone checked.now.client table.now first.states n }
+    ensures client { IfOk result (λ found. IfSome found (λ store. store.client ≡ checked.now.client)) }
+    ensures searched { IfOk result (λ found. IfSome found (λ store. AreSearched checked.now.client table.now store.states)) }
+    ensures few { IfOk result (λ found. IfSome found (λ store. length store.states ≤ limit)) }
+{
+    run_as::<Brand, R, W>(
+        rt, alloc, checked, table, first, worked, workers, limit, watch,
+    )
+}
