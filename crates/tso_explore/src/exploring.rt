@@ -41,7 +41,7 @@ use tso_trace::Trace;
 const FIRST: u32 = 65_536;
 
 /// How many states the caller meets alone before several workers go on by regions.
-const ALONE: u32 = 16_384;
+const ALONE: u32 = 4_096;
 
 /// A store with the initial state.
 ///
@@ -800,7 +800,7 @@ fn explored_by<'c, R: Threads + Wait + Sync, W: Watch + Sync>(
 /// depth, which come to states that lie deep sooner, and then by breadth again. A violation among the first states, or of a hunt by
 /// breadth, is hunted once more by depth, and the shorter trace is handed out, with those labels left out that it does without.
 ///
-/// Several workers go on by regions where the caller, alone, has met 16,384 states and has found nothing. A client of fewer states is
+/// Several workers go on by regions where the caller, alone, has met 4,096 states and has found nothing. A client of fewer states is
 /// searched by all of them in shards; the watch is then told of theirs. Where several end without an answer, as where a run is met
 /// that is not good, one searches anew.
 pub fn find<'c, R: Threads + Wait + Sync, W: Watch + Sync>(

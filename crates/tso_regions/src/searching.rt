@@ -27,9 +27,6 @@ use tso_search::Marks;
 use tso_state::initial_state;
 use tso_store::{Gathered, Store};
 
-/// How many regions there are for each worker: with more of them none has much more than its share to do.
-const REGIONS: u64 = 4;
-
 // A region without states.
 fn empty_region<'a, U: Realm>(
     alloc: Global,
@@ -329,7 +326,7 @@ fn run_as<'c, U: Realm + Send + Sync, R: Threads + Wait + Sync, W: Watch + Sync>
     ensures few { IfOk result (λ found. IfSome found (λ store. length store.states ≤ limit)) }
 {
     let marks = marked(alloc, worked)?;
-    let made = regions_of::<U>(alloc, checked, table, first, marks, REGIONS * workers)?;
+    let made = regions_of::<U>(alloc, checked, table, first, marks, workers)?;
     let own = own_count(made.as_slice());
     let locks = locked(alloc, made)?;
     if !go_on(
@@ -360,7 +357,7 @@ fn run_as<'c, U: Realm + Send + Sync, R: Threads + Wait + Sync, W: Watch + Sync>
 }
 
 /// Lets so many workers, from 1 to 64, search on from states of which those with numbers below one are worked: all states that there are
-/// then, each worked, in one store that is read by their numbers. Each state belongs to one of four regions for each worker, which its
+/// then, each worked, in one store that is read by their numbers. Each state belongs to one of as many regions, which its
 /// history tells, and is worked there alone. A worker takes a region that has something to do, works some of its states, what was met last
 /// first, and hands on what belongs to others. `None` where a run is met that is not good, where there are more states than the limit, or
 /// where there are too many for numbers: that tells nothing.

@@ -1,6 +1,7 @@
 //! Workers over regions.
 
 ghost use Rattle.std.specs.Prelude.{◌≡◌, Some};
+ghost use Rattle.std.specs.Thread.{IsSend, IsSync};
 
 use crate::halt::Halt;
 use crate::parcel::Parcel;
@@ -145,6 +146,29 @@ fn work<'a, U: Realm, R: Wait, W: Watch>(team: &Team<'_, 'a, U, R, W>) {
     }
 }
 
+// Lets so many workers work. The caller is one of them, and starts the others itself, one after another: threads that two start at one
+// time may go to one processor, and wait for each other there.
+fn work_by<U: Realm + Send + Sync, R: Threads + Wait + Sync, W: Watch + Sync>(
+    rt: &R,
+    team: &Team<'_, '_, U, R, W>,
+    workers: u64,
+) {
+    if workers < 2 {
+        work(team);
+        return;
+    }
+    let fewer = workers - 1;
+    thread::join(
+        rt,
+        ||
+            requires { IsSync R.row × IsSync U.row × IsSend U.row × IsSync W.row }
+        { work(team) },
+        ||
+            requires { IsSync R.row × IsSync U.row × IsSend U.row × IsSync W.row }
+        { work_by(rt, team, fewer) },
+    );
+}
+
 /// Lets so many workers work the regions until the search has ended, each in a thread of its own where one can be started: how it ended.
 ///
 /// Errors: where a growth was refused.
@@ -153,7 +177,7 @@ pub fn work_all<U: Realm + Send + Sync, R: Threads + Wait + Sync, W: Watch + Syn
     team: &Team<'_, '_, U, R, W>,
     workers: u64,
 ) -> Result<Ended, AllocError> {
-    let _ = thread::map_indices(rt, team.alloc, workers as usize, &|_| work(team))?;
+    work_by(rt, team, workers);
     let pile = team.pile.lock(rt);
     match pile.ended() {
         Some(Ended::Memory) => Err(AllocError),
