@@ -87,34 +87,33 @@ fn by_halves<R: Threads + Sync, T: Task + Sync + Drop>(
     }
 }
 
-// The outputs of two tasks, of which each has a part of the workers.
-fn by_two<R: Threads + Sync, T: Task + Sync + Drop>(
+/// The outputs of two tasks at one time: of the first by some workers, of the second by others, of whom the caller is one.
+pub fn run_both<R: Threads + Sync, A: Task + Sync + Drop, B: Task + Sync + Drop>(
     rt: &R,
-    left: &T,
-    right: &T,
-    workers: u64,
-) -> (Result<T::Output, AllocError>, Result<T::Output, AllocError>)
-    requires left { T.is_ready left.now }
-    requires right { T.is_ready right.now }
-    ensures left { IfOk result.0 (T.is_output left.now) }
-    ensures right { IfOk result.1 (T.is_output right.now) }
+    first: &A,
+    some: u64,
+    second: &B,
+    others: u64,
+) -> (Result<A::Output, AllocError>, Result<B::Output, AllocError>)
+    requires first { A.is_ready first.now }
+    requires second { B.is_ready second.now }
+    ensures first { IfOk result.0 (A.is_output first.now) }
+    ensures second { IfOk result.1 (B.is_output second.now) }
 {
-    let fewer = workers / 2;
-    let more = workers - fewer;
     thread::join(
         rt,
-        || -> Result<T::Output, AllocError>
-            requires { IsSync R.row × IsSync T.row × T.is_ready left.now }
-            ensures { IfOk result (T.is_output left.entry.now) }
-        { by_halves(rt, left, more) },
-        || -> Result<T::Output, AllocError>
-            requires { IsSync R.row × IsSync T.row × T.is_ready right.now }
-            ensures { IfOk result (T.is_output right.entry.now) }
-        { by_halves(rt, right, fewer) },
+        || -> Result<A::Output, AllocError>
+            requires { IsSync R.row × IsSync A.row × A.is_ready first.now }
+            ensures { IfOk result (A.is_output first.entry.now) }
+        { by_halves(rt, first, some) },
+        || -> Result<B::Output, AllocError>
+            requires { IsSync R.row × IsSync B.row × B.is_ready second.now }
+            ensures { IfOk result (B.is_output second.entry.now) }
+        { by_halves(rt, second, others) },
     )
 }
 
-// The outputs of three tasks, of which the first has so many workers.
+// The outputs of three tasks, of which the first has so many workers, and the others share so many.
 fn by_three<R: Threads + Sync, T: Task + Sync + Drop>(
     rt: &R,
     first: &T,
@@ -142,7 +141,7 @@ fn by_three<R: Threads + Sync, T: Task + Sync + Drop>(
         || -> (Result<T::Output, AllocError>, Result<T::Output, AllocError>)
             requires { IsSync R.row × IsSync T.row × T.is_ready left.now × T.is_ready right.now }
             ensures { IfOk result.0 (T.is_output left.entry.now) × IfOk result.1 (T.is_output right.entry.now) }
-        { by_two(rt, left, right, workers) },
+        { run_both(rt, left, workers - workers / 2, right, workers / 2) },
     )
 }
 

@@ -1,9 +1,10 @@
 -- Worked states that are written as a tree, part by part.
-use Rattle.std.proofs.Common.{◌≡◌, ◌∙◌, ℕ, ◌-◌, ◌<◌, ◌≤◌, List, [], ◌∷◌, ◌++◌, length, take, drop, get_or, Option, refl, sym, ap, subst, append_assoc, arith}
+use Rattle.std.proofs.Common.{◌≡◌, ◌∙◌, ℕ, ◌-◌, ◌<◌, ◌≤◌, List, [], ◌∷◌, ◌++◌, length, take, drop, get_or, Option, Result, Ok, Err, sym, ap, subst, append_assoc, arith}
 use Rattle.std.proofs.KnownBytes.{Appends-nil, Appends-trans}
 use Rattle.std.proofs.lemmas.List.{append-nil, take_rest}
 use Rattle.std.specs.Io.KnownBytes.{Appends}
 use Rattle.std.specs.List.{flat_map}
+use Rattle.std.specs.Prelude.{OnErr, OnOk}
 use Rattle.tso_cert.specs.Certificates.{magic}
 use Rattle.tso_cert.specs.Trees.{fork, spelling_of}
 use Rattle.tso_code.specs.States.{state}
@@ -11,7 +12,7 @@ use Rattle.tso_code.specs.Tables.{table}
 use Rattle.tso_explore.proofs.CuttingLemmas.{tree_of_worked}
 use Rattle.tso_explore.proofs.Sorting.{order_is_there}
 use Rattle.tso_explore.proofs.TaskLemmas.{fork_of_halves}
-use Rattle.tso_explore.specs.Spelling.{InLeft, InRight, IsPut, IsPutInPart, IsSpelledCut, IsStateBehind, Nothing, Whole}
+use Rattle.tso_explore.specs.Spelling.{InLeft, InRight, IsPut, IsPutBehind, IsPutInPart, IsPutInPartBehind, IsStateBehind, Nothing, Whole}
 use Rattle.tso_explore.specs.Tasks.{AreHalvesCut, CanBeCut, Numbered, uncut}
 use Rattle.tso_explore.specs.Worked.{AreWorkedOut, IsWritten, IsWrittenInPart}
 use Rattle.tso_explore.specs.declared.worked.Worked.{Worked}
@@ -45,21 +46,28 @@ module _ {V : Type 0} (items : V → List ℕ) (a b d : Option (List ℕ)) (firs
   pub pieces_begun : Appends a b slice → AppendsBeginning b d others → AppendsBeginning a d (flat_map items pieces)
   pieces_begun one out = beginning_behind a b d (flat_map items pieces) slice others [] (pieces_from ∙ ap (λ (l : List ℕ). slice ++ l) (sym (append-nil others))) one out
 
--- ---- at once
+-- ---- pieces that wait
 
-pub put_whole : {V : Type 0} (items : V → List ℕ) (u : Numbered) (a b : Option (List ℕ)) (pieces slice : List V) → IsSpelledCut u (flat_map items pieces) → slice ≡ pieces → Appends a b (flat_map items slice) → IsPut u a b
-put_whole items u a b pieces slice is same out = record { tree = is.tree; cut = is.cut; appended = subst (Appends a b) (ap (flat_map items) same ∙ is.spelled) out }
+-- what is known of a result that is an error, and of one that is none
+module _ {A E : Type 0} {P : Type 0} (r : Result A E) where
+  pub of_err : (e : E) → r ≡ Err e → OnErr r P → P
+  of_err e is known = let Q : Result A E → Type 0 = λ x. OnErr x P in subst Q is known
 
-pub part_of_nothing : (u : Numbered) (a : Option (List ℕ)) → IsPutInPart u a a
-part_of_nothing u a = record { front = []; begun = Nothing u; appended = beginning_of_none a [] }
+  pub of_ok : (x : A) → r ≡ Ok x → OnOk r P → P
+  of_ok x is known = let Q : Result A E → Type 0 = λ y. OnOk y P in subst Q is known
 
-pub part_of_whole : {V : Type 0} (items : V → List ℕ) (u : Numbered) (a b : Option (List ℕ)) (pieces slice : List V) → IsSpelledCut u (flat_map items pieces) → slice ≡ pieces → AppendsBeginning a b (flat_map items slice)
-    → IsPutInPart u a b
-part_of_whole items u a b pieces slice is same out = record {
-  front = spelling_of is.tree;
-  begun = Whole u is.tree is.cut;
-  appended = subst (AppendsBeginning a b) (ap (flat_map items) same ∙ is.spelled) out;
-}
+module _ {V : Type 0} (items : V → List ℕ) (u : Numbered) (a b : Option (List ℕ)) (waiting slice : List V) (same : slice ≡ waiting) where
+  -- a beginning of what waited went out
+  pub slab_begun : AppendsBeginning a b (flat_map items slice) → IsPutInPartBehind u (flat_map items waiting) a b
+  slab_begun out = record { front = []; begun = Nothing u; appended = subst (AppendsBeginning a b) (ap (flat_map items) same ∙ sym (append-nil (flat_map items waiting))) out }
+
+  -- all that waited went out, and nothing was spelled
+  pub slab_unspelled : Appends a b (flat_map items slice) → IsPutInPartBehind u (flat_map items waiting) a b
+  slab_unspelled out = slab_begun (beginning_of_part a b b (flat_map items slice) (flat_map items slice) [] (sym (append-nil (flat_map items slice))) out)
+
+-- nothing went out
+pub none_behind : (u : Numbered) (waiting : List ℕ) (a : Option (List ℕ)) → IsPutInPartBehind u waiting a a
+none_behind u waiting a = record { front = []; begun = Nothing u; appended = beginning_of_none a (waiting ++ []) }
 
 -- ---- a fork, part by part
 
@@ -69,70 +77,101 @@ of_whole u left right bytes halves is =
     let P : List State → Type 0 = λ states. IsStateBehind states (get_or right.numbers 0 0) [] bytes in
     subst P (ap (λ (x : Numbered). x.states) halves.right_is) is
 
-module _ (u left right : Numbered) (halves : AreHalvesCut u left right) (a b : Option (List ℕ)) where
-  -- its byte did not go out
-  pub part_of_byte : AppendsBeginning a b (1 ∷ []) → IsPutInPart u a b
-  part_of_byte out = record { front = 1 ∷ []; begun = InLeft u left right [] halves (Nothing left); appended = out }
+-- the fork's byte and its left half are put behind what waits, and then its state
+module _ (waiting forked first halved gone L S : List ℕ) (one : forked ≡ waiting ++ 1 ∷ []) (split : forked ++ L ≡ gone ++ first) (two : halved ≡ first ++ S) where
+  left_split : (rest : List ℕ) → waiting ++ (1 ∷ (L ++ rest)) ≡ gone ++ (first ++ rest)
+  left_split rest =
+      sym (append_assoc waiting (1 ∷ []) (L ++ rest))
+      ∙ ap (λ (w : List ℕ). w ++ (L ++ rest)) (sym one)
+      ∙ sym (append_assoc forked L rest)
+      ∙ ap (λ (w : List ℕ). w ++ rest) split
+      ∙ append_assoc gone first rest
+
+  fork_split : (rest : List ℕ) → waiting ++ (1 ∷ (L ++ (S ++ rest))) ≡ gone ++ (halved ++ rest)
+  fork_split rest = left_split (S ++ rest) ∙ ap (λ (w : List ℕ). gone ++ w) (sym (append_assoc first S rest) ∙ ap (λ (w : List ℕ). w ++ rest) (sym two))
+
+module _ (u left right : Numbered) (halves : AreHalvesCut u left right) (a b : Option (List ℕ)) (waiting byte forked : List ℕ) (of : byte ≡ 1 ∷ []) (one : forked ≡ waiting ++ byte) where
+  -- the fork's byte is put behind what waits
+  put_byte : forked ≡ waiting ++ 1 ∷ []
+  put_byte = one ∙ ap (λ (l : List ℕ). waiting ++ l) of
 
   -- its left half went out in part
-  pub part_of_left : (c : Option (List ℕ)) → Appends a b (1 ∷ []) → IsPutInPart left b c → IsPutInPart u a c
-  part_of_left c one part = record {
+  pub part_of_left : IsPutInPartBehind left forked a b → IsPutInPartBehind u waiting a b
+  part_of_left part = record {
     front = 1 ∷ part.front;
     begun = InLeft u left right part.front halves part.begun;
-    appended = beginning_behind a b c (1 ∷ part.front) (1 ∷ []) part.front [] (ap (λ (l : List ℕ). 1 ∷ l) (sym (append-nil part.front))) one part.appended;
+    appended = subst (AppendsBeginning a b) (ap (λ (w : List ℕ). w ++ part.front) put_byte ∙ append_assoc waiting (1 ∷ []) part.front) part.appended;
   }
 
-  -- its left half went out, and no more
-  pub part_before_state : (c : Option (List ℕ)) → Appends a b (1 ∷ []) → IsPut left b c → IsPutInPart u a c
-  part_before_state c one first =
-      let L = spelling_of first.tree in
-      record {
-        front = 1 ∷ L;
-        begun = InLeft u left right L halves (Whole left first.tree first.cut);
-        appended = beginning_of_part a c c (1 ∷ L) (1 ∷ L) [] (sym (append-nil (1 ∷ L))) (Appends-trans a b c (1 ∷ []) L one first.appended);
-      }
+  module _ (first : List ℕ) (behind : IsPutBehind left forked first a b) where
+    -- its left half is put behind, and no more
+    pub part_before_state : IsPutInPartBehind u waiting a b
+    part_before_state =
+        let L = spelling_of behind.tree in
+        let put = behind.put in
+        let e : waiting ++ (1 ∷ L) ≡ put.gone ++ first =
+        sym (append_assoc waiting (1 ∷ []) L) ∙ ap (λ (w : List ℕ). w ++ L) (sym put_byte) ∙ put.split in
+        record {
+          front = 1 ∷ L;
+          begun = InLeft u left right L halves (Whole left behind.tree behind.cut);
+          appended = beginning_of_part a b b (waiting ++ (1 ∷ L)) put.gone first e put.appended;
+        }
 
-  -- and a part of its state
-  pub part_of_state : (c d : Option (List ℕ)) (bytes slice : List ℕ) → Appends a b (1 ∷ []) → IsPut left b c → IsStateBehind right.states (get_or right.numbers 0 0) [] bytes → slice ≡ bytes
-      → AppendsBeginning c d slice → IsPutInPart u a d
-  part_of_state c d bytes slice one first behind same out =
-      let middle = of_whole u left right bytes halves behind in
-      let L = spelling_of first.tree in
-      let S = state middle.spelled in
-      record {
-        front = 1 ∷ (L ++ (S ++ []));
-        begun = InRight u left right first.tree middle.spelled [] halves first.cut middle.at (Nothing right);
-        appended = beginning_behind a c d (1 ∷ (L ++ (S ++ []))) (1 ∷ L) S [] refl (Appends-trans a b c (1 ∷ []) L one first.appended) (subst (AppendsBeginning c d) (same ∙ middle.is) out);
-      }
+    module _ (c : Option (List ℕ)) (bytes halved : List ℕ) (state_is : IsStateBehind right.states (get_or right.numbers 0 0) [] bytes) (two : halved ≡ first ++ bytes) where
+      -- its left half and its state are put behind, and its right half went out in part
+      pub part_of_right : IsPutInPartBehind right halved b c → IsPutInPartBehind u waiting a c
+      part_of_right part =
+          let middle = of_whole u left right bytes halves state_is in
+          let L = spelling_of behind.tree in
+          let S = state middle.spelled in
+          let put = behind.put in
+          let front = 1 ∷ (L ++ (S ++ part.front)) in
+          let e : waiting ++ front ≡ put.gone ++ ((halved ++ part.front) ++ []) =
+          fork_split waiting forked first halved put.gone L S put_byte put.split (two ∙ ap (λ (w : List ℕ). first ++ w) middle.is) part.front
+          ∙ ap (λ (w : List ℕ). put.gone ++ w) (sym (append-nil (halved ++ part.front))) in
+          record {
+            front = front;
+            begun = InRight u left right behind.tree middle.spelled part.front halves behind.cut middle.at part.begun;
+            appended = beginning_behind a b c (waiting ++ front) put.gone (halved ++ part.front) [] e put.appended part.appended;
+          }
 
-  -- and its state, and a part of its right half
-  pub part_of_right : (c d e : Option (List ℕ)) (bytes slice : List ℕ) → Appends a b (1 ∷ []) → IsPut left b c → IsStateBehind right.states (get_or right.numbers 0 0) [] bytes → slice ≡ bytes
-      → Appends c d slice → IsPutInPart right d e → IsPutInPart u a e
-  part_of_right c d e bytes slice one first behind same out part =
-      let middle = of_whole u left right bytes halves behind in
-      let L = spelling_of first.tree in
-      let S = state middle.spelled in
-      record {
-        front = 1 ∷ (L ++ (S ++ part.front));
-        begun = InRight u left right first.tree middle.spelled part.front halves first.cut middle.at part.begun;
-        appended = beginning_behind a d e (1 ∷ (L ++ (S ++ part.front))) (1 ∷ (L ++ S)) part.front []
-            (ap (λ (l : List ℕ). 1 ∷ l) (sym (append_assoc L S part.front) ∙ ap (λ (l : List ℕ). (L ++ S) ++ l) (sym (append-nil part.front))))
-            (Appends-trans a c d (1 ∷ L) S (Appends-trans a b c (1 ∷ []) L one first.appended) (subst (Appends c d) (same ∙ middle.is) out)) part.appended;
-      }
+      -- all of it is put behind
+      pub put_fork : (last : List ℕ) → CanBeCut u → IsPutBehind right halved last b c → IsPutBehind u waiting last a c
+      put_fork last ready second =
+          let middle = of_whole u left right bytes halves state_is in
+          let L = spelling_of behind.tree in
+          let S = state middle.spelled in
+          let R = spelling_of second.tree in
+          let put = behind.put in
+          let next = second.put in
+          let e : waiting ++ (1 ∷ (L ++ (S ++ R))) ≡ (put.gone ++ next.gone) ++ last =
+          fork_split waiting forked first halved put.gone L S put_byte put.split (two ∙ ap (λ (w : List ℕ). first ++ w) middle.is) R
+          ∙ ap (λ (w : List ℕ). put.gone ++ w) next.split
+          ∙ sym (append_assoc put.gone next.gone last) in
+          record {
+            tree = fork behind.tree middle.spelled second.tree;
+            cut = fork_of_halves u left right behind.tree second.tree middle.spelled ready halves behind.cut second.cut middle.at;
+            put = record { gone = put.gone ++ next.gone; appended = Appends-trans a b c put.gone next.gone put.appended next.appended; split = e };
+          }
 
-  -- all of it
-  pub put_fork : (c d e : Option (List ℕ)) (bytes slice : List ℕ) → CanBeCut u → Appends a b (1 ∷ []) → IsPut left b c → IsStateBehind right.states (get_or right.numbers 0 0) [] bytes → slice ≡ bytes
-      → Appends c d slice → IsPut right d e → IsPut u a e
-  put_fork c d e bytes slice ready one first behind same out second =
-      let middle = of_whole u left right bytes halves behind in
-      let L = spelling_of first.tree in
-      let S = state middle.spelled in
-      let R = spelling_of second.tree in
-      record {
-        tree = fork first.tree middle.spelled second.tree;
-        cut = fork_of_halves u left right first.tree second.tree middle.spelled ready halves first.cut second.cut middle.at;
-        appended = Appends-trans a b e (1 ∷ []) (L ++ (S ++ R)) one (Appends-trans b c e L (S ++ R) first.appended (Appends-trans c d e S R (subst (Appends c d) (same ∙ middle.is) out) second.appended));
-      }
+-- ---- the whole tree
+
+pub part_of_nothing : (u : Numbered) (a : Option (List ℕ)) → IsPutInPart u a a
+part_of_nothing u a = record { front = []; begun = Nothing u; appended = beginning_of_none a [] }
+
+-- nothing waited: of the last pieces a beginning went out
+pub last_begun : {V : Type 0} (items : V → List ℕ) (u : Numbered) (a b c : Option (List ℕ)) (none last slice : List V) → none ≡ [] → slice ≡ last → IsPutBehind u (flat_map items none) (flat_map items last) a b
+    → AppendsBeginning b c (flat_map items slice) → IsPutInPart u a c
+last_begun items u a b c none last slice empty same behind out =
+    let put = behind.put in
+    let left = flat_map items last in
+    let e : spelling_of behind.tree ≡ put.gone ++ (left ++ []) =
+    ap (λ (l : List ℕ). l ++ spelling_of behind.tree) (sym (ap (flat_map items) empty)) ∙ put.split ∙ ap (λ (l : List ℕ). put.gone ++ l) (sym (append-nil left)) in
+    record {
+      front = spelling_of behind.tree;
+      begun = Whole u behind.tree behind.cut;
+      appended = beginning_behind a b c (spelling_of behind.tree) put.gone left [] e put.appended (subst (AppendsBeginning b c) (ap (flat_map items) same) out);
+    }
 
 -- ---- the whole
 

@@ -76,6 +76,24 @@ pub record IsPutInPart (u : Numbered) (old new : Option (List ℕ)) : Type 0 whe
   pub begun : IsFront u front
   pub appended : AppendsBeginning old new front
 
+-- bytes are put behind those that wait: known bytes grow by the front of all these, and the rest of them is left to wait
+pub record ArePutBehind (bytes waiting left : List ℕ) (old new : Option (List ℕ)) : Type 0 where
+  pub gone : List ℕ
+  pub appended : Appends old new gone
+  pub split : waiting ++ bytes ≡ gone ++ left
+
+-- the spelling of a tree that is cut of these states is put behind those that wait
+pub record IsPutBehind (u : Numbered) (waiting left : List ℕ) (old new : Option (List ℕ)) : Type 0 where
+  pub tree : Tree
+  pub cut : IsCutOf u tree
+  pub put : ArePutBehind (spelling_of tree) waiting left old new
+
+-- known bytes grow by a beginning of those that wait and of one of such a spelling behind them, as far as it was made
+pub record IsPutInPartBehind (u : Numbered) (waiting : List ℕ) (old new : Option (List ℕ)) : Type 0 where
+  pub front : List ℕ
+  pub begun : IsFront u front
+  pub appended : AppendsBeginning old new (waiting ++ front)
+
 -- ---- spelling
 
 -- a store of this client has such states, which can be cut, and these are the spellings of their parts

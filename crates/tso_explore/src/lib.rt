@@ -10,6 +10,7 @@ mod exploring;
 mod first;
 mod laws;
 mod lone;
+mod meanwhile;
 mod merging;
 mod ordering;
 mod outcome;

@@ -13,7 +13,7 @@ use crate::cutting::{LEAF, end_at};
 use crate::speller::Speller;
 use std::alloc::{AllocError, Global};
 use std::thread::Threads;
-use tso_cert::{ALONE, Task, run_by};
+use tso_cert::{ALONE, Task};
 use tso_code::write_number;
 use tso_flow::Checked;
 use tso_foot::Table;
@@ -290,18 +290,4 @@ impl<'a> Task for Unspelled<'a> {
         let pieces = fork_of(self.alloc, first, middle, second)?;
         Ok(pieces)
     }
-}
-
-/// The spelling of the tree of these states in pieces, by so many workers.
-///
-/// Errors: where a growth was refused.
-pub fn spelled_by<R: Threads + Sync>(
-    rt: &R,
-    unspelled: &Unspelled<'_>,
-    workers: u64,
-) -> Result<Vec<Vec<u8>>, AllocError>
-    requires ready { CanBeSpelled (numbers_of unspelled.now) unspelled.now.store.now.client unspelled.now.speller.now }
-    ensures { IfOk result (λ pieces. IsSpelledCut (numbers_of unspelled.now) (flat_map (λ v. v.items) pieces.items)) }
-{
-    run_by(rt, unspelled, workers)
 }

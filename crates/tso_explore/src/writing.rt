@@ -5,16 +5,17 @@ ghost use Rattle.std.specs.List.{flat_map};
 ghost use Rattle.std.specs.Prelude.{◌≡◌, ◌++◌, IfOk, OnErr, OnOk};
 ghost use Rattle.tso_cert.specs.Certificates.{magic};
 ghost use Rattle.tso_code.specs.Tables.{table as spelled_table};
-ghost use Rattle.tso_explore.specs.Spelling.{CanBeSpelled, IsPut, IsPutInPart};
+ghost use Rattle.tso_explore.specs.Spelling.{CanBeSpelled, IsPut, IsPutBehind, IsPutInPart, IsPutInPartBehind};
 ghost use Rattle.tso_explore.specs.Tasks.{uncut};
 ghost use Rattle.tso_explore.specs.Unspelled.{numbers_of};
 ghost use Rattle.tso_explore.specs.Worked.{AreWorkedOut, IsWritten, IsWrittenInPart};
 ghost use Rattle.tso_list.specs.Beginnings.{AppendsBeginning};
 ghost use Rattle.tso_store.specs.Orders.{IsRising};
 
+use crate::meanwhile::made_beside;
 use crate::ordering::rising_by;
 use crate::speller::Speller;
-use crate::spelling::{Unspelled, spelled_by};
+use crate::spelling::Unspelled;
 use crate::worked::Worked;
 use std::alloc::{AllocError, Global};
 use std::io::Write;
@@ -29,8 +30,8 @@ use tso_list::write_bytes;
 // As many records one thread spells before they are written: some 64 KiB.
 const SLAB: usize = 1024;
 
-// As many several threads do.
-const SHARED_SLAB: usize = 131_072;
+// As many several threads do, while those before them are written.
+const SHARED_SLAB: usize = 32_768;
 
 // The front of a certificate, before its tree.
 fn front_of(alloc: Global, table: &Table) -> Result<Vec<u8>, AllocError>
@@ -52,8 +53,10 @@ fn put_bytes<W: Write>(bytes: &[u8], out: &mut W) -> Result<(), WriteError>
     }
 }
 
-// Writes these pieces, one behind the other.
-fn put_pieces<W: Write>(pieces: &[Vec<u8>], out: &mut W) -> Result<(), WriteError>
+/// Writes these pieces, one behind the other.
+///
+/// Errors: where a write fails; a beginning of them has gone out then.
+pub fn put_pieces<W: Write>(pieces: &[Vec<u8>], out: &mut W) -> Result<(), WriteError>
     ensures ok { OnOk result (Appends (W.contents out.old) (W.contents out.new) (flat_map (λ v. v.items) pieces.now)) }
     ensures err { OnErr result (AppendsBeginning (W.contents out.old) (W.contents out.new) (flat_map (λ v. v.items) pieces.now)) }
 {
@@ -67,24 +70,63 @@ fn put_pieces<W: Write>(pieces: &[Vec<u8>], out: &mut W) -> Result<(), WriteErro
     }
 }
 
-// Writes the tree of these states at once.
+// These pieces, and one more behind them.
+fn with_piece(pieces: Vec<Vec<u8>>, piece: Vec<u8>) -> Result<Vec<Vec<u8>>, AllocError>
+    ensures { IfOk result (λ more. flat_map (λ v. v.items) more.items ≡ flat_map (λ v. v.items) pieces.items ++ piece.items) }
+{
+    let mut more = pieces;
+    more.push(piece)?;
+    Ok(more)
+}
+
+// Writes the pieces that wait while the tree of these states is spelled at once, in pieces that wait then.
 fn put_slab<R: Threads + Sync, W: Write>(
     rt: &R,
     whole: &Unspelled<'_>,
     workers: u64,
+    waiting: Vec<Vec<u8>>,
     out: &mut W,
-) -> Result<(), WriteError>
+) -> Result<Vec<Vec<u8>>, WriteError>
     requires ready { CanBeSpelled (numbers_of whole.now) whole.now.store.now.client whole.now.speller.now }
-    ensures ok { OnOk result (IsPut (numbers_of whole.now) (W.contents out.old) (W.contents out.new)) }
-    ensures err { OnErr result (IsPutInPart (numbers_of whole.now) (W.contents out.old) (W.contents out.new)) }
+    ensures ok { IfOk result (λ left. IsPutBehind (numbers_of whole.now) (flat_map (λ v. v.items) waiting.items) (flat_map (λ v. v.items) left.items) (W.contents out.old) (W.contents out.new)) }
+    ensures err { OnErr result (IsPutInPartBehind (numbers_of whole.now) (flat_map (λ v. v.items) waiting.items) (W.contents out.old) (W.contents out.new)) }
 {
-    let pieces = spelled_by(rt, whole, workers)?;
-    put_pieces(pieces.as_slice(), out)?;
-    Ok(())
+    let (made, put) = made_beside(rt, whole, workers, waiting.as_slice(), out);
+    put?;
+    Ok(made?)
 }
 
-// Writes the tree of these states: what is halved no more at once, and of the others a fork and its halves one after the other.
+// Writes the pieces that wait and the tree of these states, but for its last pieces, which wait then: what is halved no more is spelled at
+// once, and of the others a fork and its halves one after the other.
 fn put_slabs<R: Threads + Sync, W: Write>(
+    rt: &R,
+    whole: &Unspelled<'_>,
+    halvings: u32,
+    workers: u64,
+    waiting: Vec<Vec<u8>>,
+    out: &mut W,
+) -> Result<Vec<Vec<u8>>, WriteError>
+    requires ready { CanBeSpelled (numbers_of whole.now) whole.now.store.now.client whole.now.speller.now }
+    ensures ok { IfOk result (λ left. IsPutBehind (numbers_of whole.now) (flat_map (λ v. v.items) waiting.items) (flat_map (λ v. v.items) left.items) (W.contents out.old) (W.contents out.new)) }
+    ensures err { OnErr result (IsPutInPartBehind (numbers_of whole.now) (flat_map (λ v. v.items) waiting.items) (W.contents out.old) (W.contents out.new)) }
+{
+    if halvings == 0 {
+        return put_slab(rt, whole, workers, waiting, out);
+    }
+    let Some((left, right)) = whole.in_turn() else {
+        return put_slab(rt, whole, workers, waiting, out);
+    };
+    let fork = Vec::from_slice(whole.alloc, &[1])?;
+    let forked = with_piece(waiting, fork)?;
+    let first = put_slabs(rt, &left, halvings - 1, workers, forked, out)?;
+    let middle = right.first()?;
+    let halved = with_piece(first, middle)?;
+    let last = put_slabs(rt, &right, halvings - 1, workers, halved, out)?;
+    Ok(last)
+}
+
+// Writes the tree of these states, halved so often.
+fn put_tree<R: Threads + Sync, W: Write>(
     rt: &R,
     whole: &Unspelled<'_>,
     halvings: u32,
@@ -95,19 +137,9 @@ fn put_slabs<R: Threads + Sync, W: Write>(
     ensures ok { OnOk result (IsPut (numbers_of whole.now) (W.contents out.old) (W.contents out.new)) }
     ensures err { OnErr result (IsPutInPart (numbers_of whole.now) (W.contents out.old) (W.contents out.new)) }
 {
-    if halvings == 0 {
-        put_slab(rt, whole, workers, out)?;
-        return Ok(());
-    }
-    let Some((left, right)) = whole.in_turn() else {
-        put_slab(rt, whole, workers, out)?;
-        return Ok(());
-    };
-    put_bytes(&[1], out)?;
-    put_slabs(rt, &left, halvings - 1, workers, out)?;
-    let middle = right.first()?;
-    put_bytes(middle.as_slice(), out)?;
-    put_slabs(rt, &right, halvings - 1, workers, out)?;
+    let none = Vec::new(whole.alloc);
+    let last = put_slabs(rt, whole, halvings, workers, none, out)?;
+    put_pieces(last.as_slice(), out)?;
     Ok(())
 }
 
@@ -147,13 +179,13 @@ fn put_worked<R: Threads + Sync, W: Write>(
         numbers,
     };
     let halvings = halvings_of(numbers.len(), workers);
-    put_slabs(rt, &whole, halvings, workers.count(), out)?;
+    put_tree(rt, &whole, halvings, workers.count(), out)?;
     Ok(())
 }
 
 /// Writes worked states as a certificate with this table, by so many workers: what goes out is what `tso_cert::encode` spells of
-/// the table and of a tree of the states' records. It takes memory for the order of the states, and for the bytes of some 1,000 records
-/// where there is one worker, else of some 131,000.
+/// the table and of a tree of the states' records. Several workers spell records while this thread writes those before them. It takes memory
+/// for the order of the states, and for the bytes of some 2,000 records where there is one worker, else of some 65,000.
 ///
 /// Errors: `Io` where a write fails, and `Memory`; a beginning of such bytes has gone out then, perhaps none of them, and nothing
 /// else.

@@ -28,8 +28,3 @@ pub searched_as : {E : Type 0} (c : Client) (t : Table) (states : List State) (r
 searched_as c t states (Ok (Some store)) same searched = subst (AreSearched c t) (sym same) searched
 searched_as c t states (Ok None) same searched = tt
 searched_as c t states (Err e) same searched = tt
-
-pub client_as : {E : Type 0} (c d : Client) (r : Result (Option Sheet) E) → IfOk r (λ found. IfSome found (λ (store : Sheet). store.client ≡ d)) → d ≡ c → IfOk r (λ found. IfSome found (λ (store : Sheet). store.client ≡ c))
-client_as c d (Ok (Some store)) is same = is ∙ same
-client_as c d (Ok None) is same = tt
-client_as c d (Err e) is same = tt

@@ -60,7 +60,7 @@ new_if xs x false e = absurd (let clash : false ≡ true = e in cc)
 same_or_not : (a b : ℕ) {C : Type 0} → (a ≡ b → C) → ((a ≡ b → ⊥) → C) → C
 same_or_not a b same other = elim (eqb_tells a b) [ inl e ↦ same e.1 | inr e ↦ other e.1 ]
 
-by_option : {X Y : Type 0} (f : X → Y) (o : Option X) (y : Y) → option_map f o ≡ Some y → (x : X) × (o ≡ Some x) × (f x ≡ y)
+pub by_option : {X Y : Type 0} (f : X → Y) (o : Option X) (y : Y) → option_map f o ≡ Some y → (x : X) × (o ≡ Some x) × (f x ≡ y)
 by_option f None y e = absurd (none-some y e)
 by_option f (Some x) y e = (x, refl, same_Some (f x) y e)
 
@@ -261,9 +261,6 @@ all_searched c t count domains states initial long settled g first is = record {
   worked = all_worked c t count domains states long settled g;
 }
 
-pub more_reached : (c : Client) (limit count k : ℕ) (domains : List Domain) (states : List State) → AreGathered c count domains k states → limit < length states → HasMore c limit
-more_reached c limit count k domains states g more = record { states = states; more = more; differ = g.differ; reached = λ n s at. (g.met n s at).reached }
-
 -- ---- the first of them
 
 -- where one of the first k regions is the first, what it begins with comes first
@@ -282,6 +279,3 @@ first_more count zero domains d states new first none there is e s some at own h
     subst (λ (xs : List State). slice_get xs 0 ≡ Some s) (sym alone) also
 first_more count (suc k) domains d states new first none there is e s some at own here =
     subst (λ (xs : List State). slice_get xs 0 ≡ Some s) (sym is) (got_left states (picked d.states d.own) 0 s (first e s (omega arith) at own here))
-
-pub owned_there : (count i : ℕ) (d : Domain) → d.own ≡ owned_below count i d.states (length d.states) → (p n : ℕ) → slice_get d.own p ≡ Some n → n < length d.states
-owned_there count i d own p n at = (owned_is count i d.states (length d.states) p n (subst (λ (xs : List ℕ). slice_get xs p ≡ Some n) own at)).0

@@ -42,12 +42,6 @@ there_still old new n stays lt =
 pub met_as : (c : Client) (old new : List State) → AllMet c old → new ≡ old → AllMet c new
 met_as c old new met same = subst (AllMet c) (sym same) met
 
-pub sound_as : (c : Client) (old new : List State) → AreSound c old → new ≡ old → AreSound c new
-sound_as c old new sound same = subst (AreSound c) (sym same) sound
-
-pub stays_as : {X : Type 0} (old new : List X) → new ≡ old → Extends old new
-stays_as old new same i x at = subst (λ (xs : List _). slice_get xs i ≡ Some x) (sym same) at
-
 -- a new state, to which a step has led
 pub met_with : (c : Client) → HasNoFault c → (old new : List State) (n m : ℕ) (a : Actor) → IsNewState c old new n a m → AllMet c old → AllMet c new
 met_with c sound old new n m a s met k x at =

@@ -1,13 +1,13 @@
 -- Regions that are found to be settled, state by state and region by region.
-use Rattle.std.proofs.Common.{◌≡◌, ◌∙◌, ℕ, zero, suc, ◌+◌, ◌<◌, ◌≤◌, ◌⊎◌, inl, inr, List, [], ◌∷◌, length, map, Option, Some, slice_get, slice_index_or, refl, sym, ap, subst, arith}
+use Rattle.std.proofs.Common.{◌≡◌, ◌∙◌, ℕ, zero, suc, ◌+◌, ◌<◌, ◌≤◌, ◌⊎◌, inl, inr, List, [], ◌∷◌, length, map, Option, Some, slice_get, slice_index_or, refl, sym, ap, subst, arith, option_map}
 use Rattle.std.specs.Prelude.{IsTrue}
 use Rattle.std.proofs.lemmas.Bool.{cases_lt}
 use Rattle.std.proofs.lemmas.List.{take_all}
-use Rattle.std.proofs.lemmas.Option.{none-some, same_Some, slice_get_within}
+use Rattle.std.proofs.lemmas.Option.{get_or_from_slice_get, same_Some, slice_get-map, slice_get_within}
 use Rattle.tso_foot.specs.declared.table.Table.{Table}
 use Rattle.tso_parts.specs.Numbers.{IsNumbered}
 use Rattle.tso_prog.specs.declared.client.Client.{Client}
-use Rattle.tso_regions.proofs.GatheringLemmas.{owned_next_other, owned_next_own}
+use Rattle.tso_regions.proofs.GatheringLemmas.{by_option, owned_next_other, owned_next_own}
 use Rattle.tso_regions.specs.Gathering.{AreHalvesOf, AreOwners, AreSettled, AreSettledBetween, IsHeld, IsHeldAbroad, IsKnownRegion, IsNextOwn, IsSettled, IsSettledBelow, owned_below}
 use Rattle.tso_regions.specs.Owners.{owner_in, owner_of}
 use Rattle.tso_regions.specs.Regions.{Domain}
@@ -124,22 +124,14 @@ all_settled realm tables c t count domains is also all i d at = all c t i d is a
 
 -- ---- whose states are
 
-read_mapped : {X : Type 0} (f : X → ℕ) (xs : List X) (n o : ℕ) (d : X) → slice_get (map f xs) n ≡ Some o → f (slice_index_or xs n d) ≡ o
-read_mapped f [] n o d at = absurd (none-some o at)
-read_mapped f (x ∷ xs) zero o d at = same_Some (f x) o at
-read_mapped f (x ∷ xs) (suc n) o d at = read_mapped f xs n o d at
-
-got_mapped : {X Y : Type 0} (f : X → Y) (xs : List X) (n : ℕ) (x : X) → slice_get xs n ≡ Some x → slice_get (map f xs) n ≡ Some (f x)
-got_mapped f [] n x at = absurd (none-some x at)
-got_mapped f (y ∷ xs) zero x at = ap (λ z. Some (f z)) (same_Some y x at)
-got_mapped f (y ∷ xs) (suc n) x at = got_mapped f xs n x at
-
 pub owners_known : (count : ℕ) (p : Parts) (keys : List Key) (owners : List ℕ) (states : List State) → owners ≡ map (owner_of count) p.histories → states_at p keys ≡ states → AreOwners count owners keys states
-owners_known count p keys owners states are same n owner k at here = record {
-  state = state_at p k;
-  at = ap (λ (xs : List State). slice_get xs n) (sym same) ∙ got_mapped (state_at p) keys n k at;
-  is = read_mapped (owner_of count) p.histories k.history owner [] (ap (λ (xs : List ℕ). slice_get xs k.history) (sym are) ∙ here);
-}
+owners_known count p keys owners states are same n owner k at here =
+    let (h, kept, is) = by_option (owner_of count) (slice_get p.histories k.history) owner (sym (slice_get-map (owner_of count) p.histories k.history) ∙ ap (λ (xs : List ℕ). slice_get xs k.history) (sym are) ∙ here) in
+    record {
+      state = state_at p k;
+      at = ap (λ (xs : List State). slice_get xs n) (sym same) ∙ slice_get-map (state_at p) keys n ∙ ap (option_map (state_at p)) at;
+      is = ap (owner_of count) (get_or_from_slice_get p.histories k.history h [] kept) ∙ is;
+    }
 
 -- the state with this number is the next one of its own
 pub own_next : (count place : ℕ) (owners : List ℕ) (keys : List Key) (d : Domain) (n before o : ℕ) (k : Key) → AreOwners count owners keys d.states → slice_get keys n ≡ Some k → slice_get owners k.history ≡ Some o → o ≡ place

@@ -98,10 +98,6 @@ pub record AreHalvesOf (count : ℕ) (domains : List Domain) (from to : ℕ) (lc
 abbrev pub AreSettled : Client → Table → ℕ → List Domain → Type 0
 AreSettled c t count domains = (i : ℕ) (d : Domain) → slice_get domains i ≡ Some d → IsSettled count domains i d × IsKnownRegion c t d
 
--- each of the first so many regions lists just its own states
-abbrev pub AreListed : Client → ℕ → List Domain → ℕ → Type 0
-AreListed c count domains k = (i : ℕ) (d : Domain) → i < k → slice_get domains i ≡ Some d → (d.own ≡ owned_below count i d.states (length d.states)) × AllMet c d.states × IsNumbered d.states
-
 -- state number n of region i is one of its own
 pub record IsOwned (count : ℕ) (domains : List Domain) (k : ℕ) (s : State) : Type 0 where
   pub owner : ℕ

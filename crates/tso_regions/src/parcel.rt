@@ -1,6 +1,6 @@
 //! States on their way to their owner.
 
-ghost use Rattle.std.specs.Prelude.{◌≡◌, IfOk, IfSome, None, Ok, OnErr, Some, slice_get};
+ghost use Rattle.std.specs.Prelude.{◌≡◌, ◌<◌, ◌^◌, [], IfOk, IfSome, None, Ok, OnErr, Some, length, slice_get};
 ghost use Rattle.tso_parts.specs.Numbers.{Extends};
 ghost use Rattle.tso_regions.specs.Regions.{AreSound, IsSound};
 ghost use Rattle.tso_prog.specs.declared.client.Client.{Client};
@@ -60,6 +60,7 @@ fn keep_all(store: &mut Store<'_>, from: &Store<'_>, numbers: &[u32]) -> Result<
     requires from { AreSound from.now.client from.now.states }
     requires sound { AreSound store.old.client store.old.states }
     ensures sound { AreSound store.new.client store.new.states }
+    ensures stays { Extends store.old.states store.new.states }
     ensures client { store.new.client ≡ store.old.client }
 {
     for number in numbers {
@@ -71,7 +72,9 @@ fn keep_all(store: &mut Store<'_>, from: &Store<'_>, numbers: &[u32]) -> Result<
 }
 
 /// How many states there are, as far as numbers go.
-pub fn count_of(store: &Store<'_>) -> u32 {
+pub fn count_of(store: &Store<'_>) -> u32
+    ensures { length store.now.states < 2 ^ 32 → result ≡ length store.now.states }
+{
     u32::try_from(store.len()).unwrap_or(u32::MAX)
 }
 
@@ -79,6 +82,7 @@ impl<'a, U: Realm> Parcel<'a, U> {
     /// No states.
     pub fn new(alloc: Global, checked: &'a Checked) -> Self
         requires { U.client ≡ Some checked.now.client }
+        ensures { result ≡ [] }
     {
         let store = Store::new(alloc, checked, 0);
         Parcel {
@@ -93,12 +97,15 @@ impl<'a, U: Realm> Parcel<'a, U> {
     pub fn put(&mut self, from: &Store<'_>, numbers: &[u32]) -> Result<(), Halt>
         requires client { U.client ≡ Some from.now.client }
         requires from { AreSound from.now.client from.now.states }
+        ensures stays { Extends self.old self.new }
     {
         keep_all(&mut self.store, from, numbers)
     }
 
     /// How many states there are, as far as numbers go.
-    pub fn count(&self) -> u32 {
+    pub fn count(&self) -> u32
+        ensures { length self.now < 2 ^ 32 → result ≡ length self.now }
+    {
         count_of(&self.store)
     }
 

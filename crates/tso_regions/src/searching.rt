@@ -1,7 +1,6 @@
 //! The search by regions.
 
 ghost use Rattle.std.specs.Prelude.{◌≡◌, ◌<◌, ◌≤◌, ℕ, IfOk, IfSome, IsTrue, Some, length, true};
-ghost use Rattle.std.specs.Thread.{IsSync};
 ghost use Rattle.tso_parts.specs.Numbers.{IsNumbered};
 ghost use Rattle.tso_regions.specs.Gathering.{AreAllTaken, AreSettledBetween, IsBegunAt};
 ghost use Rattle.tso_regions.specs.Regions.{AreSound};
@@ -20,7 +19,7 @@ use std::marker::Brand;
 use std::sync::{Condvar, Mutex, Wait};
 use std::thread;
 use std::thread::Threads;
-use tso_cert::{Task, Watch, run_by};
+use tso_cert::{Watch, run_both};
 use tso_flow::Checked;
 use tso_foot::Table;
 use tso_search::Marks;
@@ -224,32 +223,7 @@ fn asked_and_gathered<'c, U: Realm + Send + Sync, R: Threads + Sync>(
         regions,
         count,
     };
-    by_both(rt, &asked, workers.saturating_sub(1), &ungathered)
-}
-
-// The outputs of two tasks, of which the first has so many workers, and the second the caller.
-fn by_both<R: Threads + Sync, A: Task + Sync + Drop, B: Task + Sync + Drop>(
-    rt: &R,
-    first: &A,
-    workers: u64,
-    second: &B,
-) -> (Result<A::Output, AllocError>, Result<B::Output, AllocError>)
-    requires first { A.is_ready first.now }
-    requires second { B.is_ready second.now }
-    ensures first { IfOk result.0 (A.is_output first.now) }
-    ensures second { IfOk result.1 (B.is_output second.now) }
-{
-    thread::join(
-        rt,
-        || -> Result<A::Output, AllocError>
-            requires { IsSync R.row × IsSync A.row × A.is_ready first.now }
-            ensures { IfOk result (A.is_output first.entry.now) }
-        { run_by(rt, first, workers) },
-        || -> Result<B::Output, AllocError>
-            requires { B.is_ready second.now }
-            ensures { IfOk result (B.is_output second.entry.now) }
-        { second.run() },
-    )
+    run_both(rt, &asked, workers.saturating_sub(1), &ungathered, 1)
 }
 
 // One store of these states, which has learnt where the next steps of their threads lead, if there are not too many.
@@ -341,8 +315,8 @@ fn run_as<'c, U: Realm + Send + Sync, R: Threads + Wait + Sync, W: Watch + Sync>
     )? {
         return Ok(None);
     }
-    let unlocked = unlocked(alloc, locks)?;
-    let mut regions = unlocked;
+    let worked = unlocked(alloc, locks)?;
+    let mut regions = worked;
     let found = concluded(
         rt,
         alloc,

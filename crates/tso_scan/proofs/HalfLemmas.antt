@@ -14,16 +14,18 @@ use Rattle.tso_rec.specs.Records.{ends_of}
 use Rattle.tso_rec.specs.declared.record.End.{End}
 use Rattle.tso_rec.specs.declared.record.Record.{Record}
 use Rattle.tso_scan.proofs.TreeLemmas.{first_behind}
-use Rattle.tso_scan.specs.Halves.{AreGrafted, AreHalvesOf, IsEnd, IsForkOf, IsForkShape, IsHalfOf, IsOfHalf, IsTreeRead, IsTwig, Stretch, stretch_of}
+use Rattle.tso_scan.specs.Halves.{AreGrafted, AreHalvesOf, IsEnd, IsForkOf, IsForkShape, IsHalfOf, IsOfWhole, IsStored, IsTreeRead, IsTwig, Stretch, stretch_of}
 use Rattle.tso_scan.specs.Scanned.{IsScannedBehind, IsShapeOf, scanned_states}
 use Rattle.tso_scan.specs.declared.halves.Half.{Half}
+use Rattle.tso_scan.specs.declared.halves.Records.{Records}
 use Rattle.tso_scan.specs.declared.halves.Twig.{Twig}
+use Rattle.tso_scan.specs.declared.index.Whole.{Whole}
 use Rattle.tso_scan.specs.declared.scanned.Scanned.{Scanned}
 use Rattle.tso_scan.specs.declared.shape.Shape.{Shape}
 use Rattle.tso_scan.specs.declared.shape.Shape.TheViews.{Fork}
 use Rattle.tso_scan.specs.declared.states.Scan.{Scan}
 use Rattle.tso_state.specs.declared.state.State.{State}
-use Rattle.tso_store.specs.Sheets.{Sheet}
+use Rattle.tso_store.specs.Gathering.{Gathering}
 
 -- ---- ends of bytes
 
@@ -87,8 +89,8 @@ meets bytes end right rest after t s spelled same reads behind long =
     same_ends bytes after right (record { front = spelling_of t ++ state s; is = whole }) behind long
 
 -- a fork of two trees that were read by themselves
-pub forked : (whole left right : Stretch) (first second h : Half) (new : Sheet) (room : ℕ) → AreHalvesOf whole left right → IsTreeRead left first → IsTreeRead right second → AreGrafted left right first.records second first.store new room
-    → (h.store ≡ new) × IsForkOf first.records second.records room h.records → IsTreeRead whole h
+pub forked : (whole left right : Stretch) (first second h : Half) (new : Gathering) (room : ℕ) → AreHalvesOf whole left right → IsTreeRead left first → IsTreeRead right second → AreGrafted left right first.records second first.states new room
+    → (h.states ≡ new) × IsForkOf first.records second.records room h.records → IsTreeRead whole h
 forked whole left right first second h new room halves one two graft (same, is) =
     let d = whole.depth - 1 in
     let inner = take (length whole.bytes - 1) (drop 1 whole.bytes) in
@@ -109,9 +111,9 @@ forked whole left right first second h new room halves one two graft (same, is) 
     let reads_whole : tree_at whole.depth whole.room whole.bytes ≡ Ok (fork one.tree graft.middle two.tree, room, two.rest) =
     opens_fork whole.depth whole.room whole.bytes halves.some halves.first halves.deep ∙ ap (fork_at (tree_at d) whole.room) (sym bytes_left) ∙ reads_fork in
     let both : new.states ≡ tree_states one.tree ++ tree_states two.tree = graft.taken.states ∙ (λ i. one.states i ++ two.states i) in
-    let many : length first.store.states ≡ length (tree_states one.tree) = ap length one.states in
+    let many : length first.states.states ≡ length (tree_states one.tree) = ap length one.states in
     let begins : slice_get (tree_states two.tree) 0 ≡ Some graft.middle =
-    sym (first_behind (tree_states one.tree) (tree_states two.tree) (length first.store.states) many) ∙ ap (λ l. slice_get l (length first.store.states)) (sym both) ∙ graft.taken.at in
+    sym (first_behind (tree_states one.tree) (tree_states two.tree) (length first.states.states) many) ∙ ap (λ l. slice_get l (length first.states.states)) (sym both) ∙ graft.taken.at in
     let a : tree_states (fork one.tree graft.middle two.tree) ≡ tree_states one.tree ++ tree_states two.tree = map-append (λ (r : Record). r.state) (records_of one.tree) (records_of two.tree) in
     let b : ends_of (records_of (fork one.tree graft.middle two.tree)) ≡ ends_of (records_of one.tree) ++ ends_of (records_of two.tree) = map-append (λ (r : Record). r.end) (records_of one.tree) (records_of two.tree) in
     let shape = is.shape one.tree two.tree graft.middle one.shape two.shape in
@@ -120,8 +122,8 @@ forked whole left right first second h new room halves one two graft (same, is) 
       rest = two.rest;
       behind = is.behind ∙ two.behind;
       reads = reads_whole ∙ ap (λ n. Ok (fork one.tree graft.middle two.tree, n, two.rest)) (sym is.room_is);
-      client = ap (λ (x : Sheet). x.client) same ∙ graft.client ∙ one.client ∙ c_left;
-      states = ap (λ (x : Sheet). x.states) same ∙ both ∙ sym a;
+      client = ap (λ (x : Gathering). x.client) same ∙ graft.client ∙ one.client ∙ c_left;
+      states = ap (λ (x : Gathering). x.states) same ∙ both ∙ sym a;
       ends = is.ends ∙ (λ i. one.ends i ++ two.ends i) ∙ sym b;
       shape = shape;
       forks = (one.forks, two.forks, begins);
@@ -129,19 +131,19 @@ forked whole left right first second h new room halves one two graft (same, is) 
 
 -- ---- whole trees
 
-pub tree_learned : (c : Client) (bytes : List ℕ) (t : Table) (h : Half) (s : Scanned) → h.records.behind ≡ 0 → IsTreeRead (stretch_of c 64 4194304 bytes) h → IsOfHalf t h s → IsScannedBehind c t bytes s
-tree_learned c bytes t h s none is learnt =
-    let nothing : is.rest ≡ [] = nil_from_length is.rest (sym is.behind ∙ none) in
+pub tree_learned : (c : Client) (bytes : List ℕ) (t : Table) (h : Half) (w : Whole) (s : Scanned) → w.records.behind ≡ 0 → IsTreeRead (stretch_of c 64 4194304 bytes) h → IsStored h w → IsOfWhole t w s → IsScannedBehind c t bytes s
+tree_learned c bytes t h w s none is stored learnt =
+    let nothing : is.rest ≡ [] = nil_from_length is.rest (sym is.behind ∙ ap (λ (r : Records). r.behind) (sym stored.records) ∙ none) in
     record {
       table = learnt.table;
       tree = is.tree;
       left = h.records.room;
       reads = is.reads ∙ ap (λ (l : List ℕ). Ok (is.tree, h.records.room, l)) nothing;
       scanned = record {
-        client = learnt.client ∙ is.client;
-        states = learnt.states ∙ is.states;
-        ends = learnt.ends ∙ is.ends;
-        shape = let S : Shape → Type 0 = λ x. IsShapeOf x is.tree in subst S (sym learnt.shape) is.shape;
+        client = learnt.client ∙ stored.client ∙ is.client;
+        states = learnt.states ∙ stored.states ∙ is.states;
+        ends = learnt.ends ∙ ap (λ (r : Records). r.ends) stored.records ∙ is.ends;
+        shape = let S : Shape → Type 0 = λ x. IsShapeOf x is.tree in subst S (sym (learnt.shape ∙ ap (λ (r : Records). r.shape) stored.records)) is.shape;
         forks = is.forks;
       };
     }

@@ -1,12 +1,13 @@
 -- States, ends and records, read one after the other.
-use Rattle.std.proofs.Common.{◌≡◌, ℕ, ◌-◌, ◌+◌, ◌<◌, ◌≤◌, ◌^◌, Bool, true, List, [], ◌∷◌, ◌++◌, length, Option, Some, None, refl, sym, ap, subst, ◌∙◌, append_assoc, arith, slice_get}
+use Rattle.std.proofs.Common.{◌≡◌, ℕ, ◌-◌, ◌+◌, ◌<◌, ◌≤◌, ◌^◌, true, List, [], ◌∷◌, ◌++◌, length, Option, Some, None, refl, sym, ap, subst, ◌∙◌, append_assoc, arith, slice_get}
 use Rattle.std.proofs.lemmas.List.{append-nil, length-append, map-append}
 use Rattle.tso_code.proofs.ItemLemmas.{goes_on, is_done, with_front}
 use Rattle.tso_code.specs.Fields.{items_at, list_at}
 use Rattle.tso_code.specs.Numbers.{word_at}
 use Rattle.tso_code.specs.States.{call_at, state_at, thread_at}
 use Rattle.tso_hist.specs.declared.call.Call.{Call}
-use Rattle.tso_parts.specs.Numbers.{Extends, grown}
+use Rattle.tso_parts.proofs.Marked.{new_item}
+use Rattle.tso_parts.specs.Numbers.{Extends}
 use Rattle.tso_prog.specs.declared.client.Client.{Client}
 use Rattle.tso_rec.specs.Records.{ends_of, states_of}
 use Rattle.tso_rec.specs.Spelling.{record_at}
@@ -60,18 +61,19 @@ key_read c old new count memory history row bytes after_memory after_threads res
 }
 
 -- the state that was read is the last one
-pub state_scanned : (c : Client) (old : Scan) (now : Sources) (after : List Key) (k : Key) (n : ℕ) (b : Bool) (bytes rest : List ℕ) → IsScan c old → IsKeyReadAs c old.sources now bytes k rest → after ≡ grown old.keys k b → slice_get after n ≡ Some k → b ≡ true
+pub state_scanned : (c : Client) (old : Scan) (now : Sources) (after : List Key) (k : Key) (bytes rest : List ℕ) → IsScan c old → IsKeyReadAs c old.sources now bytes k rest → after ≡ old.keys ++ k ∷ []
     → IsStateScanned c old (record { sources = now; keys = after; reader = old.reader; ends = old.ends }) bytes rest
-state_scanned c old now after k n b bytes rest is read e at new =
-    let kept = added_kept c (parts_of old.sources) (parts_of now) old.keys after k read.state b read.grows read.small is.kept read.key read.fits e in
-    let more = added c (parts_of old.sources) (parts_of now) old.keys after k read.state n b read.grows read.small is.kept read.key e at in
+state_scanned c old now after k bytes rest is read e =
+    let at : slice_get after (length old.keys) ≡ Some k = ap (λ (l : List Key). slice_get l (length old.keys)) e ∙ new_item old.keys k in
+    let kept = added_kept c (parts_of old.sources) (parts_of now) old.keys after k read.state true read.grows read.small is.kept read.key read.fits e in
+    let more = added c (parts_of old.sources) (parts_of now) old.keys after k read.state (length old.keys) true read.grows read.small is.kept read.key e at in
     record {
       state = read.state;
       reads = read.reads;
       more = record {
         scan = record { kept = kept; small = read.small; rows = read.rows };
         grows = read.grows;
-        states = more.kept ∙ ap (λ (w : Bool). grown (scanned_states old) read.state w) new;
+        states = more.kept;
         ends = sym (append-nil old.ends);
       };
     }

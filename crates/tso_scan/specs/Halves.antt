@@ -11,11 +11,12 @@ use Rattle.tso_scan.specs.Scanned.{ForksBegin, IsBranchScanned, IsShapeOf, scann
 use Rattle.tso_scan.specs.declared.halves.Half.{Half}
 use Rattle.tso_scan.specs.declared.halves.Records.{Records}
 use Rattle.tso_scan.specs.declared.halves.Twig.{Twig}
+use Rattle.tso_scan.specs.declared.index.Whole.{Whole}
 use Rattle.tso_scan.specs.declared.scanned.Scanned.{Scanned}
 use Rattle.tso_scan.specs.declared.shape.Shape.{Shape}
 use Rattle.tso_scan.specs.declared.states.Scan.{Scan}
 use Rattle.tso_state.specs.declared.state.State.{State}
-use Rattle.tso_store.specs.Sheets.{Sheet}
+use Rattle.tso_store.specs.Gathering.{Gathering}
 
 -- these are the bytes behind some of the others
 pub record IsEnd (bytes end : List ℕ) : Type 0 where
@@ -51,8 +52,8 @@ pub record IsTwig (c : Client) (old new : Scan) (depth room : ℕ) (bytes : List
 
 -- all that was read, as one tree
 pub record IsHalfOf (c : Client) (scan : Scan) (t : Twig) (h : Half) : Type 0 where
-  pub client : h.store.client ≡ c
-  pub states : h.store.states ≡ scanned_states scan
+  pub client : h.states.client ≡ c
+  pub states : h.states.states ≡ scanned_states scan
   pub ends : h.records.ends ≡ scan.ends
   pub shape : h.records.shape ≡ t.shape
   pub room : h.records.room ≡ t.room
@@ -64,8 +65,8 @@ pub record IsTreeRead (s : Stretch) (h : Half) : Type 0 where
   pub rest : List ℕ
   pub behind : h.records.behind ≡ length rest
   pub reads : tree_at s.depth s.room s.bytes ≡ Ok (tree, h.records.room, rest)
-  pub client : h.store.client ≡ s.client
-  pub states : h.store.states ≡ tree_states tree
+  pub client : h.states.client ≡ s.client
+  pub states : h.states.states ≡ tree_states tree
   pub ends : h.records.ends ≡ ends_of (records_of tree)
   pub shape : IsShapeOf h.records.shape tree
   pub forks : ForksBegin tree
@@ -83,7 +84,7 @@ pub record IsRoom (all first second room : ℕ) : Type 0 where
   pub is : first ≡ room + (all - second)
 
 -- a fork's state stands between what the halves were read from, and the states of the second are behind those of the first
-pub record AreGrafted (left right : Stretch) (first : Records) (second : Half) (old new : Sheet) (room : ℕ) : Type 0 where
+pub record AreGrafted (left right : Stretch) (first : Records) (second : Half) (old new : Gathering) (room : ℕ) : Type 0 where
   pub end : List ℕ
   pub ends : IsEnd left.bytes end
   pub long : length end ≡ first.behind
@@ -93,7 +94,7 @@ pub record AreGrafted (left right : Stretch) (first : Records) (second : Half) (
   pub meets : length rest ≡ length right.bytes
   pub fits : IsRoom right.room first.room second.records.room room
   pub client : new.client ≡ old.client
-  pub taken : AreTakenIn old.states second.store.states middle new.states
+  pub taken : AreTakenIn old.states second.states.states middle new.states
 
 -- a fork of trees of these shapes has this one
 abbrev pub IsForkShape : Shape → Shape → Shape → Type 0
@@ -108,10 +109,16 @@ pub record IsForkOf (first second : Records) (room : ℕ) (all : Records) : Type
 
 -- ---- a whole tree
 
+-- what was read of a tree, with its states in a store
+pub record IsStored (h : Half) (w : Whole) : Type 0 where
+  pub client : w.store.client ≡ h.states.client
+  pub states : w.store.states ≡ h.states.states
+  pub records : w.records ≡ h.records
+
 -- a table, and what was read behind it
-pub record IsOfHalf (t : Table) (h : Half) (s : Scanned) : Type 0 where
+pub record IsOfWhole (t : Table) (w : Whole) (s : Scanned) : Type 0 where
   pub table : s.table ≡ t
-  pub client : s.store.client ≡ h.store.client
-  pub states : s.store.states ≡ h.store.states
-  pub ends : s.ends ≡ h.records.ends
-  pub shape : s.shape ≡ h.records.shape
+  pub client : s.store.client ≡ w.store.client
+  pub states : s.store.states ≡ w.store.states
+  pub ends : s.ends ≡ w.records.ends
+  pub shape : s.shape ≡ w.records.shape

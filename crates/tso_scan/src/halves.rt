@@ -20,12 +20,12 @@ use tso_parts::Refused;
 use tso_prog::Client;
 use tso_rec::{End, Shared};
 use tso_state::State;
-use tso_store::Store;
+use tso_store::Gathered;
 
-/// A tree that was read by itself: its records' states in a store of their own, and what else was read of them in the same order.
+/// A tree that was read by itself: its records' states with parts of their own, and what else was read of them in the same order.
 #[derive(Drop)]
 pub struct Half<'c> {
-    pub store: Store<'c>,
+    pub states: Gathered<'c>,
     pub records: Records,
 }
 
@@ -87,7 +87,7 @@ fn read_twig(
 }
 
 // All that was read, as one tree.
-fn half_of<'c>(alloc: Global, checked: &'c Checked, scan: Scan, twig: Twig) -> Half<'c>
+fn half_of<'c>(checked: &'c Checked, scan: Scan, twig: Twig) -> Half<'c>
     requires { AreKept checked.now.client (parts_of scan.sources) scan.keys }
     ensures { IsHalfOf checked.now.client scan twig result }
 {
@@ -102,18 +102,18 @@ fn half_of<'c>(alloc: Global, checked: &'c Checked, scan: Scan, twig: Twig) -> H
         room,
         behind,
     } = twig;
-    let store = Store::of_parts(alloc, checked, sources.into_parts(), keys);
+    let states = Gathered::of_parts(checked, sources.into_parts(), keys.into_vec());
     let records = Records {
         ends,
         shape,
         room,
         behind,
     };
-    Half { store, records }
+    Half { states, records }
 }
 
-// The tree at the front of the bytes. `None` where there is none, where a state does not fit the client or stands in two records, or
-// where a fork's state is not the first one of its right half.
+// The tree at the front of the bytes. `None` where there is none, where a state does not fit the client, or where a fork's state is
+// not the first one of its right half.
 fn read_half<'c>(
     alloc: Global,
     checked: &'c Checked,
@@ -126,7 +126,7 @@ fn read_half<'c>(
     let client = &checked.client;
     let mut scan = Scan::new(alloc, client);
     match read_twig(&mut scan, client, alloc, depth, room, bytes) {
-        Ok(Some(twig)) => Ok(Some(half_of(alloc, checked, scan, twig))),
+        Ok(Some(twig)) => Ok(Some(half_of(checked, scan, twig))),
         Ok(None) => {
             drop(scan);
             Ok(None)
@@ -139,8 +139,7 @@ fn read_half<'c>(
 }
 
 /// The tree at the front of the bytes, read by the thread that asks alone. `None` where there is none, where a state does not fit
-/// the client or stands in two records, where a fork's state is not the first one of its right half, or where there are as many
-/// parts as numbers.
+/// the client, where a fork's state is not the first one of its right half, or where there are as many parts as numbers.
 ///
 /// Errors: where a growth was refused.
 pub fn read_alone<'c>(unread: &Unread<'c, '_>) -> Result<Option<Half<'c>>, AllocError>
@@ -197,40 +196,33 @@ fn room_behind(all: u32, first: u32, second: u32) -> Option<u32>
     Some(first - used)
 }
 
-// Puts the states of a half behind those that are there. `false` where one of them is there already, or the fork's state is not the
-// first of them: then some of them may be kept.
+// Puts the states of a half behind those that are there. `false` where the fork's state is not the first of them.
 fn take_in(
     alloc: Global,
-    store: &mut Store<'_>,
-    second: &Store<'_>,
+    states: &mut Gathered<'_>,
+    second: &Gathered<'_>,
     middle: &State,
 ) -> Result<bool, Refused>
-    requires { second.now.client ≡ store.old.client }
-    ensures client { IfOk result (λ _. store.new.client ≡ store.old.client) }
-    ensures taken { IfOk result (λ b. IsTrue b → AreTakenIn store.old.states second.now.states middle.now store.new.states) }
+    requires { second.now.client ≡ states.old.client }
+    ensures client { IfOk result (λ _. states.new.client ≡ states.old.client) }
+    ensures taken { IfOk result (λ b. IsTrue b → AreTakenIn states.old.states second.now.states middle.now states.new.states) }
 {
-    let first = store.len();
-    store.take_in(alloc, second)?;
-    if first.checked_add(second.len()) != Some(store.len()) {
-        return Ok(false);
-    }
-    match store.find(middle) {
-        Some(number) => Ok(number as usize == first),
-        None => Ok(false),
-    }
+    let first = states.len();
+    states.append(alloc, second)?;
+    Ok(states.is_at(first, middle))
 }
 
-// Puts the states of a fork's second half behind those of its first, which the store has, and tells how many records may still come.
-// `None` where the two do not fit together: then nothing is said of the store.
+// Puts the states of a fork's second half behind those of its first, and tells how many records may still come. `None` where the two
+// do not fit together: then nothing is said of the states.
 fn graft(
     left: &Unread<'_, '_>,
     right: &Unread<'_, '_>,
-    store: &mut Store<'_>,
+    states: &mut Gathered<'_>,
     first: &Records,
     second: &Half<'_>,
 ) -> Result<Option<u32>, Refused>
-    requires { second.now.store.client ≡ store.old.client }
-    ensures { IfOk result (λ o. IfSome o (AreGrafted (stretch_of left.now.checked.now.client left.now.depth left.now.room left.now.bytes.now) (stretch_of right.now.checked.now.client right.now.depth right.now.room right.now.bytes.now) first.now second.now store.old store.new)) }
+    requires { second.now.states.client ≡ states.old.client }
+    ensures { IfOk result (λ o. IfSome o (AreGrafted (stretch_of left.now.checked.now.client left.now.depth left.now.room left.now.bytes.now) (stretch_of right.now.checked.now.client right.now.depth right.now.room right.now.bytes.now) first.now second.now states.old states.new)) }
 {
     let Some(end) = last_bytes(left.bytes, first.behind) else {
         return Ok(None);
@@ -244,7 +236,7 @@ fn graft(
     let Some(room) = room_behind(right.room, first.room, second.records.room) else {
         return Ok(None);
     };
-    if !take_in(left.alloc, store, &second.store, &middle)? {
+    if !take_in(left.alloc, states, &second.states, &middle)? {
         return Ok(None);
     }
     Ok(Some(room))
@@ -287,25 +279,25 @@ fn fork_of(alloc: Global, first: Records, second: Records, room: u32) -> Result<
 fn records_of(half: Half<'_>) -> Records
     ensures { result ≡ half.entry.records }
 {
-    let Half { store, records } = half;
-    drop(store);
+    let Half { states, records } = half;
+    drop(states);
     records
 }
 
-// A fork, from the store that has the states of both halves, and from their records.
+// A fork, from the states of both halves, and from their records.
 fn half_with<'c>(
     alloc: Global,
-    store: Store<'c>,
+    states: Gathered<'c>,
     first: Records,
     second: Records,
     room: u32,
 ) -> Result<Half<'c>, AllocError>
-    ensures { IfOk result (λ h. (h.store ≡ store.entry) × IsForkOf first second room h.records) }
+    ensures { IfOk result (λ h. (h.states ≡ states.entry) × IsForkOf first second room h.records) }
 {
     match fork_of(alloc, first, second, room) {
-        Ok(records) => Ok(Half { store, records }),
+        Ok(records) => Ok(Half { states, records }),
         Err(reason) => {
-            drop(store);
+            drop(states);
             Err(reason)
         }
     }
@@ -325,20 +317,23 @@ fn read_joined<'c>(
     requires second { IsTreeRead (stretch_of right.now.checked.now.client right.now.depth right.now.room right.now.bytes.now) second }
     ensures { IfOk result (λ o. IfSome o (IsTreeRead (stretch_of whole.now.checked.now.client whole.now.depth whole.now.room whole.now.bytes.now))) }
 {
-    let Half { mut store, records } = first;
-    match graft(left, right, &mut store, &records, &second) {
+    let Half {
+        mut states,
+        records,
+    } = first;
+    match graft(left, right, &mut states, &records, &second) {
         Ok(Some(room)) => {
-            let half = half_with(whole.alloc, store, records, records_of(second), room)?;
+            let half = half_with(whole.alloc, states, records, records_of(second), room)?;
             Ok(Some(half))
         }
         Ok(None) => {
-            drop(store);
+            drop(states);
             drop(records);
             drop(second);
             read_alone(whole)
         }
         Err(reason) => {
-            drop(store);
+            drop(states);
             drop(records);
             drop(second);
             match reason {

@@ -3,6 +3,7 @@
 
 mod halves;
 mod histories;
+mod index;
 mod rows;
 mod scanned;
 mod scroll;

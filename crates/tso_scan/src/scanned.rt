@@ -1,11 +1,12 @@
 //! Whole certificates, read straight into a store.
 ghost use Rattle.std.specs.Option.{option_copied};
 ghost use Rattle.std.specs.Prelude.{◌≡◌, IfOk, IfSome, List, slice_get, ℕ};
-ghost use Rattle.tso_scan.specs.Halves.{IsOfHalf, IsTreeRead, stretch_of};
+ghost use Rattle.tso_scan.specs.Halves.{IsOfWhole, IsStored, IsTreeRead, stretch_of};
 ghost use Rattle.tso_scan.specs.Scanned.{IsScanned, IsScannedBehind};
 ghost use Rattle.tso_prog.specs.declared.client.Client.{Client};
 
 use crate::halves::{Half, Records, Unread, read_alone};
+use crate::index::{Whole, whole_by, whole_of};
 use crate::shape::Shape;
 use std::alloc::{AllocError, Global};
 use std::thread::Threads;
@@ -43,10 +44,10 @@ impl<'a> Scanned<'a> {
 }
 
 // The certificate of a table and a tree that was read.
-fn put_together<'c>(table: Table, half: Half<'c>) -> Scanned<'c>
-    ensures { IsOfHalf table half.entry result }
+fn put_together<'c>(table: Table, whole: Whole<'c>) -> Scanned<'c>
+    ensures { IsOfWhole table whole.entry result }
 {
-    let Half { store, records } = half;
+    let Whole { store, records } = whole;
     let Records {
         ends,
         shape,
@@ -62,30 +63,30 @@ fn put_together<'c>(table: Table, half: Half<'c>) -> Scanned<'c>
 }
 
 // The same, whose store knows where the next steps of its threads lead.
-fn learned<'c>(table: Table, half: Half<'c>) -> Result<Scanned<'c>, AllocError>
-    ensures { IfOk result (IsOfHalf table half.entry) }
+fn learned<'c>(table: Table, whole: Whole<'c>) -> Result<Scanned<'c>, AllocError>
+    ensures { IfOk result (IsOfWhole table whole.entry) }
 {
-    let mut half = half;
-    match half.store.learn() {
-        Ok(()) => Ok(put_together(table, half)),
+    let mut whole = whole;
+    match whole.store.learn() {
+        Ok(()) => Ok(put_together(table, whole)),
         Err(reason) => {
             drop(table);
-            drop(half);
+            drop(whole);
             Err(reason)
         }
     }
 }
 
 // The same. `None` where something is behind the tree.
-fn scanned_of<'c>(table: Table, half: Half<'c>) -> Result<Option<Scanned<'c>>, AllocError>
-    ensures { (c : Client) (bytes : List ℕ) → IsTreeRead (stretch_of c 64 4194304 bytes) half.entry → IfOk result (λ o. IfSome o (IsScannedBehind c table bytes)) }
+fn scanned_of<'c>(table: Table, whole: Whole<'c>) -> Result<Option<Scanned<'c>>, AllocError>
+    ensures { (c : Client) (bytes : List ℕ) (h : Half) → IsTreeRead (stretch_of c 64 4194304 bytes) h → IsStored h whole.entry → IfOk result (λ o. IfSome o (IsScannedBehind c table bytes)) }
 {
-    if half.records.behind != 0 {
+    if whole.records.behind != 0 {
         drop(table);
-        drop(half);
+        drop(whole);
         return Ok(None);
     }
-    let scanned = learned(table, half)?;
+    let scanned = learned(table, whole)?;
     Ok(Some(scanned))
 }
 
@@ -138,8 +139,11 @@ fn scan_tree<'a>(
 ) -> Result<Option<Scanned<'a>>, AllocError>
     ensures { IfOk result (λ o. IfSome o (IsScannedBehind checked.now.client table bytes.now)) }
 {
-    match read_tree(alloc, checked, bytes)? {
-        Some(half) => scanned_of(table, half),
+    let Some(half) = read_tree(alloc, checked, bytes)? else {
+        return Ok(None);
+    };
+    match whole_of(alloc, checked, half)? {
+        Some(whole) => scanned_of(table, whole),
         None => Ok(None),
     }
 }
@@ -155,8 +159,11 @@ fn scan_tree_with<'a, R: Threads + Sync>(
 ) -> Result<Option<Scanned<'a>>, AllocError>
     ensures { IfOk result (λ o. IfSome o (IsScannedBehind checked.now.client table bytes.now)) }
 {
-    match read_tree_with(rt, alloc, checked, bytes, workers)? {
-        Some(half) => scanned_of(table, half),
+    let Some(half) = read_tree_with(rt, alloc, checked, bytes, workers)? else {
+        return Ok(None);
+    };
+    match whole_by(rt, alloc, checked, half, workers)? {
+        Some(whole) => scanned_of(table, whole),
         None => Ok(None),
     }
 }

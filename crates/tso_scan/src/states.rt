@@ -6,7 +6,7 @@ use crate::sources::{Sources, read_key};
 use std::alloc::Global;
 use tso_code::ReadError;
 use tso_list::Seq;
-use tso_parts::{Pool, Refused};
+use tso_parts::Refused;
 use tso_prog::Client;
 use tso_rec::{End, Reader, Shared};
 use tso_store::Key;
@@ -18,7 +18,7 @@ pub const SEED: u64 = 1;
 #[derive(Drop)]
 pub struct Scan {
     pub sources: Sources,
-    pub keys: Pool<Key>,
+    pub keys: Seq<Key>,
     pub reader: Reader<End>,
     pub ends: Seq<Shared<End>>,
 }
@@ -32,7 +32,7 @@ impl Scan {
     {
         Scan {
             sources: Sources::new(alloc, SEED),
-            keys: Pool::new(alloc, SEED),
+            keys: Seq::new(alloc),
             reader: Reader::new(alloc),
             ends: Seq::new(alloc),
         }
@@ -57,8 +57,8 @@ fn read_end<'a>(
     }
 }
 
-// The state at the front of the bytes, which goes behind the others, and the bytes after it. `None` where there is no state, one
-// that does not fit the client, or one that was read before.
+// The state at the front of the bytes, which goes behind the others, and the bytes after it. `None` where there is no state, or one
+// that does not fit the client.
 fn read_state<'a>(
     scan: &mut Scan,
     client: &Client,
@@ -71,8 +71,8 @@ fn read_state<'a>(
     let Some((key, rest)) = read_key(&mut scan.sources, client, alloc, bytes)? else {
         return Ok(None);
     };
-    let (_, is_new) = scan.keys.add(key)?;
-    if is_new { Ok(Some(rest)) } else { Ok(None) }
+    scan.keys.push(key)?;
+    Ok(Some(rest))
 }
 
 // The record at the front of the bytes, whose state and end go behind the others, and the bytes after it. `None` as for a state.
@@ -95,7 +95,7 @@ fn read_record<'a>(
 }
 
 /// So many records at the front of the bytes, whose states and ends go behind the others, and the bytes after them. `None` where
-/// there are not so many, where a state does not fit the client, or where one was read before.
+/// there are not so many, or where a state does not fit the client.
 ///
 /// Errors: where a growth was refused, or there are as many parts as numbers.
 pub fn read_records<'a>(

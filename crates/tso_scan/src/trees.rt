@@ -9,7 +9,8 @@ use crate::states::{Scan, read_records};
 use std::alloc::Global;
 use std::boxed::Box;
 use tso_code::read_number;
-use tso_parts::{Pool, Refused};
+use tso_list::Seq;
+use tso_parts::Refused;
 use tso_prog::Client;
 use tso_store::Key;
 
@@ -77,13 +78,10 @@ pub fn branch_of<'a>(
 }
 
 // Whether this is the key with this number.
-fn is_key(keys: &Pool<Key>, number: usize, key: &Key) -> bool
+fn is_key(keys: &Seq<Key>, number: usize, key: &Key) -> bool
     ensures { IsTrue result → slice_get keys.now number ≡ Some key.now }
 {
-    if number >= keys.len() {
-        return false;
-    }
-    match keys.get(number as u32) {
+    match keys.get(number) {
         Some(found) => found == key,
         None => false,
     }

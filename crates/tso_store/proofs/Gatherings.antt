@@ -1,19 +1,21 @@
 -- States that are gathered from several stores.
-use Rattle.std.proofs.Common.{◌≡◌, ◌∙◌, ℕ, suc, ◌<◌, ◌^◌, List, [], ◌∷◌, ◌++◌, length, map, refl, sym, ap, arith, slice_index_or, subst}
+use Rattle.std.proofs.Common.{◌≡◌, ◌∙◌, ℕ, suc, ◌<◌, ◌^◌, List, [], ◌∷◌, ◌++◌, length, map, refl, sym, ap, arith, slice_get, slice_index_or, subst, None, Some, IsTrue, false}
+use Rattle.std.proofs.lemmas.Bool.{false≢true}
 use Rattle.std.proofs.lemmas.List.{length-map, map-append}
-use Rattle.std.proofs.lemmas.Option.{get_or_from_slice_get}
+use Rattle.std.proofs.lemmas.Option.{get_or_from_slice_get, same_Some}
 use Rattle.tso_parts.specs.Numbers.{IsNumbered}
 use Rattle.tso_parts.proofs.Marked.{item_at}
 use Rattle.tso_prog.specs.declared.client.Client.{Client}
+use Rattle.tso_state.specs.declared.state.State.{State}
 use Rattle.tso_store.specs.Gathering.{AreGathered, AreThere, moved_from, no_state, picked}
-use Rattle.tso_store.specs.Keys.{AreKept, Grows, IsKept, state_at, states_at}
+use Rattle.tso_store.specs.Keys.{AreKept, Grows, IsKept, IsKeyOf, state_at, states_at}
 use Rattle.tso_store.specs.Moving.{AreNumbersIn, moved_key}
 use Rattle.tso_store.specs.declared.key.Key.{Key}
 use Rattle.tso_store.specs.declared.key.TheConstants.{NO_KEY}
 use Rattle.tso_store.specs.declared.moved.PartNumbers.{PartNumbers}
 use Rattle.tso_store.specs.declared.parts.Parts.{Parts}
 use Rattle.tso_store.proofs.Moves.{IsMove, key_moved}
-use Rattle.tso_store.proofs.Sheeted.{kept_at, kept_of, kept_stay, key_state, state_got, states_stay}
+use Rattle.tso_store.proofs.Sheeted.{found_state, kept_at, kept_of, kept_stay, key_state, same_key, state_got, state_none, states_stay, there_key}
 
 -- one key for one state
 pub keys_differ : (p : Parts) (ks : List Key) → IsNumbered (states_at p ks) → IsNumbered ks
@@ -71,3 +73,50 @@ module _ (c : Client) (old new others : Parts) (ks ls : List Key) (r : PartNumbe
   gathered_states after ns there e =
       ap (states_at new) e ∙ map-append (state_at new) ks (map (moved_from r ls) ns)
       ∙ (λ i. states_stay c old new ks move.grows move.small move.kept i ++ picked_states ns there i)
+
+-- ---- those of others
+
+module _ (c : Client) (new others : Parts) (r : PartNumbers) (small : length new.threads < 2 ^ 32) (few : length others.threads < 2 ^ 32) (numbers : AreNumbersIn others new r) where
+  all_kept : (ls : List Key) → AreKept c others ls → AreKept c new (map (moved_key r) ls)
+  all_kept [] also = tt
+  all_kept (l ∷ ls) also = (kept_of c new (moved_key r l) (state_at others l) small (key_moved others new r l (state_at others l) numbers few also.0.key) also.0.fits, all_kept ls also.1)
+
+  all_states : (ls : List Key) → AreKept c others ls → states_at new (map (moved_key r) ls) ≡ states_at others ls
+  all_states [] also = refl
+  all_states (l ∷ ls) also =
+      let a = key_state new (moved_key r l) (state_at others l) small (key_moved others new r l (state_at others l) numbers few also.0.key) in
+      let b = all_states ls also.1 in
+      λ i. a i ∷ b i
+
+module _ (c d : Client) (old new others : Parts) (ks ls after : List Key) (r : PartNumbers) (are : AreGathered c old ks) (also : AreGathered d others ls) (same : d ≡ c) (grows : Grows old new) (numbers : AreNumbersIn others new r) where
+  abbrev own : AreKept c others ls
+  own = let P : Client → Type 0 = λ e. AreKept e others ls in subst P same also.kept
+
+  pub appended_kept : after ≡ ks ++ map (moved_key r) ls → AreGathered c new after
+  appended_kept e =
+      rw e (record { kept = kept_append c new ks (map (moved_key r) ls) (kept_stay c old new ks grows (grows.small are.small) are.kept) (all_kept c new others r (grows.small are.small) also.small numbers ls own); small = grows.small are.small })
+
+  pub appended_states : after ≡ ks ++ map (moved_key r) ls → states_at new after ≡ states_at old ks ++ states_at others ls
+  appended_states e =
+      let stay = states_stay c old new ks grows (grows.small are.small) are.kept in
+      let more = all_states c new others r (grows.small are.small) also.small numbers ls own in
+      ap (states_at new) e ∙ map-append (state_at new) ks (map (moved_key r) ls) ∙ (λ i. stay i ++ more i)
+
+-- ---- a state at a place
+
+module _ (c : Client) (p : Parts) (ks : List Key) (n : ℕ) (k l : Key) (s : State) (one : IsNumbered p.memories) (two : IsNumbered p.histories) (three : IsNumbered p.threads) (small : length p.threads < 2 ^ 32) (all : AreKept c p ks) (is : IsKeyOf p k s) (at : slice_get ks n ≡ Some l) where
+  pub at_key : l ≡ k → slice_get (states_at p ks) n ≡ Some s
+  at_key same = found_state p ks n k s small is (at ∙ ap Some same)
+
+  pub key_at : slice_get (states_at p ks) n ≡ Some s → l ≡ k
+  key_at here =
+      let there = there_key c p ks n s all here in
+      let first : l ≡ there.0 = same_Some l there.0 (sym at ∙ there.1) in
+      first ∙ same_key p there.0 k s one two three there.2 is
+
+-- no, where it can't be
+pub never : {A : Type 0} → (A → ⊥) → (IsTrue false → A) × (A → IsTrue false)
+never none = (λ e. absurd (false≢true e), λ a. absurd (none a))
+
+pub none_at : (p : Parts) (ks : List Key) (n : ℕ) (s : State) → slice_get ks n ≡ None → slice_get (states_at p ks) n ≡ Some s → ⊥
+none_at p ks n s none here = let h : None ≡ Some s = sym (state_none p ks n none) ∙ here in cc

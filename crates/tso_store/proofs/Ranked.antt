@@ -1,6 +1,7 @@
 -- Ranks of kept values.
-use Rattle.std.proofs.Common.{◌≡◌, ℕ, zero, suc, ◌+◌, ◌<◌, ◌≤◌, ◌⊎◌, inl, inr, Bool, true, false, List, [], ◌∷◌, ◌++◌, length, map, Option, Some, refl, sym, ap, subst, ◌∙◌, arith, get_or, slice_get, slice_set}
-use Rattle.std.proofs.lemmas.Bool.{false≢true, true≢false}
+use Rattle.std.proofs.Common.{◌≡◌, ℕ, zero, suc, ◌+◌, ◌<◌, ◌≤◌, inl, inr, Bool, true, false, List, [], ◌∷◌, ◌++◌, length, map, Option, Some, refl, sym, ap, ◌∙◌, arith, get_or, slice_get, slice_set}
+use Rattle.std.proofs.lemmas.Bool.{false≢true}
+use Rattle.std.proofs.lemmas.Bool.Decides.{eqb_tells}
 use Rattle.std.proofs.lemmas.List.MinMax.{ranks_by}
 use Rattle.std.proofs.lemmas.List.Sorted.{Contains-permutation, IsPermutation-sym, sorted_far}
 use Rattle.std.proofs.lemmas.List.{length_push}
@@ -13,7 +14,7 @@ use Rattle.std.specs.Option.{option_cmp}
 use Rattle.std.specs.Ordering.{MatchOrdering, is_eq, is_lt, nat_cmp, ordering_reverse, ordering_then}
 use Rattle.std.specs.declared.cmp.Ordering.{Ordering}
 use Rattle.std.specs.declared.cmp.Ordering.TheVariants.{Less, Equal, Greater}
-use Rattle.tso_parts.proofs.Marked.{found_or_not, item_at, new_item, of_longer, old_item, within}
+use Rattle.tso_parts.proofs.Marked.{found_or_not, item_at, new_item, old_item, within}
 use Rattle.tso_list.specs.Same.{IsExact}
 use Rattle.tso_parts.specs.Numbers.{IsNumbered}
 use Rattle.tso_store.specs.Numbers.{AreNumbersOf}
@@ -72,29 +73,21 @@ set_elsewhere (x ∷ xs) zero (suc n) a other = refl
 set_elsewhere (x ∷ xs) (suc m) zero a other = refl
 set_elsewhere (x ∷ xs) (suc m) (suc n) a other = set_elsewhere xs m n a (λ e. other (ap suc e))
 
-pub length_set : (xs : List ℕ) (m a : ℕ) → length (slice_set xs m a) ≡ length xs
-length_set [] m a = refl
-length_set (x ∷ xs) zero a = refl
-length_set (x ∷ xs) (suc m) a = ap suc (length_set xs m a)
-
-same_or_not : (n m : ℕ) → (n ≡ m) ⊎ (n ≡ m → ⊥)
-same_or_not n m = by_order n m (λ l. inr (λ e. omega (arith, l, e))) (λ h. found_or_not m n h (λ e. inl (sym e)) (λ l. inr (λ e. omega (arith, l, e))))
-
 -- one more place
 pub places_more : (order old new : List ℕ) (k m : ℕ) → slice_get order k ≡ Some m → m < length old → new ≡ slice_set old m k → ((i n : ℕ) → i < k → slice_get order i ≡ Some n → HasPlace order old n)
     → (i n : ℕ) → i < k + 1 → slice_get order i ≡ Some n → HasPlace order new n
-places_more order old new k m here less is before i n low at = elim (same_or_not n m) [
+places_more order old new k m here less is before i n low at = elim (eqb_tells n m) [
   | inl same ↦ record {
     place = k;
-    rank_is = ap (slice_get new) same ∙ ap (λ (xs : List ℕ). slice_get xs m) is ∙ set_here old m k less;
-    here = here ∙ ap Some (sym same);
+    rank_is = ap (slice_get new) same.1 ∙ ap (λ (xs : List ℕ). slice_get xs m) is ∙ set_here old m k less;
+    here = here ∙ ap Some (sym same.1);
   }
   | inr other ↦
       found_or_not i k (omega (arith, low))
-      (λ e. absurd (other (same_Some n m (sym at ∙ ap (slice_get order) e ∙ here))))
+      (λ e. absurd (other.1 (same_Some n m (sym at ∙ ap (slice_get order) e ∙ here))))
       (λ l.
       let h = before i n l at in
-      record { place = h.place; rank_is = ap (λ (xs : List ℕ). slice_get xs n) is ∙ set_elsewhere old m n k other ∙ h.rank_is; here = h.here })
+      record { place = h.place; rank_is = ap (λ (xs : List ℕ). slice_get xs n) is ∙ set_elsewhere old m n k other.1 ∙ h.rank_is; here = h.here })
 ]
 
 cmp_less : (r s : ℕ) → r < s → nat_cmp r s ≡ Less

@@ -1,9 +1,12 @@
-//! States of several stores, behind one another.
-ghost use Rattle.std.specs.Prelude.{◌≡◌, ◌+◌, ◌++◌, ◌<◌, ◌≤◌, ◌^◌, [], length, map, Err, OnErr, OnOk};
+//! States of several stores, or of parts that are handed over, behind one another.
+ghost use Rattle.std.specs.Prelude.{◌≡◌, ◌↔◌, ◌+◌, ◌++◌, ◌<◌, ◌≤◌, ◌^◌, [], length, map, slice_get, Err, IsTrue, OnErr, OnOk, Some};
 ghost use Rattle.tso_parts.specs.Numbers.{IsNumbered};
 ghost use Rattle.tso_parts.specs.declared.refused.Refused.TheVariants as reasons;
 ghost use Rattle.tso_store.specs.Gathering.{AreThere, moved_from, picked};
+ghost use Rattle.tso_store.specs.Keys.{AreKept, part_count, states_at};
+ghost use Rattle.tso_store.specs.Moving.{moved_key};
 
+use crate::kept::{find_key, fits_client};
 use crate::key::Key;
 use crate::moved::{PartNumbers, add_parts, moved_key};
 use crate::numbered::Store;
@@ -12,10 +15,11 @@ use crate::ranking::key_or_none;
 use std::alloc::{AllocError, Global};
 use std::marker::Model;
 use tso_flow::Checked;
-use tso_list::Seq;
+use tso_list::{Exact, Seq};
 use tso_parts::{Pool, Refused};
+use tso_state::State;
 
-/// Some of the states of several stores of one client, one behind another, by the numbers of their parts.
+/// States of one client, of several stores or of parts that are handed over, one behind another, by the numbers of their parts.
 #[derive(Drop)]
 pub struct Gathered<'a> {
     checked: &'a Checked,
@@ -58,6 +62,36 @@ fn push_moved(
     Ok(())
 }
 
+// Puts these keys at the end, each by the new numbers of its parts.
+fn push_all_moved(
+    keys: &mut Vec<Key>,
+    numbers: &PartNumbers,
+    others: &[Key],
+) -> Result<(), AllocError>
+    ensures ok { OnOk result (keys.new.items ≡ keys.old.items ++ map (moved_key numbers.now) others.now) }
+    ensures err { OnErr result (keys.new.items ≡ keys.old.items) }
+{
+    keys.reserve(others.len())?;
+    for key in others {
+        keys.push_reserved(moved_key(numbers, key));
+    }
+    Ok(())
+}
+
+// The key at this place.
+fn kept_at(keys: &[Key], place: usize) -> Option<Key>
+    ensures { result ≡ slice_get keys.now place }
+{
+    keys.get(place).copied()
+}
+
+// Whether two values are one.
+fn are_same<T: Exact>(a: &T, b: &T) -> bool
+    ensures { IsTrue result ↔ (a.now ≡ b.now) }
+{
+    a == b
+}
+
 impl<'a> Gathered<'a> {
     /// No states. The parts of those that come are hashed by this seed: whoever makes the states and does not know the seed
     /// cannot tell which of them collide.
@@ -70,6 +104,21 @@ impl<'a> Gathered<'a> {
             checked,
             parts: Parts::new(alloc, seed),
             keys: Vec::new(alloc),
+        }
+    }
+
+    /// The states of these keys, whose parts are those with their numbers.
+    pub fn of_parts(checked: &'a Checked, parts: Parts, keys: Vec<Key>) -> Self
+        requires { AreKept checked.now.client parts keys.items }
+        ensures client { result.client ≡ checked.now.client }
+        ensures states { result.states ≡ states_at parts keys.items }
+        ensures parts { result.parts ≡ part_count parts }
+    {
+        parts.threads.is_numbered();
+        Gathered {
+            checked,
+            parts,
+            keys,
         }
     }
 
@@ -99,6 +148,55 @@ impl<'a> Gathered<'a> {
         let moved = add_parts(alloc, &mut self.parts, others)?;
         push_moved(&mut self.keys, &moved, keys, numbers)?;
         Ok(())
+    }
+
+    /// Puts the states of others of the same client at the end. Each part of theirs is looked for once, and copied where it is new;
+    /// then each state takes its parts by their numbers here.
+    ///
+    /// Errors: those of `take`. The states stay.
+    pub fn append(&mut self, alloc: Global, others: &Gathered<'_>) -> Result<(), Refused>
+        requires { others.now.client ≡ self.old.client }
+        ensures ok { OnOk result (self.new.states ≡ self.old.states ++ others.now.states) }
+        ensures err { OnErr result (self.new.states ≡ self.old.states) }
+        ensures full { result ≡ Err reasons.Full → 4294967295 ≤ self.new.parts }
+        ensures more { self.new.parts ≤ self.old.parts + others.now.parts }
+        ensures client { self.new.client ≡ self.old.client }
+    {
+        let moved = add_parts(alloc, &mut self.parts, &others.parts)?;
+        push_all_moved(&mut self.keys, &moved, others.keys.as_slice())?;
+        Ok(())
+    }
+
+    /// Whether the state at this place is this one. It takes no memory.
+    pub fn is_at(&self, place: usize, state: &State) -> bool
+        ensures { IsTrue result ↔ (slice_get self.now.states place ≡ Some state.now) }
+    {
+        if !fits_client(&self.checked.client, state) {
+            return false;
+        }
+        self.parts.threads.is_numbered();
+        self.parts.memories.is_numbered();
+        self.parts.histories.is_numbered();
+        let Some(key) = find_key(&self.parts, state) else {
+            return false;
+        };
+        match kept_at(self.keys.as_slice(), place) {
+            Some(kept) => are_same(&kept, &key),
+            None => false,
+        }
+    }
+
+    /// The parts of the states, and for each state, in their order, the numbers of its parts.
+    pub fn into_parts(self) -> (Parts, Vec<Key>)
+        ensures states { states_at result.0 result.1.items ≡ self.entry.states }
+        ensures kept { AreKept self.entry.client result.0 result.1.items }
+    {
+        let Gathered {
+            checked: _checked,
+            parts,
+            keys,
+        } = self;
+        (parts, keys)
     }
 
     /// One store of these states, in this order. No state is compared, hashed or copied, and the store has no index of them, so

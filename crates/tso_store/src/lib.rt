@@ -26,7 +26,7 @@ mod viewed_key;
 pub use fault::AddError;
 pub use gathered::Gathered;
 pub use key::{Key, NO_KEY, NONE};
-pub use lone::{Lone, lone_in};
+pub use lone::Lone;
 pub use numbered::Store;
 pub use parts::Parts;
 pub use rank_rows::Row;

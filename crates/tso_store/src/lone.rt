@@ -132,15 +132,3 @@ pub fn lone_at(checked: &Checked, parts: &Parts, known: &Seq<Known>, key: &Key) 
     }
     None
 }
-
-/// The same of any kept state, found from the state alone.
-pub fn lone_in(checked: &Checked, view: &View<'_>) -> Option<Lone>
-    ensures { MatchOption result (HasNoLoneCore checked.now.client view.now) (IsFirstLoneCore checked.now.client view.now) }
-{
-    for thread in 0..view.thread_count() {
-        if let Some(kind) = lone_seen(checked, view, thread) {
-            return Some(Lone { thread, kind });
-        }
-    }
-    None
-}

@@ -9,6 +9,6 @@ returns-in_err-speller-clause-err g c =
     let w = c.args.worked.now in
     on_err _ (part_of_nothing (uncut c.args.checked.now.client w.table w.store.states c.args.numbers.now) _)
 
-pub put_slabs-requires-clause-ready : goal.put_slabs-requires-clause-ready
-put_slabs-requires-clause-ready g c = λ k within.
+pub put_tree-requires-clause-ready : goal.put_tree-requires-clause-ready
+put_tree-requires-clause-ready g c = λ k within.
     worked_ready c.args.checked.now.client c.args.worked.now c.in_ok-speller.speller c.args.numbers.now c.requires.worked c.requires.rising c.states_differ.ensures c.in_ok-speller.ensures

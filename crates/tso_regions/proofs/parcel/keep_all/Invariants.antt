@@ -1,4 +1,5 @@
 use Rattle.std.proofs.Common.{◌≡◌}
+use Rattle.tso_parts.specs.Numbers.{Extends}
 use Rattle.tso_regions.specs.Regions.{AreSound}
 use Rattle.tso_regions.proofs.parcel.keep_all.Given as goal
 
@@ -6,4 +7,5 @@ abbrev pub invariant-loop-number : goal.invariant-loop-number
 invariant-loop-number l = record {
   client : l.store.client ≡ l.initial.store.client;
   sound : AreSound l.store.client l.store.states;
+  stays : Extends l.initial.store.states l.store.states;
 }

@@ -17,7 +17,7 @@ fork_of-returns t c =
     let left = rw c.in-Some.is at c.in_ok-left.ensures in
     let key = rw c.in-Some-2.is at c.in_ok-middle.ensures in
     let right = rw c.in-Some-3.is at c.in_ok-right.ensures in
-    fork_scanned c.args.client.now c.args.scan.now c.branch_of.new.scan c.branch_of-2.new.scan c.read_key.new.sources c.args.depth c.args.room c.args.bytes.now c.in-Some.rest.now c.in-Some-2.rest.now c.in-Some-3.rest.now c.in_ok-left-2.left c.in_ok-right-2.right c.in-Some.room c.in-Some-3.room c.in-Some-2.middle (rw c.in_ok-left-2.ensures.ok left) key (rw c.in_ok-right-2.ensures.ok right) (rw c.len-first.ensures.value at c.if-not-is_key.ensures refl)
+    fork_scanned c.args.client.now c.args.scan.now c.branch_of.new.scan c.branch_of-2.new.scan c.read_key.new.sources c.args.depth c.args.room c.args.bytes.now c.in-Some.rest.now c.in-Some-2.rest.now c.in-Some-3.rest.now c.in_ok-left-2.left c.in_ok-right-2.right c.in-Some.room c.in-Some-3.room c.in-Some-2.middle (rw c.in_ok-left-2.ensures.ok left) key (rw c.in_ok-right-2.ensures.ok right) (rw c.len-first.ensures at c.if-not-is_key.ensures refl)
 
 pub fork_of-branch_of-requires-2 : goal.fork_of-branch_of-requires-2
 fork_of-branch_of-requires-2 t c =

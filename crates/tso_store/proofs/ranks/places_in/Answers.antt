@@ -1,6 +1,7 @@
 use Rattle.std.proofs.Common.{◌∙◌, ap, arith, length}
+use Rattle.std.proofs.lemmas.List.{length-set}
 use Rattle.std.proofs.lemmas.Option.{slice_get-get_or, slice_get_within}
-use Rattle.tso_store.proofs.Ranked.{length_below, length_set, places_more}
+use Rattle.tso_store.proofs.Ranked.{length_below, places_more}
 use Rattle.tso_store.proofs.ranks.places_in.Goals as goal
 
 pub loop-place-init : goal.loop-place-init
@@ -16,7 +17,7 @@ pub loop-place-preserved : goal.loop-place-preserved
 loop-place-preserved c =
     let here = slice_get-get_or c.args.order.now c.loop-place.place 0 (omega (arith, c.loop-place-test.true)) in
     let below = c.requires.below c.loop-place.place _ here in (
-      ap length c.put_rank.ensures ∙ length_set c.loop-place.ranks.items _ c.loop-place.place ∙ c.loop-place.invariant.0,
+      ap length c.put_rank.ensures ∙ length-set c.loop-place.ranks.items _ c.loop-place.place ∙ c.loop-place.invariant.0,
       places_more c.args.order.now c.loop-place.ranks.items c.put_rank.new.ranks.items c.loop-place.place _ here (omega (arith, below, c.loop-place.invariant.0)) c.put_rank.ensures c.loop-place.invariant.1,
     )
 

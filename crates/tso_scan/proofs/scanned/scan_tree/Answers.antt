@@ -1,4 +1,0 @@
-use Rattle.tso_scan.proofs.scanned.scan_tree.Goals as goal
-
-pub returns-in-Some : goal.returns-in-Some
-returns-in-Some c = c.scanned_of.ensures c.args.checked.now.client c.args.bytes.now (rw c.in-Some.is at c.in_ok-half.ensures)
