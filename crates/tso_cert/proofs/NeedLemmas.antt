@@ -1,27 +1,23 @@
 -- Arrays that are needed are in every closed table of arrays.
-use Rattle.std.proofs.Common.{◌≡◌, ◌∙◌, ℕ, ◌<◌, ◌==◌, Bool, true, List, length, Option, None, Some, slice_get, refl, sym, ap, arith}
+use Rattle.std.proofs.Common.{◌≡◌, ◌∙◌, ℕ, ◌==◌, true, List, length, Option, None, Some, slice_get, refl, sym, ap, arith}
 use Rattle.std.specs.Prelude.{◌^◌}
 use Rattle.std.proofs.lemmas.Nat.Bits.{bit_at-pow_same}
 use Rattle.std.proofs.lemmas.Option.{none-some, same_Some, slice_get_within, slice_get-get_or}
-use Rattle.tso_cells.specs.Inductive as cells
 use Rattle.tso_cells.specs.Laws.{reads_of, writes_of}
 use Rattle.tso_cells.specs.declared.table.Cells.{Cells}
 use Rattle.tso_cells.specs.declared.table.IntervalTable.{IntervalTable}
 use Rattle.tso_cells.specs.declared.table.Item.{Item}
-use Rattle.tso_flow.specs.Paths.{goes_on}
 use Rattle.tso_flow.specs.declared.location.ProcedureKind.{ProcedureKind}
 use Rattle.tso_flow.specs.declared.location.ProcedureKind.TheVariants as procedures
 use Rattle.tso_foot.proofs.MaskLemmas.{covers_has, holds_reads, holds_writes}
 use Rattle.tso_foot.specs.Ahead.{cells_at}
-use Rattle.tso_foot.specs.Closed.{IsArrayTableClosed, IsItem, IsListClosed, items_of}
+use Rattle.tso_foot.specs.Closed.{IsItem, IsListClosed, items_of}
 use Rattle.tso_foot.specs.Masks.{has_array, masks_at, no_masks, own_masks}
 use Rattle.tso_foot.specs.Narrower.{IsNarrowerThanClosed}
 use Rattle.tso_foot.specs.declared.ahead.Access.TheVariants.{Read, Write}
 use Rattle.tso_foot.specs.declared.masks.Masks.{Masks}
-use Rattle.tso_foot.specs.declared.table.ArrayTable.{ArrayTable}
 use Rattle.tso_line.specs.declared.instruction.Instruction.{Instruction}
 use Rattle.tso_line.specs.declared.instruction.Instruction.TheVariants as the
-use Rattle.tso_machine.specs.Instructions.{instructions_of}
 use Rattle.tso_prog.specs.declared.client.Client.{Client}
 use Rattle.tso_cells.specs.Columns.{IsNeed, read_array, written_array}
 use Rattle.tso_cells.specs.Widened.{NamesNeeded, NamesOnlyNeeded}

@@ -1,15 +1,15 @@
 -- What was seen of states lies in a table that holds the hull.
-use Rattle.std.proofs.Common.{◌≡◌, ◌∙◌, ℕ, zero, suc, ◌≤◌, ◌<◌, ◌%◌, ◌^◌, ◌++◌, nat_le, true, List, [], ◌∷◌, length, map, Option, None, Some, slice_get, inl, inr, refl, sym, ap, subst, arith}
+use Rattle.std.proofs.Common.{◌≡◌, ◌∙◌, ℕ, zero, suc, ◌≤◌, ◌<◌, ◌%◌, ◌^◌, ◌++◌, nat_le, true, List, [], ◌∷◌, length, Option, None, Some, slice_get, refl, sym, subst, arith}
 use Rattle.std.specs.Prelude.{Err, IfOk, Ok, OnOk, Result}
-use Rattle.std.proofs.lemmas.Bool.{and_from, and_parts, cases_lt, le-leb, leb-true}
+use Rattle.std.proofs.lemmas.Bool.{and_from, and_parts, le-leb, leb-true}
 use Rattle.std.proofs.lemmas.List.{length-replicate}
-use Rattle.std.proofs.lemmas.Option.{none-some, same_Some, slice_get_within}
+use Rattle.std.proofs.lemmas.Option.{same_Some, slice_get_within}
 use Rattle.tso_cells.proofs.TableLemmas.{any_lie}
-use Rattle.tso_cells.specs.Inductive.{IsInductive, IsListInductive, items_of, registers_at, registers_if}
+use Rattle.tso_cells.specs.Inductive.{IsInductive, IsListInductive, items_of, registers_if}
 use Rattle.tso_cells.specs.Laws.{lies}
 use Rattle.tso_cells.specs.declared.table.IntervalTable.{IntervalTable}
 use Rattle.tso_cells.specs.declared.table.Item.{Item}
-use Rattle.tso_cert.specs.Seen.{AreSeen, AreWithin, CoreIsSeen, IsSeen, Keeps, StateIsSeen, ThreadIsSeen}
+use Rattle.tso_cert.specs.Seen.{AreSeen, AreWithin, CoreIsSeen, IsSeen, Keeps, ThreadIsSeen}
 use Rattle.tso_flow.specs.declared.location.ProcedureKind.{ProcedureKind}
 use Rattle.tso_flow.specs.declared.location.ProcedureKind.TheVariants as procedures
 use Rattle.tso_foot.specs.Within.{core_lies}
@@ -23,7 +23,7 @@ use Rattle.tso_prog.specs.declared.client.Client.{Client}
 use Rattle.tso_state.specs.declared.state.Core.{Core}
 use Rattle.tso_state.specs.declared.state.Core.TheVariants.{Idle, Running, Stopped}
 use Rattle.tso_state.specs.declared.state.State.{State}
-use Rattle.tso_cells.specs.Hulls.{KeepsWords, empty_hull, rows_of}
+use Rattle.tso_cells.specs.Hulls.{empty_hull, rows_of}
 use Rattle.tso_cells.specs.Widened.{AreHeld, Holds, IsHeld}
 use Rattle.tso_cells.specs.declared.hulls.Hull.{Hull}
 

@@ -177,14 +177,23 @@ fn by_quarters<R: Threads + Sync, T: Task + Sync + Drop>(
             ensures { IfOk result.0 (T.is_output b.entry.now) × IfOk result.1.0 (T.is_output c.entry.now) × IfOk result.1.1 (T.is_output d.entry.now) }
         { by_three(rt, b, more / 2, c, d, fewer) },
     );
-    (
-        joined(left, a, b, first, second),
-        joined(right, c, d, third, fourth),
+    thread::join(
+        rt,
+        || -> Result<T::Output, AllocError>
+            requires { IsSync T.row × T.is_ready left.now × T.are_halves left.now a.now b.now × IfOk first (T.is_output a.now) × IfOk second (T.is_output b.now) }
+            ensures { IfOk result (T.is_output left.entry.now) }
+        { joined(left, a, b, first, second) },
+        || -> Result<T::Output, AllocError>
+            requires { IsSync T.row × T.is_ready right.now × T.are_halves right.now c.now d.now × IfOk third (T.is_output c.now) × IfOk fourth (T.is_output d.now) }
+            ensures { IfOk result (T.is_output right.entry.now) }
+        { joined(right, c, d, third, fourth) },
     )
 }
 
-// The output of a task from those of its halves, where both were found.
-fn joined<T: Task>(
+/// The output of a task from those of its halves, where both were found.
+///
+/// Errors: that of the first half, or else of the second, or where a growth was refused.
+pub fn joined<T: Task>(
     task: &T,
     left: &T,
     right: &T,

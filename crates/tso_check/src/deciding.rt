@@ -208,7 +208,7 @@ fn verdict_with<R: Threads + Wait + Sync, W: Watch + Sync>(
     match scan_with(rt, alloc, checked, bytes, workers.count())? {
         Some(scanned) => {
             let found = decide_stored_with(rt, alloc, checked, &scanned, workers, &told);
-            drop(scanned);
+            scanned.let_go(rt, workers.count());
             found
         }
         None => decide_bytes_with(rt, alloc, checked, bytes, workers, &told),

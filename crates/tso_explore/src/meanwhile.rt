@@ -10,7 +10,7 @@ use crate::writing::put_pieces;
 use std::alloc::AllocError;
 use std::io::Write;
 use std::thread::{Threads, join_mut};
-use tso_cert::{Task, WriteError, run_by};
+use tso_cert::{Task, WriteError, joined, run_by};
 
 // What was made, or why not.
 type Made<T> = Result<T, AllocError>;
@@ -144,22 +144,6 @@ fn made_by_four<R: Threads + Sync, T: Task + Sync + Drop, W: Write>(
     )
 }
 
-// The output of a task from those of its halves, where both were found.
-fn joined<T: Task>(
-    task: &T,
-    halves: &(T, T),
-    first: Made<T::Output>,
-    second: Made<T::Output>,
-) -> Made<T::Output>
-    requires ready { T.is_ready task.now }
-    requires halves { T.are_halves task.now halves.now.0 halves.now.1 }
-    requires first { IfOk first (T.is_output halves.now.0) }
-    requires second { IfOk second (T.is_output halves.now.1) }
-    ensures { IfOk result (T.is_output task.now) }
-{
-    task.joined(&halves.0, &halves.1, first?, second?)
-}
-
 // What is made of the halves of a task by fewer than four workers, of whom this thread writes the pieces first.
 fn made_of_halves<R: Threads + Sync, T: Task + Sync + Drop, W: Write>(
     rt: &R,
@@ -176,10 +160,10 @@ fn made_of_halves<R: Threads + Sync, T: Task + Sync + Drop, W: Write>(
     ensures err { OnErr result.1 (AppendsBeginning (W.contents out.old) (W.contents out.new) (flat_map (λ v. v.items) pieces.now)) }
 {
     let (first, (second, put)) = made_by_two(rt, &halves.0, &halves.1, workers / 2, pieces, out);
-    (joined(task, halves, first, second), put)
+    (joined(task, &halves.0, &halves.1, first, second), put)
 }
 
-/// What so many workers make of a task, while this thread, which is one of them, writes these pieces first, one behind the other.
+/// What at most so many workers make of a task, while this thread, which is one of them, writes these pieces first, one behind the other.
 ///
 /// Errors: of the first, where a growth was refused; of the second, where a write fails: a beginning of the pieces has gone out then.
 pub fn made_beside<R: Threads + Sync, T: Task + Sync + Drop, W: Write>(
@@ -216,7 +200,7 @@ pub fn made_beside<R: Threads + Sync, T: Task + Sync + Drop, W: Write>(
         pieces,
         out,
     );
-    let left = joined(&halves.0, &low, first, second);
-    let right = joined(&halves.1, &high, third, fourth);
-    (joined(task, &halves, left, right), put)
+    let left = joined(&halves.0, &low.0, &low.1, first, second);
+    let right = joined(&halves.1, &high.0, &high.1, third, fourth);
+    (joined(task, &halves.0, &halves.1, left, right), put)
 }

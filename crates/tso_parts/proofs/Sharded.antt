@@ -3,6 +3,7 @@ use Rattle.std.proofs.Common.{◌≡◌, ◌∙◌, ℕ, ◌+◌, ◌<◌, ◌/�
 use Rattle.std.proofs.lemmas.Bool.{false≢true}
 use Rattle.std.proofs.lemmas.List.{length_push}
 use Rattle.std.proofs.lemmas.Nat.{mod_below}
+use Rattle.std.proofs.lemmas.Option.{same_Some}
 use Rattle.tso_parts.proofs.Adding.{numbered_more}
 use Rattle.tso_parts.proofs.Marked.{found_or_not, item_at, new_item, of_longer, old_item, within}
 use Rattle.tso_parts.specs.Numbers.{IsNowhere, IsNumbered}
@@ -12,9 +13,6 @@ use Rattle.tso_parts.specs.declared.pool.Items.{Items}
 use Rattle.tso_parts.specs.declared.pool.Items.TheVariants.{Listed}
 use Rattle.tso_parts.specs.declared.seeded.Seeded.{Seeded}
 use Rattle.tso_parts.specs.declared.shard.Shards.{Shards}
-
-of_some : {X : Type 0} (x y : X) → Some x ≡ Some y → x ≡ y
-of_some x y e = let h : x ≡ y = cc in h
 
 -- ---- a shard that is made
 
@@ -33,9 +31,9 @@ module _ {X : Type 0} (which : X → ℕ) (items : List X) (k : ℕ) where
   of_shard_passed limit y keys places are at other = record {
     wide = are.wide;
     differ = are.differ;
-    here = are.here;
+    here = λ j n x e f. let was = are.here j n x e f in (omega (arith, was.0), was.1);
     each = λ n x less e is. found_or_not n limit (omega (arith, less))
-        (λ same. absurd (other (ap which (of_some y x (sym at ∙ ap (slice_get items) (sym same) ∙ e)) ∙ is)))
+        (λ same. absurd (other (ap which (same_Some y x (sym at ∙ ap (slice_get items) (sym same) ∙ e)) ∙ is)))
         (λ low. are.each n x low e is);
   }
 
@@ -46,13 +44,13 @@ module _ {X : Type 0} (which : X → ℕ) (items : List X) (k : ℕ) where
     wide = length_push places limit ∙ ap (λ (n : ℕ). n + 1) are.wide ∙ sym (length_push keys y);
     differ = numbered_more keys y are.differ fresh;
     here = λ j n x e f. of_longer keys y x j e
-        (λ old. of_longer places limit n j f (λ g. are.here j n x old g) (λ last same. absurd (let w = within keys j x old in omega (arith, w, last, are.wide))))
+        (λ old. of_longer places limit n j f (λ g. let was = are.here j n x old g in (omega (arith, was.0), was.1)) (λ last same. absurd (let w = within keys j x old in omega (arith, w, last, are.wide))))
         (λ last same. of_longer places limit n j f (λ g. absurd (let w = within places j n g in omega (arith, w, last, are.wide)))
-        (λ end is. ap (slice_get items) (sym is) ∙ at ∙ ap Some same));
+        (λ end is. (omega (arith, is), ap (slice_get items) (sym is) ∙ at ∙ ap Some same)));
     each = λ n x less e is. found_or_not n limit (omega (arith, less))
         (λ same. record {
           number = length keys;
-          key = new_item keys y ∙ ap Some (of_some y x (sym at ∙ ap (slice_get items) (sym same) ∙ e));
+          key = new_item keys y ∙ ap Some (same_Some y x (sym at ∙ ap (slice_get items) (sym same) ∙ e));
           place = ap (slice_get (places ++ limit ∷ [])) (sym are.wide) ∙ new_item places limit ∙ ap Some (sym same);
         })
         (λ low.
@@ -67,7 +65,7 @@ module _ {X : Type 0} (which : X → ℕ) (items : List X) (k : ℕ) (keys : Lis
   nowhere_else is none n e = let at = are.each n x (within items n x e) e is in none at.number at.key
 
   pub placed_within : (j n : ℕ) → slice_get keys j ≡ Some x → slice_get places j ≡ Some n → n < length items
-  placed_within j n key place = within items n x (are.here j n x key place)
+  placed_within j n key place = (are.here j n x key place).0
 
   pub place_there : (j : ℕ) → j < length keys → slice_get places j ≡ None → ⊥
   place_there j less none = item_at places j (omega (arith, less, are.wide)) (λ n e. let h : None ≡ Some n = sym none ∙ e in cc)
@@ -85,7 +83,7 @@ module _ {X : Type 0} (hash : Seeded → X → ℕ) (items : List X) (s : Shards
       let a = are.each i x (within items i x e) e refl in
       let b = are.each j x (within items j x f) f refl in
       let same : a.number ≡ b.number = are.differ a.number b.number x a.key b.key in
-      of_some i j (sym a.place ∙ ap (slice_get shard.places) same ∙ b.place))
+      same_Some i j (sym a.place ∙ ap (slice_get shard.places) same ∙ b.place))
 
 pub none_before : (b c : Bool) → b ≡ not c → IsTrue b → c ≡ false
 none_before b true e is = absurd (false≢true (sym e ∙ is))
@@ -106,3 +104,14 @@ pub put_in_shard : {X E : Type 0} (which : X → ℕ) (k n : ℕ) (y : X) (keys 
     → IfOk r (λ b. IsTrue b → (items : List X) → slice_get items n ≡ Some y → AreOfShard which items n k keys places → AreOfShard which items (n + 1) k after later)
 put_in_shard which k n y keys after places later (Ok b) more_keys more_places fresh = λ is items at are. of_shard_more which items k n y keys after places later are at (fresh is) (more_keys is) (more_places is)
 put_in_shard which k n y keys after places later (Err e) more_keys more_places fresh = tt
+
+-- one that is there already: no list that has it behind those of the shard has different values alone
+pub put_again : {X E : Type 0} (which : X → ℕ) (k n : ℕ) (y : X) (keys : List X) (places : List ℕ) (r : Result Bool E) → IfOk r (λ b. b ≡ false → (j : ℕ) × (slice_get keys j ≡ Some y))
+    → IfOk r (λ b. b ≡ false → (items : List X) → slice_get items n ≡ Some y → AreOfShard which items n k keys places → IsNumbered items → ⊥)
+put_again which k n y keys places (Ok b) again = λ is items at are differ.
+    let there = again is in
+    item_at places there.0 (let w = within keys there.0 y there.1 in omega (arith, w, are.wide)) (λ m place.
+    let was = are.here there.0 m y there.1 place in
+    let same : m ≡ n = differ m n y was.1 at in
+    omega (arith, was.0, same))
+put_again which k n y keys places (Err e) again = tt

@@ -19,7 +19,7 @@ pub record IsPlacedAt {X : Type 0} (keys : List X) (places : List ℕ) (x : X) (
 pub record AreOfShard {X : Type 0} (which : X → ℕ) (items : List X) (limit k : ℕ) (keys : List X) (places : List ℕ) : Type 0 where
   pub wide : length places ≡ length keys
   pub differ : IsNumbered keys
-  pub here : (j n : ℕ) (x : X) → slice_get keys j ≡ Some x → slice_get places j ≡ Some n → slice_get items n ≡ Some x
+  pub here : (j n : ℕ) (x : X) → slice_get keys j ≡ Some x → slice_get places j ≡ Some n → (n < limit) × (slice_get items n ≡ Some x)
   pub each : (n : ℕ) (x : X) → n < limit → slice_get items n ≡ Some x → which x ≡ k → IsPlacedAt keys places x n
 
 -- those of all values

@@ -15,6 +15,7 @@ mod seeded;
 mod shard;
 mod shared;
 mod spliced;
+mod taking;
 mod two;
 
 pub use catalog::Catalog;

@@ -1,6 +1,6 @@
 //! Shards of the index of a list, which several threads make at one time.
 
-ghost use Rattle.std.specs.Prelude.{◌≡◌, ◌+◌, ◌<◌, ◌^◌, List, ◌++◌, ◌∷◌, [], IfOk, IfSome, IsTrue, MatchOption, OnOk, length, slice_get};
+ghost use Rattle.std.specs.Prelude.{◌≡◌, ◌+◌, ◌<◌, ◌^◌, ℕ, List, ◌++◌, ◌∷◌, [], Some, false, IfOk, IfSome, IsTrue, MatchOption, OnOk, length, slice_get};
 ghost use Rattle.tso_parts.specs.Marks.{hash_of};
 ghost use Rattle.tso_parts.specs.Numbers.{IsNowhere, IsNumbered};
 ghost use Rattle.tso_parts.specs.Shards.{AreOfShard, AreShardsOf, IsShardOf, shard_at};
@@ -48,6 +48,7 @@ impl<T: Exact + Hash + Copy + Drop> Shard<T> {
         ensures values { IfOk result (λ b. IsTrue b → self.new.values.keys ≡ self.old.values.keys ++ item ∷ []) }
         ensures places { IfOk result (λ b. IsTrue b → self.new.places ≡ self.old.places ++ place ∷ []) }
         ensures fresh { IfOk result (λ b. IsTrue b → IsNowhere self.old.values.keys item) }
+        ensures again { IfOk result (λ b. b ≡ false → (j : ℕ) × (slice_get self.old.values.keys j ≡ Some item)) }
     {
         let (_, is_new) = self.values.insert_full(item)?;
         if is_new {
@@ -67,7 +68,8 @@ impl<T: Exact + Hash + Copy + Drop> Shard<T> {
         count: usize,
     ) -> Result<bool, AllocError>
         requires { 0 < count }
-        ensures { IfOk result (λ b. IsTrue b → (items : List T) → slice_get items place ≡ Some item → AreOfShard (λ x. shard_at (hash_of seeded (T.hash_input x)) count) items place number self.old.values.keys self.old.places → AreOfShard (λ x. shard_at (hash_of seeded (T.hash_input x)) count) items (place + 1) number self.new.values.keys self.new.places) }
+        ensures taken { IfOk result (λ b. IsTrue b → (items : List T) → slice_get items place ≡ Some item → AreOfShard (λ x. shard_at (hash_of seeded (T.hash_input x)) count) items place number self.old.values.keys self.old.places → AreOfShard (λ x. shard_at (hash_of seeded (T.hash_input x)) count) items (place + 1) number self.new.values.keys self.new.places) }
+        ensures again { IfOk result (λ b. b ≡ false → (items : List T) → slice_get items place ≡ Some item → AreOfShard (λ x. shard_at (hash_of seeded (T.hash_input x)) count) items place number self.old.values.keys self.old.places → IsNumbered items → ⊥) }
     {
         if shard_of(seeded, &item, count) != number {
             return Ok(true);
@@ -75,7 +77,7 @@ impl<T: Exact + Hash + Copy + Drop> Shard<T> {
         self.put(item, place)
     }
 
-    /// The shard with this number of so many, of a list's values, which are hashed so. `None` where two of them are equal.
+    /// The shard with this number of so many, of a list's values, which are hashed so. `None` where two of the shard are equal.
     ///
     /// Errors: where a growth was refused.
     pub fn of(
@@ -87,7 +89,7 @@ impl<T: Exact + Hash + Copy + Drop> Shard<T> {
     ) -> Result<Option<Self>, AllocError>
         requires some { 0 < count }
         requires small { length items.now < 2 ^ 32 }
-        ensures { IfOk result (λ o. IfSome o (IsShardOf (λ x. shard_at (hash_of seeded (T.hash_input x)) count) items.now number)) }
+        ensures { IfOk result (λ o. MatchOption o (IsNumbered items.now → ⊥) (IsShardOf (λ x. shard_at (hash_of seeded (T.hash_input x)) count) items.now number)) }
     {
         let share = items.len() / count;
         let mut shard = Shard::with_room(alloc, seeded, share + share / 16 + 1)?;

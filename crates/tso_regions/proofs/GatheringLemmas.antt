@@ -1,7 +1,7 @@
 -- What several regions have among them, and that all their states together are searched.
 use Rattle.std.proofs.Common.{◌≡◌, ◌∙◌, ℕ, zero, suc, ◌+◌, ◌<◌, ◌++◌, ◌==◌, inl, inr, Bool, true, false, List, [], ◌∷◌, length, Option, None, Some, slice_get, refl, sym, ap, subst, arith, if◌then◌else◌, take, eq-eqb, ne_eqb, eqb-true, add-one, option_map}
 use Rattle.std.proofs.lemmas.Bool.Decides.{eqb_tells}
-use Rattle.std.proofs.lemmas.List.{take_more}
+use Rattle.std.proofs.lemmas.List.{append-nil, nil_from_length, take_more}
 use Rattle.std.proofs.lemmas.Option.{get_or_from_slice_get, none-some, same_Some, slice_get_within, slice_get-get_or, slice_get-map}
 use Rattle.tso_compact.specs.Laws.{initial_of}
 use Rattle.tso_foot.specs.declared.table.Table.{Table}
@@ -14,7 +14,7 @@ use Rattle.tso_regions.specs.Owners.{owner_in}
 use Rattle.tso_regions.specs.Regions.{Domain}
 use Rattle.tso_search.proofs.SearchLemmas.{kept_at}
 use Rattle.tso_search.specs.Reached.{AllMet}
-use Rattle.tso_search.specs.Searched.{AreSearched, HasMore, IsDone, IsWorked, IsWorkedAt}
+use Rattle.tso_search.specs.Searched.{AreSearched, IsDone, IsWorked, IsWorkedAt}
 use Rattle.tso_state.specs.Views.{state_of}
 use Rattle.tso_state.specs.declared.actor.Actor.{Actor}
 use Rattle.tso_state.specs.declared.state.State.{State}
@@ -279,3 +279,7 @@ first_more count zero domains d states new first none there is e s some at own h
     subst (λ (xs : List State). slice_get xs 0 ≡ Some s) (sym alone) also
 first_more count (suc k) domains d states new first none there is e s some at own here =
     subst (λ (xs : List State). slice_get xs 0 ≡ Some s) (sym is) (got_left states (picked d.states d.own) 0 s (first e s (omega arith) at own here))
+
+-- where nothing is left all have come
+pub came_all : {X : Type 0} (came rest all : List X) → length rest ≡ 0 → came ++ rest ≡ all → came ≡ all
+came_all came rest all none e = sym (append-nil came) ∙ ap (λ xs. came ++ xs) (sym (nil_from_length rest none)) ∙ e

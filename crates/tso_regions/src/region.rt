@@ -236,13 +236,6 @@ fn place_first(
     Ok(())
 }
 
-// Puts an item into a place, and lets go of what was there.
-fn put<T: Drop>(place: &mut T, item: T)
-    ensures { place.new ≡ item }
-{
-    *place = item;
-}
-
 // What a region begins with beside its states.
 fn begun(
     alloc: Global,
@@ -366,15 +359,6 @@ impl<'a, U: Realm> Region<'a, U> {
         }
     }
 
-    /// Lets go of its states, of which it has none then.
-    pub fn clear(&mut self, alloc: Global)
-        ensures states { self.new.states ≡ [] }
-        ensures marks { self.new.marks ≡ [] }
-    {
-        put(&mut self.store, Store::new(alloc, self.checked, 0));
-        put(&mut self.marks, Marks::new(alloc));
-    }
-
     /// Why it is worked no further, if it is not.
     pub fn halt(&self) -> Option<Halt> {
         self.halt
@@ -434,6 +418,30 @@ impl<'a, U: Realm> Region<'a, U> {
         ensures own { result.1.now ≡ self.now.own }
     {
         (&self.store, self.own.as_slice())
+    }
+
+    /// Its states, and the numbers of those that are listed as its own. All else is let go of.
+    pub fn into_states(self) -> (Store<'a>, Vec<u32>)
+        ensures client { U.client ≡ Some result.0.client }
+        ensures states { result.0.states ≡ self.entry.states }
+        ensures own { result.1.items ≡ self.entry.own }
+    {
+        let Region {
+            checked: _checked,
+            table: _table,
+            owner: _owner,
+            store,
+            marks,
+            own,
+            judged,
+            agenda,
+            halt: _halt,
+            realm: _realm,
+        } = self;
+        drop(marks);
+        drop(judged);
+        drop(agenda);
+        (store, own)
     }
 
     /// Whether this state is its first one, which is listed as its own.

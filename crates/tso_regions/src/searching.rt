@@ -7,7 +7,7 @@ ghost use Rattle.tso_regions.specs.Regions.{AreSound};
 ghost use Rattle.tso_search.specs.Marking.{is_marked};
 ghost use Rattle.tso_search.specs.Searched.{AreDone, AreSearched, IsDone};
 
-use crate::gathering::Ungathered;
+use crate::gathering::gathered_of;
 use crate::parcel::Parcel;
 use crate::pile::{Ended, Pile};
 use crate::realm::Realm;
@@ -17,9 +17,8 @@ use crate::team::{Team, work_all};
 use std::alloc::{AllocError, Global};
 use std::marker::Brand;
 use std::sync::{Condvar, Mutex, Wait};
-use std::thread;
 use std::thread::Threads;
-use tso_cert::{Watch, run_both};
+use tso_cert::{Watch, run_by};
 use tso_flow::Checked;
 use tso_foot::Table;
 use tso_search::Marks;
@@ -159,13 +158,37 @@ fn is_begun<U: Realm>(
     }
 }
 
+// Whether the first region begins with the initial state, and all are settled, which all workers ask.
+fn are_settled<U: Realm + Send + Sync, R: Threads + Sync>(
+    rt: &R,
+    alloc: Global,
+    checked: &Checked,
+    regions: &[Region<'_, U>],
+    workers: u64,
+) -> Result<bool, AllocError>
+    ensures begun { IfOk result (λ settled. settled ≡ true → IsBegunAt checked.now.client regions.now) }
+    ensures settled { IfOk result (λ settled. settled ≡ true → AreSettledBetween U.client U.table (length regions.now) regions.now 0 (length regions.now)) }
+{
+    if regions.is_empty() || !is_begun(alloc, checked, regions)? {
+        return Ok(false);
+    }
+    let asked = Asked {
+        alloc,
+        regions,
+        count: regions.len() as u64,
+        from: 0,
+        to: regions.len(),
+    };
+    run_by(rt, &asked, workers)
+}
+
 // The states of all regions in one store, if all are settled and there are not too many.
 fn concluded<'c, U: Realm + Send + Sync, R: Threads + Sync>(
     rt: &R,
     alloc: Global,
     checked: &'c Checked,
     table: &Table,
-    regions: &[Region<'_, U>],
+    regions: Vec<Region<'_, U>>,
     workers: u64,
     limit: u32,
 ) -> Result<Option<Store<'c>>, AllocError>
@@ -176,54 +199,22 @@ fn concluded<'c, U: Realm + Send + Sync, R: Threads + Sync>(
     ensures searched { IfOk result (λ found. IfSome found (λ store. AreSearched checked.now.client table.now store.states)) }
     ensures few { IfOk result (λ found. IfSome found (λ store. length store.states ≤ limit)) }
 {
-    let count = regions.len() as u64;
-    if count == 0 || !is_begun(alloc, checked, regions)? {
-        return Ok(None);
-    }
-    let (settled, found) = asked_and_gathered(rt, alloc, checked, regions, count, workers);
-    match found? {
-        Some(gathered) => {
-            if settled? {
-                return finished(gathered, limit);
-            }
-            drop(gathered);
-            Ok(None)
+    match are_settled(rt, alloc, checked, regions.as_slice(), workers) {
+        Ok(true) => {}
+        Ok(false) => {
+            drop(regions);
+            return Ok(None);
         }
+        Err(reason) => {
+            drop(regions);
+            return Err(reason);
+        }
+    }
+    let count = regions.len() as u64;
+    match gathered_of(alloc, checked, regions, count)? {
+        Some(gathered) => finished(gathered, limit),
         None => Ok(None),
     }
-}
-
-// Whether all regions are settled, which all workers but one ask, and what they list, which the last one gathers meanwhile.
-fn asked_and_gathered<'c, U: Realm + Send + Sync, R: Threads + Sync>(
-    rt: &R,
-    alloc: Global,
-    checked: &'c Checked,
-    regions: &[Region<'_, U>],
-    count: u64,
-    workers: u64,
-) -> (
-    Result<bool, AllocError>,
-    Result<Option<Gathered<'c>>, AllocError>,
-)
-    requires client { U.client ≡ Some checked.now.client }
-    requires some { 0 < count }
-    ensures settled { IfOk result.0 (λ settled. settled ≡ true → AreSettledBetween U.client U.table count regions.now 0 (length regions.now)) }
-    ensures gathered { IfOk result.1 (λ found. IfSome found (AreAllTaken checked.now.client count regions.now)) }
-{
-    let asked = Asked {
-        alloc,
-        regions,
-        count,
-        from: 0,
-        to: regions.len(),
-    };
-    let ungathered = Ungathered {
-        alloc,
-        checked,
-        regions,
-        count,
-    };
-    run_both(rt, &asked, workers.saturating_sub(1), &ungathered, 1)
 }
 
 // One store of these states, which has learnt where the next steps of their threads lead, if there are not too many.
@@ -257,23 +248,6 @@ fn marked(alloc: Global, worked: u32) -> Result<Marks, AllocError>
         marks.mark(number)?;
     }
     Ok(marks)
-}
-
-// Lets go of what regions have, by so many threads: it takes as long as to gather it.
-fn let_go<U: Realm + Send + Sync, R: Threads + Sync>(
-    rt: &R,
-    alloc: Global,
-    regions: &mut [Region<'_, U>],
-    workers: u64,
-)
-    requires { 0 < workers }
-{
-    thread::for_each_mut(
-        rt,
-        regions,
-        workers as usize,
-        &|_, region| region.clear(alloc),
-    );
 }
 
 // What a search by regions finds, where the realm is this.
@@ -315,19 +289,8 @@ fn run_as<'c, U: Realm + Send + Sync, R: Threads + Wait + Sync, W: Watch + Sync>
     )? {
         return Ok(None);
     }
-    let worked = unlocked(alloc, locks)?;
-    let mut regions = worked;
-    let found = concluded(
-        rt,
-        alloc,
-        checked,
-        table,
-        regions.as_slice(),
-        workers,
-        limit,
-    );
-    let_go(rt, alloc, regions.as_mut_slice(), workers);
-    found
+    let regions = unlocked(alloc, locks)?;
+    concluded(rt, alloc, checked, table, regions, workers, limit)
 }
 
 /// Lets so many workers, from 1 to 64, search on from states of which those with numbers below one are worked: all states that there are

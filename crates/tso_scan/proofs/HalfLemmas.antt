@@ -102,12 +102,12 @@ forked whole left right first second h new room halves one two graft (same, is) 
     let all : right.room ≡ whole.room = ap (λ (s : Stretch). s.room) halves.right_is in
     let c_left : left.client ≡ whole.client = ap (λ (s : Stretch). s.client) halves.left_is in
     let took = tree_take d whole.room left.bytes (one.tree, first.records.room, one.rest) reads_left in
-    let end_is : graft.end ≡ one.rest = same_ends left.bytes graft.end one.rest graft.ends (record { front = spelling_of one.tree; is = took.0 }) (graft.long ∙ one.behind) in
-    let reads_state : state_at one.rest ≡ Some (graft.middle, graft.rest) = ap state_at (sym end_is) ∙ graft.reads in
-    let behind : graft.rest ≡ right.bytes = meets left.bytes graft.end right.bytes one.rest graft.rest one.tree graft.middle took.0 end_is graft.reads halves.behind graft.meets in
-    let fits : first.records.room ≡ room + (whole.room - second.records.room) = graft.fits.is ∙ ap (λ n. room + (n - second.records.room)) all in
-    let reads_rest : tree_at d first.records.room graft.rest ≡ Ok (two.tree, room, two.rest) = ap (tree_at d first.records.room) behind ∙ less_room d whole.room first.records.room second.records.room room right.bytes two.rest two.tree reads_right fits in
-    let reads_fork = fork_reads d whole.room first.records.room room left.bytes one.rest graft.rest two.rest one.tree two.tree graft.middle reads_left reads_state reads_rest in
+    let end_is : graft.seam.end ≡ one.rest = same_ends left.bytes graft.seam.end one.rest graft.seam.ends (record { front = spelling_of one.tree; is = took.0 }) (graft.seam.long ∙ one.behind) in
+    let reads_state : state_at one.rest ≡ Some (graft.middle, graft.seam.rest) = ap state_at (sym end_is) ∙ graft.seam.reads in
+    let behind : graft.seam.rest ≡ right.bytes = meets left.bytes graft.seam.end right.bytes one.rest graft.seam.rest one.tree graft.middle took.0 end_is graft.seam.reads halves.behind graft.seam.meets in
+    let fits : first.records.room ≡ room + (whole.room - second.records.room) = graft.seam.fits.is ∙ ap (λ n. room + (n - second.records.room)) all in
+    let reads_rest : tree_at d first.records.room graft.seam.rest ≡ Ok (two.tree, room, two.rest) = ap (tree_at d first.records.room) behind ∙ less_room d whole.room first.records.room second.records.room room right.bytes two.rest two.tree reads_right fits in
+    let reads_fork = fork_reads d whole.room first.records.room room left.bytes one.rest graft.seam.rest two.rest one.tree two.tree graft.middle reads_left reads_state reads_rest in
     let reads_whole : tree_at whole.depth whole.room whole.bytes ≡ Ok (fork one.tree graft.middle two.tree, room, two.rest) =
     opens_fork whole.depth whole.room whole.bytes halves.some halves.first halves.deep ∙ ap (fork_at (tree_at d) whole.room) (sym bytes_left) ∙ reads_fork in
     let both : new.states ≡ tree_states one.tree ++ tree_states two.tree = graft.taken.states ∙ (λ i. one.states i ++ two.states i) in

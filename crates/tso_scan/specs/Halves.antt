@@ -83,16 +83,20 @@ pub record IsRoom (all first second room : ℕ) : Type 0 where
   pub enough : second ≤ all
   pub is : first ≡ room + (all - second)
 
--- a fork's state stands between what the halves were read from, and the states of the second are behind those of the first
-pub record AreGrafted (left right : Stretch) (first : Records) (second : Half) (old new : Gathering) (room : ℕ) : Type 0 where
+-- where a fork's halves meet stands its state, and so many records may still come
+pub record IsSeam (left right : Stretch) (first second : Records) (middle : State) (room : ℕ) : Type 0 where
   pub end : List ℕ
   pub ends : IsEnd left.bytes end
   pub long : length end ≡ first.behind
-  pub middle : State
   pub rest : List ℕ
   pub reads : state_at end ≡ Some (middle, rest)
   pub meets : length rest ≡ length right.bytes
-  pub fits : IsRoom right.room first.room second.records.room room
+  pub fits : IsRoom right.room first.room second.room room
+
+-- a fork's state stands between what the halves were read from, and the states of the second are behind those of the first
+pub record AreGrafted (left right : Stretch) (first : Records) (second : Half) (old new : Gathering) (room : ℕ) : Type 0 where
+  pub middle : State
+  pub seam : IsSeam left right first second.records middle room
   pub client : new.client ≡ old.client
   pub taken : AreTakenIn old.states second.states.states middle new.states
 

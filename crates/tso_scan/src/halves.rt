@@ -1,7 +1,7 @@
 //! Trees that are read by themselves, and put together as the halves of a fork.
 ghost use Rattle.std.specs.Prelude.{◌≡◌, ◌++◌, IfOk, IfSome, IsTrue, Some, length};
 ghost use Rattle.tso_code.specs.States.{state_at};
-ghost use Rattle.tso_scan.specs.Halves.{AreGrafted, AreHalvesOf, AreTakenIn, IsEnd, IsForkOf, IsForkShape, IsHalfOf, IsRoom, IsTreeRead, IsTwig, stretch_of};
+ghost use Rattle.tso_scan.specs.Halves.{AreGrafted, AreHalvesOf, AreTakenIn, IsEnd, IsForkOf, IsForkShape, IsHalfOf, IsRoom, IsSeam, IsTreeRead, IsTwig, stretch_of};
 ghost use Rattle.tso_scan.specs.Scanned.{IsScan};
 ghost use Rattle.tso_scan.specs.Sources.{parts_of};
 ghost use Rattle.tso_store.specs.Keys.{AreKept};
@@ -21,6 +21,9 @@ use tso_prog::Client;
 use tso_rec::{End, Shared};
 use tso_state::State;
 use tso_store::Gathered;
+
+/// The most records that a certificate has.
+pub const RECORDS: u32 = 4_194_304;
 
 /// A tree that was read by itself: its records' states with parts of their own, and what else was read of them in the same order.
 #[derive(Drop)]
@@ -200,29 +203,26 @@ fn room_behind(all: u32, first: u32, second: u32) -> Option<u32>
 fn take_in(
     alloc: Global,
     states: &mut Gathered<'_>,
-    second: &Gathered<'_>,
+    second: Gathered<'_>,
     middle: &State,
 ) -> Result<bool, Refused>
-    requires { second.now.client ≡ states.old.client }
+    requires { second.client ≡ states.old.client }
     ensures client { IfOk result (λ _. states.new.client ≡ states.old.client) }
-    ensures taken { IfOk result (λ b. IsTrue b → AreTakenIn states.old.states second.now.states middle.now states.new.states) }
+    ensures taken { IfOk result (λ b. IsTrue b → AreTakenIn states.old.states second.entry.states middle.now states.new.states) }
 {
     let first = states.len();
     states.append(alloc, second)?;
     Ok(states.is_at(first, middle))
 }
 
-// Puts the states of a fork's second half behind those of its first, and tells how many records may still come. `None` where the two
-// do not fit together: then nothing is said of the states.
-fn graft(
+// The state of a fork of these halves, and how many records may still come. `None` where the halves do not fit together.
+fn seam_of(
     left: &Unread<'_, '_>,
     right: &Unread<'_, '_>,
-    states: &mut Gathered<'_>,
     first: &Records,
-    second: &Half<'_>,
-) -> Result<Option<u32>, Refused>
-    requires { second.now.states.client ≡ states.old.client }
-    ensures { IfOk result (λ o. IfSome o (AreGrafted (stretch_of left.now.checked.now.client left.now.depth left.now.room left.now.bytes.now) (stretch_of right.now.checked.now.client right.now.depth right.now.room right.now.bytes.now) first.now second.now states.old states.new)) }
+    second: &Records,
+) -> Result<Option<(State, u32)>, AllocError>
+    ensures { IfOk result (λ o. IfSome o (λ x. IsSeam (stretch_of left.now.checked.now.client left.now.depth left.now.room left.now.bytes.now) (stretch_of right.now.checked.now.client right.now.depth right.now.room right.now.bytes.now) first.now second.now x.0 x.1)) }
 {
     let Some(end) = last_bytes(left.bytes, first.behind) else {
         return Ok(None);
@@ -233,13 +233,53 @@ fn graft(
     if rest.len() != right.bytes.len() {
         return Ok(None);
     }
-    let Some(room) = room_behind(right.room, first.room, second.records.room) else {
-        return Ok(None);
-    };
-    if !take_in(left.alloc, states, &second.states, &middle)? {
-        return Ok(None);
+    match room_behind(right.room, first.room, second.room) {
+        Some(room) => Ok(Some((middle, room))),
+        None => Ok(None),
     }
-    Ok(Some(room))
+}
+
+// Puts the states of a fork's second half behind those of its first, and tells how many records may still come, and what else there
+// is of the second. `None` where the two do not fit together: then nothing is said of the states.
+fn graft(
+    left: &Unread<'_, '_>,
+    right: &Unread<'_, '_>,
+    states: &mut Gathered<'_>,
+    first: &Records,
+    second: Half<'_>,
+) -> Result<Option<(u32, Records)>, Refused>
+    requires { second.states.client ≡ states.old.client }
+    ensures grafted { IfOk result (λ o. IfSome o (λ x. AreGrafted (stretch_of left.now.checked.now.client left.now.depth left.now.room left.now.bytes.now) (stretch_of right.now.checked.now.client right.now.depth right.now.room right.now.bytes.now) first.now second.entry states.old states.new x.0)) }
+    ensures records { IfOk result (λ o. IfSome o (λ x. x.1 ≡ second.entry.records)) }
+{
+    let Half {
+        states: others,
+        records,
+    } = second;
+    let (middle, room) = match seam_of(left, right, first, &records) {
+        Ok(Some(seam)) => seam,
+        Ok(None) => {
+            drop(others);
+            drop(records);
+            return Ok(None);
+        }
+        Err(reason) => {
+            drop(others);
+            drop(records);
+            return Err(reason.into());
+        }
+    };
+    match take_in(left.alloc, states, others, &middle) {
+        Ok(true) => Ok(Some((room, records))),
+        Ok(false) => {
+            drop(records);
+            Ok(None)
+        }
+        Err(reason) => {
+            drop(records);
+            Err(reason)
+        }
+    }
 }
 
 // The items of one list, and those of another behind them.
@@ -273,15 +313,6 @@ fn fork_of(alloc: Global, first: Records, second: Records, room: u32) -> Result<
         room,
         behind: second.behind,
     })
-}
-
-// The records of a half, without its states.
-fn records_of(half: Half<'_>) -> Records
-    ensures { result ≡ half.entry.records }
-{
-    let Half { states, records } = half;
-    drop(states);
-    records
 }
 
 // A fork, from the states of both halves, and from their records.
@@ -321,21 +352,19 @@ fn read_joined<'c>(
         mut states,
         records,
     } = first;
-    match graft(left, right, &mut states, &records, &second) {
-        Ok(Some(room)) => {
-            let half = half_with(whole.alloc, states, records, records_of(second), room)?;
+    match graft(left, right, &mut states, &records, second) {
+        Ok(Some((room, others))) => {
+            let half = half_with(whole.alloc, states, records, others, room)?;
             Ok(Some(half))
         }
         Ok(None) => {
             drop(states);
             drop(records);
-            drop(second);
             read_alone(whole)
         }
         Err(reason) => {
             drop(states);
             drop(records);
-            drop(second);
             match reason {
                 Refused::Memory => Err(AllocError),
                 Refused::Full => Ok(None),

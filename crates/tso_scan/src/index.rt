@@ -4,7 +4,7 @@ ghost use Rattle.std.specs.Prelude.{◌≡◌, ◌<◌, ◌≤◌, ◌^◌, IfOk
 ghost use Rattle.tso_scan.specs.Halves.{IsStored};
 ghost use Rattle.tso_scan.specs.Indexes.{AreMade, making};
 
-use crate::halves::{Half, Records};
+use crate::halves::{Half, RECORDS, Records};
 use crate::states::SEED;
 use std::alloc::{AllocError, Global};
 use std::thread::Threads;
@@ -13,9 +13,6 @@ use tso_flow::Checked;
 use tso_list::Seq;
 use tso_parts::{Pool, Refused, Seeded, Shard, Shards};
 use tso_store::{Gathered, Key, Store};
-
-// The most states of a certificate.
-const STATES: usize = 4_194_304;
 
 /// A tree that was read, with its states in a store.
 #[derive(Drop)]
@@ -217,7 +214,7 @@ fn store_by<'c, R: Threads + Sync>(
     ensures { IfOk result (λ o. IfSome o (λ s. (s.client ≡ states.entry.client) × (s.states ≡ states.entry.states))) }
 {
     let count = states.len();
-    if workers < 2 || count <= ALONE || count > STATES {
+    if workers < 2 || count <= ALONE || count > RECORDS as usize {
         return store_of(alloc, checked, states);
     }
     let (parts, keys) = states.into_parts();

@@ -5,10 +5,11 @@ ghost use Rattle.tso_scan.specs.Halves.{IsOfWhole, IsStored, IsTreeRead, stretch
 ghost use Rattle.tso_scan.specs.Scanned.{IsScanned, IsScannedBehind};
 ghost use Rattle.tso_prog.specs.declared.client.Client.{Client};
 
-use crate::halves::{Half, Records, Unread, read_alone};
+use crate::halves::{Half, RECORDS, Records, Unread, read_alone};
 use crate::index::{Whole, whole_by, whole_of};
 use crate::shape::Shape;
 use std::alloc::{AllocError, Global};
+use std::thread;
 use std::thread::Threads;
 use tso_cert::{DecodeError, read_table, run_by};
 use tso_flow::Checked;
@@ -16,8 +17,6 @@ use tso_foot::Table;
 use tso_list::Seq;
 use tso_rec::{End, Shared};
 use tso_store::Store;
-
-const RECORDS: u32 = 4_194_304;
 
 const FORKS: u8 = 64;
 
@@ -39,6 +38,24 @@ impl<'a> Scanned<'a> {
         match self.ends.get(number as usize) {
             Some(end) => Some(end.get()),
             None => None,
+        }
+    }
+
+    /// Lets go of it, by two threads where there are to be several workers: its states take as long as the ends.
+    pub fn let_go<R: Threads + Sync>(self, rt: &R, workers: u64) {
+        let Scanned {
+            table,
+            store,
+            ends,
+            shape,
+        } = self;
+        drop(table);
+        drop(shape);
+        if workers > 1 {
+            thread::join(rt, || drop(store), || drop(ends));
+        } else {
+            drop(store);
+            drop(ends);
         }
     }
 }

@@ -4,6 +4,7 @@ use Rattle.std.proofs.lemmas.List.{append-nil, length-map, length_push, map-appe
 use Rattle.std.proofs.lemmas.Option.{same_Some}
 use Rattle.std.specs.List.{AllByRecursion}
 use Rattle.tso_parts.specs.Numbers.{Extends, grown}
+use Rattle.tso_parts.specs.Numbers as parts
 use Rattle.tso_parts.proofs.Marked.{found_or_not, of_longer}
 use Rattle.tso_prog.specs.declared.client.Client.{Client}
 use Rattle.tso_state.specs.declared.state.State.{State}
@@ -34,6 +35,15 @@ row_push pool (m ∷ ns) (y ∷ all) (suc i) n x are long at e = (are.0, row_pus
 pub row_pushed : {X : Type 0} (old new : List X) (ns : List ℕ) (all : List X) (i n : ℕ) (x : X) → AreNumbersOf old ns (take i all) → Extends old new → length ns ≡ i → i < length all → x ≡ get_or all i x → slice_get new n ≡ Some x → AreNumbersOf new (ns ++ n ∷ []) (take (i + 1) all)
 row_pushed old new ns all i n x are ext long lt at e =
     rw add-one (row_push new ns all i n x (more_numbers old new ns (take i all) ext are) long (got all i x at lt) e)
+
+-- numbers in their order are a row
+pub row_of_all : {X : Type 0} (pool : List X) (ns : List ℕ) (xs : List X) → parts.AreNumbersIn pool ns xs → AreNumbersOf pool ns xs
+row_of_all pool [] [] are = tt
+row_of_all pool [] (x ∷ xs) are = absurd (let w = are.wide in omega (arith, w))
+row_of_all pool (n ∷ ns) [] are = absurd (let w = are.wide in omega (arith, w))
+row_of_all {X = X} pool (n ∷ ns) (x ∷ xs) are =
+    let first = are.each 0 x refl in
+    (ap (slice_get pool) (same_Some n first.0 first.1) ∙ first.2, row_of_all {X = X} pool ns xs (record { wide = let w = are.wide in omega (arith, w); each = λ i y e. are.each (suc i) y e }))
 
 pub pushed_length : (ns after : List ℕ) (n i : ℕ) → after ≡ ns ++ n ∷ [] → length ns ≡ i → length after ≡ i + 1
 pushed_length ns after n i e long = ap length e ∙ length_push ns n ∙ ap (λ (m : ℕ). m + 1) long

@@ -8,7 +8,7 @@ ghost use Rattle.tso_store.specs.Moving.{moved_key};
 
 use crate::kept::{find_key, fits_client};
 use crate::key::Key;
-use crate::moved::{PartNumbers, add_parts, moved_key};
+use crate::moved::{PartNumbers, moved_key, take_parts};
 use crate::numbered::Store;
 use crate::parts::Parts;
 use crate::ranking::key_or_none;
@@ -130,40 +130,45 @@ impl<'a> Gathered<'a> {
     }
 
     /// Puts the states of a store of the same client with these numbers at the end, in this order. Each part of the store is
-    /// looked for once, and copied where it is new; then each state takes its parts by their numbers here, so that for a state
-    /// no part is compared, hashed or copied.
+    /// looked for once, and moved where it is new; then each state takes its parts by their numbers here, so that for a state
+    /// no part is compared or hashed. What of the store is not needed is let go of.
     ///
     /// Errors: where a growth was refused (`Memory`), or there are as many parts of a kind as numbers (`Full`). The states stay.
-    pub fn take(&mut self, alloc: Global, store: &Store<'_>, numbers: &[u32]) -> Result<(), Refused>
-        requires client { store.now.client ≡ self.old.client }
-        requires there { AreThere store.now.states numbers.now }
-        ensures taken { OnOk result (self.new.states ≡ self.old.states ++ picked store.now.states numbers.now) }
+    pub fn take(&mut self, alloc: Global, store: Store<'_>, numbers: &[u32]) -> Result<(), Refused>
+        requires client { store.client ≡ self.old.client }
+        requires there { AreThere store.states numbers.now }
+        ensures taken { OnOk result (self.new.states ≡ self.old.states ++ picked store.entry.states numbers.now) }
         ensures err { OnErr result (self.new.states ≡ self.old.states) }
         ensures full { result ≡ Err reasons.Full → 4294967295 ≤ self.new.parts }
-        ensures more { self.new.parts ≤ self.old.parts + store.now.kept }
+        ensures more { self.new.parts ≤ self.old.parts + store.entry.kept }
         ensures client { self.new.client ≡ self.old.client }
     {
-        let (others, keys) = store.keyed_parts();
+        let (others, keys) = store.into_parts();
         others.threads.is_numbered();
-        let moved = add_parts(alloc, &mut self.parts, others)?;
-        push_moved(&mut self.keys, &moved, keys, numbers)?;
+        let moved = take_parts(alloc, &mut self.parts, others)?;
+        push_moved(&mut self.keys, &moved, &keys, numbers)?;
         Ok(())
     }
 
-    /// Puts the states of others of the same client at the end. Each part of theirs is looked for once, and copied where it is new;
-    /// then each state takes its parts by their numbers here.
+    /// Puts the states of others of the same client at the end, as `take` does.
     ///
     /// Errors: those of `take`. The states stay.
-    pub fn append(&mut self, alloc: Global, others: &Gathered<'_>) -> Result<(), Refused>
-        requires { others.now.client ≡ self.old.client }
-        ensures ok { OnOk result (self.new.states ≡ self.old.states ++ others.now.states) }
+    pub fn append(&mut self, alloc: Global, others: Gathered<'_>) -> Result<(), Refused>
+        requires { others.client ≡ self.old.client }
+        ensures ok { OnOk result (self.new.states ≡ self.old.states ++ others.entry.states) }
         ensures err { OnErr result (self.new.states ≡ self.old.states) }
         ensures full { result ≡ Err reasons.Full → 4294967295 ≤ self.new.parts }
-        ensures more { self.new.parts ≤ self.old.parts + others.now.parts }
+        ensures more { self.new.parts ≤ self.old.parts + others.entry.parts }
         ensures client { self.new.client ≡ self.old.client }
     {
-        let moved = add_parts(alloc, &mut self.parts, &others.parts)?;
-        push_all_moved(&mut self.keys, &moved, others.keys.as_slice())?;
+        let Gathered {
+            checked: _checked,
+            parts,
+            keys,
+        } = others;
+        parts.threads.is_numbered();
+        let moved = take_parts(alloc, &mut self.parts, parts)?;
+        push_all_moved(&mut self.keys, &moved, keys.as_slice())?;
         Ok(())
     }
 

@@ -82,6 +82,28 @@ pub fn add_parts(alloc: Global, parts: &mut Parts, others: &Parts) -> Result<Par
     })
 }
 
+/// The numbers of the parts of others, of which those that are new are moved here.
+pub fn take_parts(alloc: Global, parts: &mut Parts, others: Parts) -> Result<PartNumbers, Refused>
+    ensures numbers { IfOk result (AreNumbersIn others parts.new) }
+    ensures grows { Grows parts.old parts.new }
+    ensures more { part_count parts.new ≤ part_count parts.old + part_count others }
+    ensures full { result ≡ Err reasons.Full → 4294967295 ≤ part_count parts.new }
+{
+    let Parts {
+        memories,
+        histories,
+        threads,
+    } = others;
+    let memories = parts.memories.take_all(alloc, memories)?;
+    let histories = parts.histories.take_all(alloc, histories)?;
+    let threads = parts.threads.take_all(alloc, threads)?;
+    Ok(PartNumbers {
+        memories,
+        histories,
+        threads,
+    })
+}
+
 // The new number of a part; that of nothing where it has none.
 fn moved_number(numbers: &[u32], number: u32) -> u32
     ensures { result ≡ moved_number numbers.now number }

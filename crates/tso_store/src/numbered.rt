@@ -26,6 +26,7 @@ use crate::viewed_key::{find_view_key, key_of_view, view_fits_client};
 use std::alloc::{AllocError, Global};
 use std::cmp::Ordering;
 use std::marker::Model;
+use std::thread::Threads;
 use tso_flow::Checked;
 use tso_list::Seq;
 use tso_parts::{Pool, Refused};
@@ -309,15 +310,21 @@ impl<'a> Store<'a> {
         compare_at(&self.parts, &self.keys, a, b)
     }
 
-    /// The rows of ranks of all states, which are ordered as these. Each memory, thread and history is ranked among its kind.
+    /// The rows of ranks of all states, which are ordered as these. Each memory, thread and history is ranked among its kind, by
+    /// one thread, or, where there are to be several workers, by as many as the machine has processors.
     ///
     /// Errors: where a growth was refused.
-    pub fn standings(&self, alloc: Global) -> Result<Standings<'_>, AllocError>
+    pub fn standings<R: Threads + Sync>(
+        &self,
+        rt: &R,
+        alloc: Global,
+        workers: u64,
+    ) -> Result<Standings<'_>, AllocError>
         ensures { IfOk result (AreRowsOf self.now.states) }
     {
-        let memories = ranks_of(alloc, &self.parts.memories)?;
-        let threads = ranks_of(alloc, &self.parts.threads)?;
-        let histories = ranks_of(alloc, &self.parts.histories)?;
+        let memories = ranks_of(rt, alloc, workers, &self.parts.memories)?;
+        let threads = ranks_of(rt, alloc, workers, &self.parts.threads)?;
+        let histories = ranks_of(rt, alloc, workers, &self.parts.histories)?;
         Ok(Standings {
             keys: &self.keys,
             memories,
@@ -333,6 +340,22 @@ impl<'a> Store<'a> {
         ensures count { self.now.kept ≡ part_count result.0.now + length result.1.now }
     {
         (&self.parts, &self.keys)
+    }
+
+    /// The parts of the states, and for each state, in their order, the numbers of its parts.
+    pub fn into_parts(self) -> (Parts, Pool<Key>)
+        ensures states { states_at result.0 result.1 ≡ self.entry.states }
+        ensures kept { AreKept self.entry.client result.0 result.1 }
+        ensures count { self.entry.kept ≡ part_count result.0 + length result.1 }
+    {
+        let Store {
+            checked: _checked,
+            parts,
+            keys,
+            known,
+        } = self;
+        drop(known);
+        (parts, keys)
     }
 
     /// Two states with different numbers differ. This function does nothing when it runs.

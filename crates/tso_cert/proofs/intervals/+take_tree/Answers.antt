@@ -1,4 +1,4 @@
-use Rattle.std.proofs.Common.{◌≡◌, ◌++◌, List, ap, subst, sym}
+use Rattle.std.proofs.Common.{◌≡◌, ◌++◌, List, subst, sym}
 use Rattle.std.proofs.lemmas.List.{map-append}
 use Rattle.std.specs.Prelude.{OnOk}
 use Rattle.tso_cert.proofs.SeenLemmas.{both_seen, keeps_trans, on_both, on_ok, states_stay}

@@ -5,7 +5,7 @@ use Rattle.tso_regions.proofs.gathering.gathered_of.Goals as goal
 
 pub returns-in-Ok-true : goal.returns-in-Ok-true
 returns-in-Ok-true g c =
-    let regions = c.args.regions.now in
+    let regions = c.args.regions.items in
     let states = c.take_all.new.gathered.states in
     record {
       client = c.take_all.ensures.client ∙ c.new-gathered.ensures.client;

@@ -7,5 +7,6 @@ returns-in_ok-half-in-Ok-Some c =
     let w = c.args.whole.now in
     let l = c.args.left.now in
     let r = c.args.right.now in
+    let grafted = rw c.in-Ok-Some.field-0-is at c.in-Ok-Some.ensures in
     forked (stretch_of w.checked.now.client w.depth w.room w.bytes.now) (stretch_of l.checked.now.client l.depth l.room l.bytes.now) (stretch_of r.checked.now.client r.depth r.room r.bytes.now) c.args.first c.args.second c.in_ok-half-in-Ok-Some.half c.graft.new.states c.in-Ok-Some.room
-    c.requires.halves c.requires.first c.requires.second (rw c.in-Ok-Some.field-0-is at c.in-Ok-Some.ensures) (rw c.records_of.ensures at c.in_ok-half-in-Ok-Some.ensures)
+    c.requires.halves c.requires.first c.requires.second grafted.grafted (rw grafted.records at c.in_ok-half-in-Ok-Some.ensures)

@@ -16,8 +16,8 @@ returns-in_err-number-clause-found g c =
 pub returns-in-Some-clause-found : goal.returns-in-Some-clause-found
 returns-in-Some-clause-found g c =
     let shard = c.in_ok-shard.shard.now in
-    (c.requires.are c.shard_of.result shard (sym c.in_ok-shard.ensures)).here c.in_ok-number.number c.in-Some.place.now c.args.item.now
-    (found_at _ g.met.T.Exact.exact shard.values.keys c.args.item.now (Some c.in_ok-number.number) c.in_ok-number.ensures.index) (sym c.in-Some.ensures)
+    ((c.requires.are c.shard_of.result shard (sym c.in_ok-shard.ensures)).here c.in_ok-number.number c.in-Some.place.now c.args.item.now
+    (found_at _ g.met.T.Exact.exact shard.values.keys c.args.item.now (Some c.in_ok-number.number) c.in_ok-number.ensures.index) (sym c.in-Some.ensures)).1
 
 pub returns-in-Some-clause-within : goal.returns-in-Some-clause-within
 returns-in-Some-clause-within g c =
