@@ -87,28 +87,28 @@ fn by_halves<R: Threads + Sync, T: Task + Sync + Drop>(
     }
 }
 
-/// The outputs of two tasks at one time: of the first by some workers, of the second by others, of whom the caller is one.
-pub fn run_both<R: Threads + Sync, A: Task + Sync + Drop, B: Task + Sync + Drop>(
+// The outputs of two tasks at one time: of the first by some workers, of the second by others, of whom the caller is one.
+fn run_both<R: Threads + Sync, T: Task + Sync + Drop>(
     rt: &R,
-    first: &A,
+    first: &T,
     some: u64,
-    second: &B,
+    second: &T,
     others: u64,
-) -> (Result<A::Output, AllocError>, Result<B::Output, AllocError>)
-    requires first { A.is_ready first.now }
-    requires second { B.is_ready second.now }
-    ensures first { IfOk result.0 (A.is_output first.now) }
-    ensures second { IfOk result.1 (B.is_output second.now) }
+) -> (Result<T::Output, AllocError>, Result<T::Output, AllocError>)
+    requires first { T.is_ready first.now }
+    requires second { T.is_ready second.now }
+    ensures first { IfOk result.0 (T.is_output first.now) }
+    ensures second { IfOk result.1 (T.is_output second.now) }
 {
     thread::join(
         rt,
-        || -> Result<A::Output, AllocError>
-            requires { IsSync R.row × IsSync A.row × A.is_ready first.now }
-            ensures { IfOk result (A.is_output first.entry.now) }
+        || -> Result<T::Output, AllocError>
+            requires { IsSync R.row × IsSync T.row × T.is_ready first.now }
+            ensures { IfOk result (T.is_output first.entry.now) }
         { by_halves(rt, first, some) },
-        || -> Result<B::Output, AllocError>
-            requires { IsSync R.row × IsSync B.row × B.is_ready second.now }
-            ensures { IfOk result (B.is_output second.entry.now) }
+        || -> Result<T::Output, AllocError>
+            requires { IsSync R.row × IsSync T.row × T.is_ready second.now }
+            ensures { IfOk result (T.is_output second.entry.now) }
         { by_halves(rt, second, others) },
     )
 }

@@ -15,13 +15,12 @@ use Rattle.tso_cert.specs.Trees.{IsWithinLimits, Tree, records_of, spelling_of}
 use Rattle.tso_check.proofs.OneAnswer.{one_answer}
 use Rattle.tso_check.specs.Laws.{IsSameButMemory}
 use Rattle.tso_check.specs.Upgrades.{HasRecords, IsMadeFor, IsNoAcceptance, IsNotRenewed, IsNotUpgraded, IsRenewed, IsRenewedWith, IsSpelledAnew, IsUpgraded}
-use Rattle.tso_check.specs.Verdicts.{IsAnswer, IsVerdict}
+use Rattle.tso_check.specs.Verdicts.{IsAnswer}
 use Rattle.tso_check.specs.declared.upgrading.UpgradeError.{UpgradeError}
 use Rattle.tso_check.specs.declared.upgrading.UpgradeError.TheVariants.{Memory, NotAccepted}
 use Rattle.tso_check.specs.declared.verdict.Verdict.{Verdict}
 use Rattle.tso_check.specs.declared.verdict.Verdict.TheVariants.{Accepted, Rejected}
-use Rattle.tso_choose.specs.Choices.{AreReasons, actors_of}
-use Rattle.tso_choose.specs.declared.choice.Choice.{Choice}
+use Rattle.tso_choose.specs.Choices.{actors_of}
 use Rattle.tso_client.specs.Headline.{DenotesChecked}
 use Rattle.tso_client.specs.declared.error.CheckError.{CheckError}
 use Rattle.tso_client.specs.declared.error.CheckError.TheVariants as errors
@@ -33,12 +32,11 @@ use Rattle.tso_foot.specs.Narrower.{IsNarrower, IsNarrowerThanClosed}
 use Rattle.tso_foot.specs.declared.table.ArrayTable.{ArrayTable}
 use Rattle.tso_foot.specs.declared.table.Table.{Table}
 use Rattle.tso_foot.specs.declared.table.Table.TheVariants.{Arrays, Intervals}
-use Rattle.tso_indep.specs.Reasons.{holds, is_far, is_reason, is_reason_if, kind_in}
+use Rattle.tso_indep.specs.Reasons.{is_far, is_reason, is_reason_if, kind_in}
 use Rattle.tso_indep.specs.declared.reason.Reason.{Reason}
 use Rattle.tso_indep.specs.declared.reason.Reason.TheVariants as reasons
 use Rattle.tso_rec.specs.Conditions.{HaveReasons}
 use Rattle.tso_judge.specs.Valid.{IsValidCertificate, IsValidRecord, IsValidTree}
-use Rattle.tso_judge.specs.declared.code.Code.{Code}
 use Rattle.tso_prog.specs.declared.client.Client.{Client}
 use Rattle.tso_judge.proofs.Tables.{table_fits}
 use Rattle.tso_rec.specs.declared.record.End.{End}

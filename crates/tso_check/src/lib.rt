@@ -2,6 +2,7 @@
 #![tactic(auto)]
 
 mod deciding;
+mod evenly;
 mod halved;
 mod halves;
 mod judging;

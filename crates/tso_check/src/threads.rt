@@ -3,11 +3,12 @@
 ghost use Rattle.std.specs.Prelude.{IfOk};
 ghost use Rattle.tso_check.specs.Spans.{IsSpanJudged};
 
+use crate::evenly::run_evenly;
 use crate::judging::{Bad, Notice, Part};
 use std::alloc::AllocError;
 use std::sync::Wait;
 use std::thread::Threads;
-use tso_cert::{Task, Watch, run_by};
+use tso_cert::{Task, Watch};
 
 /// Tells a watch of each record.
 #[derive(Drop)]
@@ -64,8 +65,8 @@ impl<P: Part> Task for Judging<P> {
     }
 }
 
-/// The first record of a part that is not valid, by so many workers (`run_by`), who share a part by the halves of its forks. What is
-/// found in the left half stands, and only where that is nothing, what is found in the right one.
+/// The first record of a part that is not valid, by so many workers, who share a part by the halves of its forks, each a part of each
+/// quarter. What is found in the left half stands, and only where that is nothing, what is found in the right one.
 ///
 /// Errors: where a growth was refused.
 pub fn judge_with<R: Threads + Sync, P: Part + Sync + Drop>(
@@ -76,5 +77,5 @@ pub fn judge_with<R: Threads + Sync, P: Part + Sync + Drop>(
     requires ready { P.is_ready part }
     ensures { IfOk result (IsSpanJudged (P.span part)) }
 {
-    run_by(rt, &Judging { part }, workers)
+    run_evenly(rt, &Judging { part }, workers)
 }

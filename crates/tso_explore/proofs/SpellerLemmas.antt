@@ -1,7 +1,7 @@
 -- The spelling of a kept state, from those of its parts.
-use Rattle.std.proofs.Common.{◌≡◌, ◌∙◌, ℕ, List, [], ◌∷◌, ◌++◌, length, map, Option, Some, None, slice_get, refl, ap, append_assoc}
-use Rattle.std.proofs.lemmas.List.{length-map}
-use Rattle.std.proofs.lemmas.Option.{slice_get-map}
+use Rattle.std.proofs.Common.{◌≡◌, ◌∙◌, ℕ, ◌+◌, List, [], ◌∷◌, ◌++◌, length, map, take, Option, Some, None, slice_get, refl, sym, ap, append_assoc}
+use Rattle.std.proofs.lemmas.List.{length-map, take_more}
+use Rattle.std.proofs.lemmas.Option.{get_or_from_slice_get, slice_get-map, slice_get_within}
 use Rattle.std.specs.List.{flat_map}
 use Rattle.std.specs.Prelude.{option_map}
 use Rattle.tso_code.specs.Fields.{list}
@@ -69,3 +69,9 @@ ended_behind states n end o a e first second = record {
   at = first.at;
   is = second ∙ ap (λ (w : List ℕ). w ++ ending end) first.is ∙ append_assoc o (state first.spelled) (ending end);
 }
+
+-- spellings put behind others, and one more of them
+pub one_more_put : (more before all new : List (List ℕ)) (n : ℕ) (x : List ℕ) → all ≡ before ++ take n more → slice_get more n ≡ Some x → new ≡ all ++ x ∷ [] → new ≡ before ++ take (n + 1) more
+one_more_put more before all new n x so at is =
+    let next = take_more more n x (slice_get_within more n x at) ∙ ap (λ y. take n more ++ y ∷ []) (get_or_from_slice_get more n x x at) in
+    is ∙ ap (λ l. l ++ x ∷ []) so ∙ append_assoc before (take n more) (x ∷ []) ∙ ap (λ l. before ++ l) (sym next)

@@ -108,19 +108,21 @@ fn count_of(groups: &[Seq<u32>]) -> usize {
         .fold(0usize, |count, group| count.saturating_add(group.len()))
 }
 
-// How many groups have nearly half of the states: at least one, and not all.
+// How many groups have nearest to half of the states: at least one, and not all.
 fn half_of(groups: &[Seq<u32>]) -> usize
     requires { 1 < length groups.now }
     ensures some { 0 < result }
     ensures rest { result < length groups.now }
 {
     let half = count_of(groups) / 2;
-    let mut count = 0usize;
+    let mut before = 0usize;
     for number in 1..groups.len() {
-        count = count.saturating_add(groups[number - 1].len());
+        let count = before.saturating_add(groups[number - 1].len());
         if count >= half {
-            return number;
+            let is_nearer = number > 1 && half.saturating_sub(before) < count - half;
+            return if is_nearer { number - 1 } else { number };
         }
+        before = count;
     }
     groups.len() - 1
 }

@@ -9,6 +9,8 @@ ghost use Rattle.tso_store.specs.Numbers.{values_at};
 
 use std::alloc::{AllocError, Global};
 use std::marker::Model;
+use std::thread::Threads;
+use tso_cert::{ALONE, Task, run_by};
 use tso_code::{Code, write_number};
 use tso_list::Paths;
 use tso_parts::Pool;
@@ -39,7 +41,7 @@ impl<'a> Model for Speller<'a> {
     ghost invariant = { λ s. AreSpelled s.parts.now s.keys.now s.memories s.threads s.histories };
 }
 
-// The spellings of these values.
+// The spellings of these values, by one thread.
 fn spelled_all<T: Code>(alloc: Global, values: &[T]) -> Result<Paths, AllocError>
     ensures { IfOk result (λ all. all ≡ map T.spell values.now) }
 {
@@ -50,6 +52,83 @@ fn spelled_all<T: Code>(alloc: Global, values: &[T]) -> Result<Paths, AllocError
         all.push(bytes.as_slice())?;
     }
     Ok(all)
+}
+
+// Puts these spellings at the end.
+fn put_all(more: &Paths, all: &mut Paths) -> Result<(), AllocError>
+    ensures { OnOk result (all.new ≡ all.old ++ more.now) }
+{
+    for number in 0..more.len() {
+        let Some(bytes) = more.get(number) else {
+            unreachable!()
+        };
+        all.push(bytes)?;
+    }
+    Ok(())
+}
+
+// Values that are to be spelled.
+#[derive(Drop)]
+struct Unwritten<'a, T: Code> {
+    alloc: Global,
+    values: &'a [T],
+}
+
+impl<'a, T: Code> Task for Unwritten<'a, T> {
+    ghost use Rattle.std.specs.Prelude.{◌≡◌, ◌++◌, map};
+
+    type Output = Paths;
+
+    ghost is_ready = { λ p. Unit {0} };
+
+    ghost is_output = { λ p all. all ≡ map T.spell p.values.now };
+
+    ghost are_halves = { λ p left right. p.values.now ≡ left.values.now ++ right.values.now };
+
+    fn run(&self) -> Result<Paths, AllocError> {
+        spelled_all(self.alloc, self.values)
+    }
+
+    fn halves(&self) -> Option<(Self, Self)> {
+        let count = self.values.len();
+        if count <= ALONE {
+            return None;
+        }
+        let (low, high) = self.values.split_at(count / 2);
+        let left = Unwritten {
+            alloc: self.alloc,
+            values: low,
+        };
+        let right = Unwritten {
+            alloc: self.alloc,
+            values: high,
+        };
+        Some((left, right))
+    }
+
+    fn joined(
+        &self,
+        _left: &Self,
+        _right: &Self,
+        first: Paths,
+        second: Paths,
+    ) -> Result<Paths, AllocError> {
+        let mut all = first;
+        put_all(&second, &mut all)?;
+        Ok(all)
+    }
+}
+
+// The spellings of these values, by so many workers.
+fn spelled_by<R: Threads + Sync, T: Code + Sync>(
+    rt: &R,
+    alloc: Global,
+    values: &[T],
+    workers: u64,
+) -> Result<Paths, AllocError>
+    ensures { IfOk result (λ all. all ≡ map T.spell values.now) }
+{
+    run_by(rt, &Unwritten { alloc, values }, workers)
 }
 
 // Puts the spelling with this number at the end, if there are so many.
@@ -105,24 +184,35 @@ fn put_list(spelled: &Paths, numbers: &[u32], out: &mut Vec<u8>) -> Result<(), A
 }
 
 impl<'a> Speller<'a> {
-    /// Of the states of a store.
+    /// Of the states of a store, whose parts so many workers spell.
     ///
     /// Errors: where a growth was refused.
-    pub fn new(alloc: Global, store: &'a Store<'_>) -> Result<Self, AllocError>
+    pub fn new<R: Threads + Sync>(
+        rt: &R,
+        alloc: Global,
+        store: &'a Store<'_>,
+        workers: u64,
+    ) -> Result<Self, AllocError>
         ensures { IfOk result (λ s. s ≡ store.now.states) }
     {
         let (parts, keys) = store.keyed_parts();
-        Speller::of_parts(alloc, parts, keys)
+        Speller::of_parts(rt, alloc, parts, keys, workers)
     }
 
     // Of the states of these keys.
-    fn of_parts(alloc: Global, parts: &'a Parts, keys: &'a Pool<Key>) -> Result<Self, AllocError>
+    fn of_parts<R: Threads + Sync>(
+        rt: &R,
+        alloc: Global,
+        parts: &'a Parts,
+        keys: &'a Pool<Key>,
+        workers: u64,
+    ) -> Result<Self, AllocError>
         requires kept { (c : ClientValue) × AreKept c parts.now keys.now }
         ensures { IfOk result (λ s. s ≡ states_at parts.now keys.now) }
     {
-        let memories = spelled_all(alloc, parts.memories.values())?;
-        let threads = spelled_all(alloc, parts.threads.values())?;
-        let histories = spelled_all(alloc, parts.histories.values())?;
+        let memories = spelled_by(rt, alloc, parts.memories.values(), workers)?;
+        let threads = spelled_by(rt, alloc, parts.threads.values(), workers)?;
+        let histories = spelled_by(rt, alloc, parts.histories.values(), workers)?;
         Ok(Speller {
             parts,
             keys,

@@ -169,7 +169,7 @@ fn put_worked<R: Threads + Sync, W: Write>(
     ensures err { OnErr result (IsPutInPart (uncut checked.now.client worked.now.table worked.now.store.states numbers.now) (W.contents out.old) (W.contents out.new)) }
 {
     worked.store.states_differ();
-    let speller = Speller::new(alloc, &worked.store)?;
+    let speller = Speller::new(rt, alloc, &worked.store, workers.count())?;
     let whole = Unspelled {
         alloc,
         checked,

@@ -9,7 +9,7 @@ use Rattle.tso_prog.specs.declared.client.Client.{Client}
 use Rattle.tso_state.specs.declared.state.State.{State}
 use Rattle.tso_store.specs.Gathering.{AreGathered, AreThere, moved_from, no_state, picked}
 use Rattle.tso_store.specs.Keys.{AreKept, Grows, IsKept, IsKeyOf, state_at, states_at}
-use Rattle.tso_store.specs.Moving.{AreNumbersIn, moved_key}
+use Rattle.tso_store.specs.Moving.{ArePartNumbersIn, moved_key}
 use Rattle.tso_store.specs.declared.key.Key.{Key}
 use Rattle.tso_store.specs.declared.key.TheConstants.{NO_KEY}
 use Rattle.tso_store.specs.declared.moved.PartNumbers.{PartNumbers}
@@ -33,7 +33,7 @@ pub gathered_stay : (c : Client) (old new : Parts) (ks : List Key) → AreGather
 gathered_stay c old new ks are grows = states_stay c old new ks grows (grows.small are.small) are.kept
 
 -- what is known after the parts have come
-pub gathering_move : (c d : Client) (old new others : Parts) (ks ls : List Key) (r : PartNumbers) → AreGathered c old ks → AreKept d others ls → d ≡ c → Grows old new → AreNumbersIn others new r → length others.threads < 2 ^ 32
+pub gathering_move : (c d : Client) (old new others : Parts) (ks ls : List Key) (r : PartNumbers) → AreGathered c old ks → AreKept d others ls → d ≡ c → Grows old new → ArePartNumbersIn others new r → length others.threads < 2 ^ 32
     → IsMove c old new others ks ls r
 gathering_move c d old new others ks ls r are kept same grows numbers few =
     let P : Client → Type 0 = λ e. AreKept e others ls in
@@ -76,7 +76,7 @@ module _ (c : Client) (old new others : Parts) (ks ls : List Key) (r : PartNumbe
 
 -- ---- those of others
 
-module _ (c : Client) (new others : Parts) (r : PartNumbers) (small : length new.threads < 2 ^ 32) (few : length others.threads < 2 ^ 32) (numbers : AreNumbersIn others new r) where
+module _ (c : Client) (new others : Parts) (r : PartNumbers) (small : length new.threads < 2 ^ 32) (few : length others.threads < 2 ^ 32) (numbers : ArePartNumbersIn others new r) where
   all_kept : (ls : List Key) → AreKept c others ls → AreKept c new (map (moved_key r) ls)
   all_kept [] also = tt
   all_kept (l ∷ ls) also = (kept_of c new (moved_key r l) (state_at others l) small (key_moved others new r l (state_at others l) numbers few also.0.key) also.0.fits, all_kept ls also.1)
@@ -88,7 +88,7 @@ module _ (c : Client) (new others : Parts) (r : PartNumbers) (small : length new
       let b = all_states ls also.1 in
       λ i. a i ∷ b i
 
-module _ (c d : Client) (old new others : Parts) (ks ls after : List Key) (r : PartNumbers) (are : AreGathered c old ks) (also : AreGathered d others ls) (same : d ≡ c) (grows : Grows old new) (numbers : AreNumbersIn others new r) where
+module _ (c d : Client) (old new others : Parts) (ks ls after : List Key) (r : PartNumbers) (are : AreGathered c old ks) (also : AreGathered d others ls) (same : d ≡ c) (grows : Grows old new) (numbers : ArePartNumbersIn others new r) where
   abbrev own : AreKept c others ls
   own = let P : Client → Type 0 = λ e. AreKept e others ls in subst P same also.kept
 

@@ -1,6 +1,7 @@
 pub mod Rows
 pub mod Lists
 pub mod Recalls
+pub mod Procedures
 pub mod Performed
 pub mod Alone
 pub mod Sheeted

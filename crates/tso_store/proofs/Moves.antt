@@ -9,15 +9,16 @@ use Rattle.tso_parts.proofs.Marked.{found_or_not, of_longer}
 use Rattle.tso_prog.specs.declared.client.Client.{Client}
 use Rattle.tso_state.specs.declared.state.State.{State}
 use Rattle.tso_store.specs.Keys.{AreKept, Grows, IsKeyOf, IsKept, state_at, states_at}
-use Rattle.tso_store.specs.Moving.{AreNumbersIn, moved_number, moved_at, moved_key}
+use Rattle.tso_store.specs.Moving.{ArePartNumbersIn, moved_number, moved_at, moved_key}
 use Rattle.tso_store.specs.Numbers.{AreNumbersOf}
 use Rattle.tso_store.specs.Sheets.{IsSheet}
 use Rattle.tso_store.specs.Unions.{IsGrownBy, IsThere, IsUnion, IsUnionBelow, IsWithinUnion}
 use Rattle.tso_store.specs.declared.key.Key.{Key}
 use Rattle.tso_store.specs.declared.known.Known.{Known}
+use Rattle.tso_store.specs.declared.running.Running.{Running}
 use Rattle.tso_store.specs.declared.moved.PartNumbers.{PartNumbers}
 use Rattle.tso_store.specs.declared.parts.Parts.{Parts}
-use Rattle.tso_store.proofs.Closing.{still_known}
+use Rattle.tso_store.proofs.Closing.{still_known, still_running}
 use Rattle.tso_store.proofs.Rows.{got, more_numbers}
 use Rattle.tso_store.proofs.Sheeted.{found_state, kept_at, kept_of, kept_stay, key_more, key_state, state_got, state_key, states_stay, there_key}
 
@@ -78,7 +79,7 @@ five ts (a ∷ b ∷ c ∷ d ∷ []) e = absurd (omega (arith, e))
 five ts (a ∷ b ∷ c ∷ d ∷ f ∷ []) e = refl
 five ts (a ∷ b ∷ c ∷ d ∷ f ∷ g ∷ ns) e = absurd (omega (arith, e))
 
-pub key_moved : (others parts : Parts) (r : PartNumbers) (k : Key) (s : State) → AreNumbersIn others parts r → length others.threads < 2 ^ 32 → IsKeyOf others k s → IsKeyOf parts (moved_key r k) s
+pub key_moved : (others parts : Parts) (r : PartNumbers) (k : Key) (s : State) → ArePartNumbersIn others parts r → length others.threads < 2 ^ 32 → IsKeyOf others k s → IsKeyOf parts (moved_key r k) s
 key_moved others parts r k s are small is =
     let row = moved_row parts.threads others.threads r.threads k.threads s.threads are.threads (omega (arith, small, are.wide)) is.threads in
     let P : List ℕ → Type 0 = λ ns. AreNumbersOf parts.threads ns s.threads in
@@ -203,10 +204,10 @@ pub record IsMove (c : Client) (old new others : Parts) (ks ls : List Key) (r : 
   pub few : length others.threads < 2 ^ 32
   pub kept : AreKept c old ks
   pub also : AreKept c others ls
-  pub numbers : AreNumbersIn others new r
+  pub numbers : ArePartNumbersIn others new r
 
 -- the states of keys by their new numbers
-states_moved : (c : Client) (others new : Parts) (r : PartNumbers) (ks : List Key) → AreNumbersIn others new r → length others.threads < 2 ^ 32 → length new.threads < 2 ^ 32 → AreKept c others ks → states_at new (map (moved_key r) ks) ≡ states_at others ks
+states_moved : (c : Client) (others new : Parts) (r : PartNumbers) (ks : List Key) → ArePartNumbersIn others new r → length others.threads < 2 ^ 32 → length new.threads < 2 ^ 32 → AreKept c others ks → states_at new (map (moved_key r) ks) ≡ states_at others ks
 states_moved c others new r [] are few small all = refl
 states_moved c others new r (k ∷ ks) are few small all =
     let a = key_state new (moved_key r k) (state_at others k) small (key_moved others new r k (state_at others k) are few all.0.key) in
@@ -277,17 +278,17 @@ module _ (c : Client) (old new others : Parts) (ks ls after : List Key) (r : Par
           (h.0, found_state new after h.0 (moved_key r t.0) s move.small (key_moved others new r t.0 s move.numbers move.few t.2) h.1)
 
 -- what is known after the parts have come
-pub move_of : (c d : Client) (old new others : Parts) (ks ls : List Key) (r : PartNumbers) (ds es : List Known) → IsSheet c old ks ds → IsSheet d others ls es → d ≡ c → Grows old new → AreNumbersIn others new r → IsMove c old new others ks ls r
-move_of c d old new others ks ls r ds es sheet other same grows numbers =
+pub move_of : (c d : Client) (old new others : Parts) (ks ls : List Key) (r : PartNumbers) (ds es : List Known) (rs ts : List Running) → IsSheet c old ks ds rs → IsSheet d others ls es ts → d ≡ c → Grows old new → ArePartNumbersIn others new r → IsMove c old new others ks ls r
+move_of c d old new others ks ls r ds es rs ts sheet other same grows numbers =
     let P : Client → Type 0 = λ e. AreKept e others ls in
     record { grows = grows; small = grows.small sheet.small; few = other.small; kept = sheet.kept; also = subst P same other.kept; numbers = numbers }
 
-pub sheet_moved : (c : Client) (old new others : Parts) (ks ls after : List Key) (r : PartNumbers) (ds : List Known) → IsSheet c old ks ds → IsMove c old new others ks ls r → IsWithinUnion ks (map (moved_key r) ls) after → IsSheet c new after ds
-sheet_moved c old new others ks ls after r ds sheet move within =
-    record { kept = kept_after c old new others ks ls after r move within; small = move.small; recalls = still_known c old new ds move.grows sheet.recalls }
+pub sheet_moved : (c : Client) (old new others : Parts) (ks ls after : List Key) (r : PartNumbers) (ds : List Known) (rs : List Running) → IsSheet c old ks ds rs → IsMove c old new others ks ls r → IsWithinUnion ks (map (moved_key r) ls) after → IsSheet c new after ds rs
+sheet_moved c old new others ks ls after r ds rs sheet move within =
+    record { kept = kept_after c old new others ks ls after r move within; small = move.small; recalls = still_known c old new ds move.grows sheet.recalls; running = still_running old new rs move.grows sheet.running }
 
 -- where only parts have come
-pub states_same : (c : Client) (old new : Parts) (ks : List Key) (ds : List Known) (others : List State) → IsSheet c old ks ds → Grows old new → IsWithinUnion (states_at old ks) others (states_at new ks)
-states_same c old new ks ds others sheet grows =
+pub states_same : (c : Client) (old new : Parts) (ks : List Key) (ds : List Known) (rs : List Running) (others : List State) → IsSheet c old ks ds rs → Grows old new → IsWithinUnion (states_at old ks) others (states_at new ks)
+states_same c old new ks ds rs others sheet grows =
     let P : List State → Type 0 = λ ss. IsWithinUnion (states_at old ks) others ss in
     subst P (sym (states_stay c old new ks grows (grows.small sheet.small) sheet.kept)) (within_none (states_at old ks) others)

@@ -1,5 +1,5 @@
 -- What is known stays known.
-use Rattle.std.proofs.Common.{◌≡◌, ◌⊎◌, inl, inr, ℕ, zero, suc, List, [], ◌∷◌, ◌++◌, Option, Some, None, refl, sym, slice_get, slice_set}
+use Rattle.std.proofs.Common.{◌≡◌, ◌⊎◌, inl, inr, ℕ, zero, suc, List, [], ◌∷◌, ◌++◌, length, Option, Some, None, refl, sym, slice_get, slice_set}
 use Rattle.std.specs.Prelude.{IfSome}
 use Rattle.tso_compact.specs.declared.motion.Motion.{Motion}
 use Rattle.tso_compact.specs.declared.motion.Motion.TheVariants as the
@@ -12,20 +12,15 @@ use Rattle.tso_state.specs.declared.state.Thread.{Thread}
 use Rattle.tso_store.specs.declared.known.Known.{Known}
 use Rattle.tso_store.specs.declared.known.Run.{Run}
 use Rattle.tso_store.specs.declared.known.Run.TheVariants as runs
+use Rattle.tso_store.proofs.Lists.{at_end}
 use Rattle.tso_store.specs.Remembered.{AreKnown, FitsAt, HasNext, IsKnown, IsNextMotion, IsOwn, IsOwnMotion, IsRun, IsRunKnown, IsDrained, IsLeft, with_run}
 
 nothing_known : (c : Client) (ts : List Thread) (n : ℕ) → IsKnown c ts n (record { push = runs.Unknown; pop = runs.Unknown; drained = None })
 nothing_known c ts n = record { push = tt; pop = tt; drained = tt }
 
-at_end : (ds : List Known) (e : Known) (n : ℕ) (d : Known) → slice_get (ds ++ e ∷ []) n ≡ Some d → (slice_get ds n ≡ Some d) ⊎ (d ≡ e)
-at_end [] e zero d h = let k : e ≡ d = cc in inr (sym k)
-at_end [] e (suc n) d h = absurd (let k : None ≡ Some d = h in cc)
-at_end (x ∷ ds) e zero d h = inl h
-at_end (x ∷ ds) e (suc n) d h = at_end ds e n d h
-
-known_end : (c : Client) (ts : List Thread) (ds : List Known) (n : ℕ) (d e : Known) → AreKnown c ts ds → IsKnown c ts n e → (slice_get ds n ≡ Some d) ⊎ (d ≡ e) → IsKnown c ts n d
+known_end : (c : Client) (ts : List Thread) (ds : List Known) (n : ℕ) (d e : Known) → AreKnown c ts ds → IsKnown c ts n e → (slice_get ds n ≡ Some d) ⊎ ((n ≡ length ds) × (d ≡ e)) → IsKnown c ts n d
 known_end c ts ds n d e all one (inl h) = all n d h
-known_end c ts ds n d e all one (inr h) = rw h one
+known_end c ts ds n d e all one (inr h) = rw h.1 one
 
 pub known_more : (c : Client) (ts : List Thread) (ds : List Known) → AreKnown c ts ds → AreKnown c ts (ds ++ record { push = runs.Unknown; pop = runs.Unknown; drained = None } ∷ [])
 known_more c ts ds all n d h = known_end c ts ds n d _ all (nothing_known c ts n) (at_end ds _ n d h)

@@ -1,6 +1,7 @@
 pub mod Numbers
 pub mod Keys
 pub mod Remembered
+pub mod Running
 pub mod Sheets
 pub mod Stepping
 pub mod Seeking

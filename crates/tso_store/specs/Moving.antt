@@ -22,7 +22,7 @@ moved_key r k = record {
 }
 
 -- the new numbers are those of the same parts
-pub record AreNumbersIn (others parts : Parts) (r : PartNumbers) : Type 0 where
+pub record ArePartNumbersIn (others parts : Parts) (r : PartNumbers) : Type 0 where
   pub memories : AreNumbersOf parts.memories r.memories others.memories
   pub histories : AreNumbersOf parts.histories r.histories others.histories
   pub threads : AreNumbersOf parts.threads r.threads others.threads

@@ -9,11 +9,13 @@ use Rattle.tso_state.specs.declared.actor.Actor.{Actor}
 use Rattle.tso_state.specs.declared.state.State.{State}
 use Rattle.tso_store.specs.Keys.{AreKept}
 use Rattle.tso_store.specs.Remembered.{AreKnown}
+use Rattle.tso_store.specs.Running.{AreRunning}
 use Rattle.tso_store.specs.declared.fault.AddError.{AddError}
 use Rattle.tso_store.specs.declared.fault.AddError.TheVariants as errors
 use Rattle.tso_store.specs.declared.key.Key.{Key}
 use Rattle.tso_store.specs.declared.known.Known.{Known}
 use Rattle.tso_store.specs.declared.parts.Parts.{Parts}
+use Rattle.tso_store.specs.declared.running.Running.{Running}
 use Rattle.tso_store.specs.declared.sought.Found.{Found}
 use Rattle.tso_store.specs.declared.sought.Found.TheVariants.{Disabled, Absent, At}
 
@@ -24,10 +26,11 @@ pub record Sheet : Type 0 where
   -- how many states and parts are kept in all
   pub kept : ℕ
 
-pub record IsSheet (c : Client) (parts : Parts) (keys : List Key) (ds : List Known) : Type 0 where
+pub record IsSheet (c : Client) (parts : Parts) (keys : List Key) (ds : List Known) (rs : List Running) : Type 0 where
   pub kept : AreKept c parts keys
   pub small : length parts.threads < 2 ^ 32
   pub recalls : AreKnown c parts.threads ds
+  pub running : AreRunning parts.histories rs
 
 -- why the state is not kept whose part or key is refused
 abbrev pub error_of : Refused → AddError

@@ -16,6 +16,7 @@ mod parts;
 mod rank_rows;
 mod ranking;
 mod ranks;
+mod running;
 mod sought;
 mod standings;
 mod stepped;

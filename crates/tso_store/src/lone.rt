@@ -8,11 +8,13 @@ ghost use Rattle.tso_state.specs.declared.state.Thread.{Thread as ThreadValue};
 ghost use Rattle.tso_store.specs.Keys.{IsKept, state_at};
 ghost use Rattle.tso_store.specs.Lone.{HasNoLoneCore, IsFirstLoneCore, is_running_if, lone_core, lone_of};
 ghost use Rattle.tso_store.specs.Remembered.{AreKnown};
+ghost use Rattle.tso_store.specs.Running.{AreRunning};
 
 use crate::key::{Key, WIDTH};
 use crate::known::{Known, Run, run_of};
 use crate::parts::Parts;
-use crate::stepped::{own_number, procedure_at};
+use crate::running::{Running, procedure_at};
+use crate::stepped::own_number;
 use crate::view::View;
 use tso_compact::{Motion, StepKind, kind};
 use tso_flow::Checked;
@@ -93,19 +95,21 @@ fn lone_core(
     checked: &Checked,
     parts: &Parts,
     known: &Seq<Known>,
+    running: &Seq<Running>,
     key: &Key,
     thread: usize,
 ) -> Option<StepKind>
     requires kept { IsKept checked.now.client parts.now key.now }
     requires small { length parts.now.threads < 2 ^ 32 }
     requires known { AreKnown checked.now.client parts.now.threads known.now }
+    requires running { AreRunning parts.now.histories running.now }
     ensures { result ≡ lone_core checked.now.client (state_at parts.now key.now) thread }
 {
     let own = own_number(key, thread)?;
     if is_resting(&parts.threads, known, own) {
         return None;
     }
-    let procedure = procedure_at(&parts.histories, key.history, thread);
+    let procedure = procedure_at(&parts.histories, running, key.history, thread);
     match run_of(&checked.client, &parts.threads, known, procedure, own) {
         Run::Leaves(_) => Some(StepKind::Local),
         Run::Does(motion) => lone_motion(motion),
@@ -118,15 +122,22 @@ fn lone_core(
 
 /// The lowest thread of a kept state whose core's step may go first alone, if there is one. What is remembered of threads' next
 /// steps tells it mostly.
-pub fn lone_at(checked: &Checked, parts: &Parts, known: &Seq<Known>, key: &Key) -> Option<Lone>
+pub fn lone_at(
+    checked: &Checked,
+    parts: &Parts,
+    known: &Seq<Known>,
+    running: &Seq<Running>,
+    key: &Key,
+) -> Option<Lone>
     requires kept { IsKept checked.now.client parts.now key.now }
     requires small { length parts.now.threads < 2 ^ 32 }
     requires known { AreKnown checked.now.client parts.now.threads known.now }
+    requires running { AreRunning parts.now.histories running.now }
     ensures first { MatchOption result (HasNoLoneCore checked.now.client (state_at parts.now key.now)) (IsFirstLoneCore checked.now.client (state_at parts.now key.now)) }
     ensures few { IfSome result (λ l. l.thread < 5) }
 {
     for thread in 0..WIDTH {
-        if let Some(kind) = lone_core(checked, parts, known, key, thread) {
+        if let Some(kind) = lone_core(checked, parts, known, running, key, thread) {
             return Some(Lone { thread, kind });
         }
     }

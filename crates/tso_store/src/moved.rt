@@ -3,7 +3,7 @@ ghost use Rattle.std.specs.Prelude.{◌≡◌, ◌+◌, ◌<◌, ◌≤◌, ◌^
 ghost use Rattle.tso_parts.specs.Numbers.{Extends};
 ghost use Rattle.tso_parts.specs.declared.refused.Refused.TheVariants as reasons;
 ghost use Rattle.tso_store.specs.Keys.{Grows, part_count};
-ghost use Rattle.tso_store.specs.Moving.{AreNumbersIn, moved_number, moved_at, moved_key};
+ghost use Rattle.tso_store.specs.Moving.{ArePartNumbersIn, moved_number, moved_at, moved_key};
 ghost use Rattle.tso_store.specs.Numbers.{AreNumbersOf};
 ghost use Rattle.tso_store.specs.Unions.{IsGrownBy, IsThere, IsUnion, IsWithinUnion};
 
@@ -67,7 +67,7 @@ fn add_copies<T: Exact + Hash + Clone + Drop>(
 
 /// The numbers of the parts of another store, which are kept where they are new.
 pub fn add_parts(alloc: Global, parts: &mut Parts, others: &Parts) -> Result<PartNumbers, Refused>
-    ensures numbers { IfOk result (AreNumbersIn others.now parts.new) }
+    ensures numbers { IfOk result (ArePartNumbersIn others.now parts.new) }
     ensures grows { Grows parts.old parts.new }
     ensures more { part_count parts.new ≤ part_count parts.old + part_count others.now }
     ensures full { result ≡ Err reasons.Full → 4294967295 ≤ part_count parts.new }
@@ -84,7 +84,7 @@ pub fn add_parts(alloc: Global, parts: &mut Parts, others: &Parts) -> Result<Par
 
 /// The numbers of the parts of others, of which those that are new are moved here.
 pub fn take_parts(alloc: Global, parts: &mut Parts, others: Parts) -> Result<PartNumbers, Refused>
-    ensures numbers { IfOk result (AreNumbersIn others parts.new) }
+    ensures numbers { IfOk result (ArePartNumbersIn others parts.new) }
     ensures grows { Grows parts.old parts.new }
     ensures more { part_count parts.new ≤ part_count parts.old + part_count others }
     ensures full { result ≡ Err reasons.Full → 4294967295 ≤ part_count parts.new }

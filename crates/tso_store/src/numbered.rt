@@ -18,6 +18,7 @@ use crate::moved::{add_keys, add_parts};
 use crate::parts::Parts;
 use crate::ranking::{compare_at, key_at, key_or_none};
 use crate::ranks::ranks_of;
+use crate::running::{Running, learn_running};
 use crate::sought::{Found, Sought, find_step};
 use crate::standings::Standings;
 use crate::stepped::step_key;
@@ -39,6 +40,7 @@ pub struct Store<'a> {
     parts: Parts,
     keys: Pool<Key>,
     known: Seq<Known>,
+    running: Seq<Running>,
 }
 
 impl<'a> Model for Store<'a> {
@@ -50,7 +52,7 @@ impl<'a> Model for Store<'a> {
 
     ghost view = { λ s. record { client = s.checked.now.client; states = states_at s.parts s.keys; kept = part_count s.parts + length s.keys } };
 
-    ghost invariant = { λ s. IsSheet s.checked.now.client s.parts s.keys s.known };
+    ghost invariant = { λ s. IsSheet s.checked.now.client s.parts s.keys s.known s.running };
 }
 
 impl<'a> Store<'a> {
@@ -66,6 +68,7 @@ impl<'a> Store<'a> {
             parts: Parts::new(alloc, seed),
             keys: Pool::new(alloc, seed),
             known: Seq::new(alloc),
+            running: Seq::new(alloc),
         }
     }
 
@@ -81,6 +84,7 @@ impl<'a> Store<'a> {
             parts,
             keys,
             known: Seq::new(alloc),
+            running: Seq::new(alloc),
         }
     }
 
@@ -108,7 +112,7 @@ impl<'a> Store<'a> {
         ensures { MatchOption result (HasNoLoneAt self.now.client self.now.states number) (IsLoneAt self.now.client self.now.states number) }
     {
         match self.keys.get(number) {
-            Some(key) => lone_at(self.checked, &self.parts, &self.known, key),
+            Some(key) => lone_at(self.checked, &self.parts, &self.known, &self.running, key),
             None => None,
         }
     }
@@ -259,12 +263,14 @@ impl<'a> Store<'a> {
             &self.checked.client,
             &mut self.parts,
             &mut self.known,
+            &self.running,
             &key,
             actor,
         )?
         else {
             return Ok(None);
         };
+        learn_running(&self.parts.histories, &mut self.running)?;
         let result = self.keys.add(next)?;
         Ok(Some(result))
     }
@@ -281,6 +287,18 @@ impl<'a> Store<'a> {
         learn_runs(&self.checked.client, &self.parts.threads, &mut self.known)
     }
 
+    /// Remembers which calls the threads of kept states are in, so that `lone` looks at no history, in a store that no `successor`
+    /// filled. The states stay.
+    ///
+    /// Errors: where a growth was refused.
+    pub fn learn_running(&mut self) -> Result<(), AllocError>
+        ensures states { self.new.states ≡ self.old.states }
+        ensures kept { self.new.kept ≡ self.old.kept }
+        ensures client { self.new.client ≡ self.old.client }
+    {
+        learn_running(&self.parts.histories, &mut self.running)
+    }
+
     /// The number of the state after the actor's step from state `number`, if there is such a step and the state is kept. It
     /// changes nothing and takes no memory, so that many threads may ask at once.
     pub fn find_successor(&self, number: u32, actor: Actor) -> Found
@@ -292,7 +310,14 @@ impl<'a> Store<'a> {
         self.parts.threads.is_numbered();
         self.parts.memories.is_numbered();
         self.parts.histories.is_numbered();
-        match find_step(&self.checked.client, &self.parts, &self.known, &key, actor) {
+        match find_step(
+            &self.checked.client,
+            &self.parts,
+            &self.known,
+            &self.running,
+            &key,
+            actor,
+        ) {
             Sought::Disabled => Found::Disabled,
             Sought::Absent => Found::Absent,
             Sought::At(next) => match self.keys.find(&next) {
@@ -311,7 +336,7 @@ impl<'a> Store<'a> {
     }
 
     /// The rows of ranks of all states, which are ordered as these. Each memory, thread and history is ranked among its kind, by
-    /// one thread, or, where there are to be several workers, by as many as the machine has processors.
+    /// one thread, or, where there are to be several workers, by all processors.
     ///
     /// Errors: where a growth was refused.
     pub fn standings<R: Threads + Sync>(
@@ -353,8 +378,10 @@ impl<'a> Store<'a> {
             parts,
             keys,
             known,
+            running,
         } = self;
         drop(known);
+        drop(running);
         (parts, keys)
     }
 

@@ -3,6 +3,7 @@ ghost use Rattle.std.specs.Prelude.{◌≡◌, ◌<◌, ◌^◌, length, Some, I
 ghost use Rattle.tso_state.specs.Actors.{thread_of};
 ghost use Rattle.tso_state.specs.declared.actor.Actor.TheVariants as actors;
 ghost use Rattle.tso_store.specs.Keys.{IsKept, state_at};
+ghost use Rattle.tso_store.specs.Running.{AreRunning};
 ghost use Rattle.tso_store.specs.Remembered.{AreKnown, FitsAt};
 ghost use Rattle.tso_store.specs.Seeking.{IsKeySought, IsStepSought, IsThreadSought};
 ghost use Rattle.tso_store.specs.Stepping.{IsPlanned, IsStepOf};
@@ -11,7 +12,8 @@ use crate::key::Key;
 use crate::known::{Known, known_drain, known_run};
 use crate::lookup::{find_history, find_memory, find_thread};
 use crate::parts::Parts;
-use crate::stepped::{own_number, plan, procedure_at, with_thread, word_at, written_at};
+use crate::running::{Running, procedure_at};
+use crate::stepped::{own_number, plan, with_thread, word_at, written_at};
 use tso_compact::Motion;
 use tso_list::Seq;
 use tso_parts::Catalog;
@@ -97,6 +99,7 @@ fn find_by_plan(
     client: &Client,
     parts: &Parts,
     known: &Seq<Known>,
+    running: &Seq<Running>,
     key: &Key,
     actor: Actor,
     own: u32,
@@ -104,10 +107,11 @@ fn find_by_plan(
     requires kept { IsKept client.now parts.now key.now }
     requires small { length parts.now.threads < 2 ^ 32 }
     requires known { AreKnown client.now parts.now.threads known.now }
+    requires running { AreRunning parts.now.histories running.now }
     requires own { slice_get key.now.threads (thread_of actor) ≡ Some own }
     ensures { IsStepSought client.now parts.now key.now actor result }
 {
-    let Some(motion) = plan(client, parts, known, key, actor, own) else {
+    let Some(motion) = plan(client, parts, known, running, key, actor, own) else {
         return Sought::Disabled;
     };
     match find_by_motion(client, parts, known, key, actor, own, motion) {
@@ -121,6 +125,7 @@ fn find_run(
     client: &Client,
     parts: &Parts,
     known: &Seq<Known>,
+    running: &Seq<Running>,
     key: &Key,
     thread: usize,
     own: u32,
@@ -128,10 +133,11 @@ fn find_run(
     requires kept { IsKept client.now parts.now key.now }
     requires small { length parts.now.threads < 2 ^ 32 }
     requires known { AreKnown client.now parts.now.threads known.now }
+    requires running { AreRunning parts.now.histories running.now }
     requires own { slice_get key.now.threads thread ≡ Some own }
     ensures { IfSome result (IsStepOf client.now parts.now key.now (actors.Exec thread) parts.now) }
 {
-    let procedure = procedure_at(&parts.histories, key.history, thread);
+    let procedure = procedure_at(&parts.histories, running, key.history, thread);
     match known_run(client, &parts.threads, known, procedure, own) {
         Some(next) => Some(with_thread(key, thread, next)),
         None => None,
@@ -143,6 +149,7 @@ fn find_core(
     client: &Client,
     parts: &Parts,
     known: &Seq<Known>,
+    running: &Seq<Running>,
     key: &Key,
     thread: usize,
     own: u32,
@@ -150,12 +157,13 @@ fn find_core(
     requires kept { IsKept client.now parts.now key.now }
     requires small { length parts.now.threads < 2 ^ 32 }
     requires known { AreKnown client.now parts.now.threads known.now }
+    requires running { AreRunning parts.now.histories running.now }
     requires own { slice_get key.now.threads thread ≡ Some own }
     ensures { IsStepSought client.now parts.now key.now (actors.Exec thread) result }
 {
-    match find_run(client, parts, known, key, thread, own) {
+    match find_run(client, parts, known, running, key, thread, own) {
         Some(next) => Sought::At(next),
-        None => find_by_plan(client, parts, known, key, Actor::Exec(thread), own),
+        None => find_by_plan(client, parts, known, running, key, Actor::Exec(thread), own),
     }
 }
 
@@ -164,19 +172,21 @@ pub fn find_step(
     client: &Client,
     parts: &Parts,
     known: &Seq<Known>,
+    running: &Seq<Running>,
     key: &Key,
     actor: Actor,
 ) -> Sought
     requires kept { IsKept client.now parts.now key.now }
     requires small { length parts.now.threads < 2 ^ 32 }
     requires known { AreKnown client.now parts.now.threads known.now }
+    requires running { AreRunning parts.now.histories running.now }
     ensures { IsStepSought client.now parts.now key.now actor result }
 {
     let Some(own) = own_number(key, actor.thread()) else {
         return Sought::Disabled;
     };
     match actor {
-        Actor::Exec(thread) => find_core(client, parts, known, key, thread, own),
-        Actor::Drain(_) => find_by_plan(client, parts, known, key, actor, own),
+        Actor::Exec(thread) => find_core(client, parts, known, running, key, thread, own),
+        Actor::Drain(_) => find_by_plan(client, parts, known, running, key, actor, own),
     }
 }

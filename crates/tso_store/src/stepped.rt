@@ -8,23 +8,21 @@ ghost use Rattle.tso_model.specs.Steps.{word_read};
 ghost use Rattle.tso_parts.specs.Numbers.{Extends};
 ghost use Rattle.tso_parts.specs.declared.refused.Refused.TheVariants as reasons;
 ghost use Rattle.tso_state.specs.Actors.{thread_of};
-ghost use Rattle.tso_state.specs.Views.{running_procedure};
 ghost use Rattle.tso_state.specs.declared.actor.Actor.TheVariants as actors;
 ghost use Rattle.tso_state.specs.declared.state.Thread.{Thread as ThreadValue};
 ghost use Rattle.tso_store.specs.Keys.{IsKept, Grows, part_count, state_at};
 ghost use Rattle.tso_store.specs.Remembered.{AreKnown, FitsAt, IsLeft};
+ghost use Rattle.tso_store.specs.Running.{AreRunning};
 ghost use Rattle.tso_store.specs.Stepping.{IsLogged, IsPlanned, IsStepKey, IsStepOf, IsWritten, with_thread};
 
 use crate::key::Key;
 use crate::known::{Known, drain_thread, known_motion, next_thread, run_thread};
 use crate::lookup::{find_history, find_memory};
 use crate::parts::Parts;
+use crate::running::{Running, procedure_at};
 use crate::view::View;
 use std::alloc::Global;
-use tso_compact::{
-    Motion, begun_calls, history_after, memory_with, planned, running_procedure, word_read, written,
-};
-use tso_flow::ProcedureKind;
+use tso_compact::{Motion, begun_calls, history_after, memory_with, planned, word_read, written};
 use tso_hist::History;
 use tso_list::Seq;
 use tso_machine::Entry;
@@ -102,20 +100,6 @@ pub fn own_number(key: &Key, thread: usize) -> Option<u32>
     key.threads.as_slice().get(thread).copied()
 }
 
-/// The procedure that the last call of a thread runs in a kept history.
-pub fn procedure_at(histories: &Catalog<History>, number: u32, thread: usize) -> ProcedureKind
-    requires { slice_get histories.now number ≡ Some (slice_index_or histories.now number []) }
-    ensures { result ≡ running_procedure (slice_index_or (slice_index_or histories.now number []) thread []) }
-{
-    match histories.get(number) {
-        Some(history) => match history.threads().get(thread) {
-            Some(calls) => running_procedure(calls.as_slice()),
-            None => ProcedureKind::Pop,
-        },
-        None => ProcedureKind::Pop,
-    }
-}
-
 // What the actor does in a kept state, found from the state.
 fn planned_at(client: &Client, parts: &Parts, key: &Key, actor: Actor) -> Option<Motion>
     requires kept { IsKept client.now parts.now key.now }
@@ -133,6 +117,7 @@ fn known_plan(
     client: &Client,
     parts: &Parts,
     known: &Seq<Known>,
+    running: &Seq<Running>,
     key: &Key,
     thread: usize,
     own: u32,
@@ -140,10 +125,11 @@ fn known_plan(
     requires kept { IsKept client.now parts.now key.now }
     requires small { length parts.now.threads < 2 ^ 32 }
     requires known { AreKnown client.now parts.now.threads known.now }
+    requires running { AreRunning parts.now.histories running.now }
     requires own { slice_get key.now.threads thread ≡ Some own }
     ensures { IfSome result (IsPlanned client.now (state_at parts.now key.now) (actors.Exec thread)) }
 {
-    let procedure = procedure_at(&parts.histories, key.history, thread);
+    let procedure = procedure_at(&parts.histories, running, key.history, thread);
     known_motion(client, &parts.threads, known, procedure, own)
 }
 
@@ -152,6 +138,7 @@ pub fn plan(
     client: &Client,
     parts: &Parts,
     known: &Seq<Known>,
+    running: &Seq<Running>,
     key: &Key,
     actor: Actor,
     own: u32,
@@ -159,11 +146,12 @@ pub fn plan(
     requires kept { IsKept client.now parts.now key.now }
     requires small { length parts.now.threads < 2 ^ 32 }
     requires known { AreKnown client.now parts.now.threads known.now }
+    requires running { AreRunning parts.now.histories running.now }
     requires own { slice_get key.now.threads (thread_of actor) ≡ Some own }
     ensures { MatchOption result (HasStep client.now (state_at parts.now key.now) actor → ⊥) (IsPlanned client.now (state_at parts.now key.now) actor) }
 {
     match actor {
-        Actor::Exec(thread) => match known_plan(client, parts, known, key, thread, own) {
+        Actor::Exec(thread) => match known_plan(client, parts, known, running, key, thread, own) {
             Some(motion) => Some(motion),
             None => planned_at(client, parts, key, actor),
         },
@@ -265,6 +253,7 @@ fn step_by_run(
     client: &Client,
     parts: &mut Parts,
     known: &mut Seq<Known>,
+    running: &Seq<Running>,
     key: &Key,
     thread: usize,
     own: u32,
@@ -272,6 +261,7 @@ fn step_by_run(
     requires kept { IsKept client.now parts.old key.now }
     requires small { length parts.old.threads < 2 ^ 32 }
     requires known { AreKnown client.now parts.old.threads known.old }
+    requires running { AreRunning parts.old.histories running.now }
     requires own { slice_get key.now.threads thread ≡ Some own }
     ensures step { IfOk result (λ o. IfSome o (IsStepOf client.now parts.old key.now (actors.Exec thread) parts.new)) }
     ensures none { IfOk result (λ o. MatchOption o (parts.new ≡ parts.old) (λ k. Unit {0})) }
@@ -281,7 +271,7 @@ fn step_by_run(
     ensures full { result ≡ Err reasons.Full → 4294967295 ≤ part_count parts.new }
     ensures known { AreKnown client.now parts.new.threads known.new }
 {
-    let procedure = procedure_at(&parts.histories, key.history, thread);
+    let procedure = procedure_at(&parts.histories, running, key.history, thread);
     match run_thread(alloc, client, &mut parts.threads, known, procedure, own)? {
         Some(number) => Ok(Some(with_thread(key, thread, number))),
         None => Ok(None),
@@ -294,6 +284,7 @@ fn step_by_plan(
     client: &Client,
     parts: &mut Parts,
     known: &mut Seq<Known>,
+    running: &Seq<Running>,
     key: &Key,
     actor: Actor,
     own: u32,
@@ -301,6 +292,7 @@ fn step_by_plan(
     requires kept { IsKept client.now parts.old key.now }
     requires small { length parts.old.threads < 2 ^ 32 }
     requires known { AreKnown client.now parts.old.threads known.old }
+    requires running { AreRunning parts.old.histories running.now }
     requires own { slice_get key.now.threads (thread_of actor) ≡ Some own }
     ensures step { IfOk result (IsStepKey client.now parts.old key.now actor parts.new) }
     ensures err { OnErr result (HasStep client.now (state_at parts.old key.now) actor) }
@@ -309,7 +301,7 @@ fn step_by_plan(
     ensures full { result ≡ Err reasons.Full → 4294967295 ≤ part_count parts.new }
     ensures known { AreKnown client.now parts.new.threads known.new }
 {
-    let Some(motion) = plan(client, parts, known, key, actor, own) else {
+    let Some(motion) = plan(client, parts, known, running, key, actor, own) else {
         return Ok(None);
     };
     let next = step_by_motion(alloc, client, parts, known, key, actor, own, motion)?;
@@ -322,6 +314,7 @@ fn step_core(
     client: &Client,
     parts: &mut Parts,
     known: &mut Seq<Known>,
+    running: &Seq<Running>,
     key: &Key,
     thread: usize,
     own: u32,
@@ -329,6 +322,7 @@ fn step_core(
     requires kept { IsKept client.now parts.old key.now }
     requires small { length parts.old.threads < 2 ^ 32 }
     requires known { AreKnown client.now parts.old.threads known.old }
+    requires running { AreRunning parts.old.histories running.now }
     requires own { slice_get key.now.threads thread ≡ Some own }
     ensures step { IfOk result (IsStepKey client.now parts.old key.now (actors.Exec thread) parts.new) }
     ensures err { OnErr result (HasStep client.now (state_at parts.old key.now) (actors.Exec thread)) }
@@ -337,10 +331,19 @@ fn step_core(
     ensures full { result ≡ Err reasons.Full → 4294967295 ≤ part_count parts.new }
     ensures known { AreKnown client.now parts.new.threads known.new }
 {
-    if let Some(next) = step_by_run(alloc, client, parts, known, key, thread, own)? {
+    if let Some(next) = step_by_run(alloc, client, parts, known, running, key, thread, own)? {
         return Ok(Some(next));
     }
-    step_by_plan(alloc, client, parts, known, key, Actor::Exec(thread), own)
+    step_by_plan(
+        alloc,
+        client,
+        parts,
+        known,
+        running,
+        key,
+        Actor::Exec(thread),
+        own,
+    )
 }
 
 /// The key of the state after a step, if there is a step.
@@ -349,12 +352,14 @@ pub fn step_key(
     client: &Client,
     parts: &mut Parts,
     known: &mut Seq<Known>,
+    running: &Seq<Running>,
     key: &Key,
     actor: Actor,
 ) -> Result<Option<Key>, Refused>
     requires kept { IsKept client.now parts.old key.now }
     requires small { length parts.old.threads < 2 ^ 32 }
     requires known { AreKnown client.now parts.old.threads known.old }
+    requires running { AreRunning parts.old.histories running.now }
     ensures step { IfOk result (IsStepKey client.now parts.old key.now actor parts.new) }
     ensures err { OnErr result (HasStep client.now (state_at parts.old key.now) actor) }
     ensures grows { Grows parts.old parts.new }
@@ -366,7 +371,7 @@ pub fn step_key(
         return Ok(None);
     };
     match actor {
-        Actor::Exec(thread) => step_core(alloc, client, parts, known, key, thread, own),
-        Actor::Drain(_) => step_by_plan(alloc, client, parts, known, key, actor, own),
+        Actor::Exec(thread) => step_core(alloc, client, parts, known, running, key, thread, own),
+        Actor::Drain(_) => step_by_plan(alloc, client, parts, known, running, key, actor, own),
     }
 }

@@ -1,17 +1,17 @@
 use Rattle.std.proofs.Common.{ap, arith, ◌∙◌}
 use Rattle.tso_store.specs.Keys.{states_at}
-use Rattle.tso_store.proofs.Closing.{on_err, sheet_grows, sheet_added, still_known}
+use Rattle.tso_store.proofs.Closing.{on_err, sheet_stays, sheet_with}
 use Rattle.tso_store.proofs.Sheeted.{added, kept_stay, no_key, no_misfit, no_state, states_stay}
 use Rattle.tso_store.proofs.numbered.Store.add_view.Goals as goal
 
 pub invariant_of-self : goal.invariant_of-self
-invariant_of-self c = sheet_grows c.self.inside.checked.now.client c.self.inside.parts c.key_of_view.new.parts c.self.inside.keys c.self.inside.known c.self.inside.known c.self.invariant c.key_of_view.ensures.grows (still_known c.self.inside.checked.now.client c.self.inside.parts c.key_of_view.new.parts c.self.inside.known c.key_of_view.ensures.grows c.self.invariant.recalls)
+invariant_of-self c = sheet_stays c.self.inside.checked.now.client c.self.inside.parts c.key_of_view.new.parts c.self.inside.keys c.self.inside.known c.self.inside.running c.self.invariant c.key_of_view.ensures.grows
 
 pub returns-in_err-key-clause-err : goal.returns-in_err-key-clause-err
 returns-in_err-key-clause-err c = rw (← c.self.view_is) (on_err c.from_residual.result (states_stay c.self.inside.checked.now.client c.self.inside.parts c.key_of_view.new.parts c.self.inside.keys c.key_of_view.ensures.grows (c.key_of_view.ensures.grows.small c.self.invariant.small) c.self.invariant.kept))
 
 pub invariant_of-self-in_err-result : goal.invariant_of-self-in_err-result
-invariant_of-self-in_err-result c = rw c.in_err-result.ensures.err (sheet_grows c.self.inside.checked.now.client c.self.inside.parts c.key_of_view.new.parts c.self.inside.keys c.self.inside.known c.self.inside.known c.self.invariant c.key_of_view.ensures.grows (still_known c.self.inside.checked.now.client c.self.inside.parts c.key_of_view.new.parts c.self.inside.known c.key_of_view.ensures.grows c.self.invariant.recalls))
+invariant_of-self-in_err-result c = rw c.in_err-result.ensures.err (sheet_stays c.self.inside.checked.now.client c.self.inside.parts c.key_of_view.new.parts c.self.inside.keys c.self.inside.known c.self.inside.running c.self.invariant c.key_of_view.ensures.grows)
 
 pub returns-in_err-result-clause-err : goal.returns-in_err-result-clause-err
 returns-in_err-result-clause-err c = rw (← c.self.view_is) (on_err c.from_residual-in_err-result.result (ap (states_at c.key_of_view.new.parts) c.in_err-result.ensures.err ∙ states_stay c.self.inside.checked.now.client c.self.inside.parts c.key_of_view.new.parts c.self.inside.keys c.key_of_view.ensures.grows (c.key_of_view.ensures.grows.small c.self.invariant.small) c.self.invariant.kept))
@@ -19,7 +19,7 @@ returns-in_err-result-clause-err c = rw (← c.self.view_is) (on_err c.from_resi
 pub invariant_of-self-2 : goal.invariant_of-self-2
 invariant_of-self-2 c =
     let fits = c.view_fits_client.ensures.fits.0 (search (c.if-not-view_fits_client.false)) in
-    sheet_added c.self.inside.checked.now.client c.self.inside.parts c.key_of_view.new.parts c.self.inside.keys c.add.new.self c.self.inside.known c.self.inside.known c.in_ok-key.key c.args.view.now c.in_ok-result.result.1 c.self.invariant c.key_of_view.ensures.grows (still_known c.self.inside.checked.now.client c.self.inside.parts c.key_of_view.new.parts c.self.inside.known c.key_of_view.ensures.grows c.self.invariant.recalls) c.in_ok-key.ensures.key fits c.in_ok-result.ensures.kept
+    sheet_with c.self.inside.checked.now.client c.self.inside.parts c.key_of_view.new.parts c.self.inside.keys c.add.new.self c.self.inside.known c.self.inside.running c.in_ok-key.key c.args.view.now c.in_ok-result.result.1 c.self.invariant c.key_of_view.ensures.grows c.in_ok-key.ensures.key fits c.in_ok-result.ensures.kept
 
 pub returns-clause-added : goal.returns-clause-added
 returns-clause-added c = rw (← c.self.view_is) (added c.self.inside.checked.now.client c.self.inside.parts c.key_of_view.new.parts c.self.inside.keys c.add.new.self c.in_ok-key.key c.args.view.now c.in_ok-result.result.0 c.in_ok-result.result.1 c.key_of_view.ensures.grows (c.key_of_view.ensures.grows.small c.self.invariant.small) c.self.invariant.kept c.in_ok-key.ensures.key c.in_ok-result.ensures.kept c.in_ok-result.ensures.number)
