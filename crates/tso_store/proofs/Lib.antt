@@ -12,5 +12,6 @@ pub mod Ordered
 pub mod Risen
 pub mod Histories
 pub mod Ranked
+pub mod Listings
 pub mod Moves
 pub mod Gatherings

@@ -6,6 +6,7 @@ pub mod Sheets
 pub mod Stepping
 pub mod Seeking
 pub mod Orders
+pub mod Listing
 pub mod Likes
 pub mod Lone
 pub mod Marks

@@ -7,6 +7,7 @@ mod history_after;
 mod kept;
 mod key;
 mod known;
+mod listing;
 mod lone;
 mod lookup;
 mod moved;

@@ -13,6 +13,7 @@ use crate::fault::AddError;
 use crate::kept::{find_key, fits_client, key_of};
 use crate::key::Key;
 use crate::known::{Known, learn_runs};
+use crate::listing::history_ranks;
 use crate::lone::{Lone, lone_at};
 use crate::moved::{add_keys, add_parts};
 use crate::parts::Parts;
@@ -335,8 +336,8 @@ impl<'a> Store<'a> {
         compare_at(&self.parts, &self.keys, a, b)
     }
 
-    /// The rows of ranks of all states, which are ordered as these. Each memory, thread and history is ranked among its kind, by
-    /// one thread, or, where there are to be several workers, by all processors.
+    /// The rows of ranks of all states, which are ordered as these. Each memory, thread and history is ranked among its kind, histories
+    /// by the ranks of their lists of calls, by one thread, or, where there are to be several workers, by all processors.
     ///
     /// Errors: where a growth was refused.
     pub fn standings<R: Threads + Sync>(
@@ -349,7 +350,7 @@ impl<'a> Store<'a> {
     {
         let memories = ranks_of(rt, alloc, workers, &self.parts.memories)?;
         let threads = ranks_of(rt, alloc, workers, &self.parts.threads)?;
-        let histories = ranks_of(rt, alloc, workers, &self.parts.histories)?;
+        let histories = history_ranks(rt, alloc, workers, &self.parts.histories)?;
         Ok(Standings {
             keys: &self.keys,
             memories,

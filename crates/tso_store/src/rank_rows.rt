@@ -20,8 +20,8 @@ fn rank_at(ranks: &[u32], number: u32) -> u32
     ranks.get(number as usize).copied().unwrap_or(0)
 }
 
-// The rank of the number at this place.
-fn rank_of(ranks: &[u32], numbers: &[u32], place: usize) -> u32
+/// The rank of the number at this place.
+pub fn rank_of(ranks: &[u32], numbers: &[u32], place: usize) -> u32
     ensures { result ≡ rank_of ranks.now numbers.now place }
 {
     rank_at(ranks, numbers.get(place).copied().unwrap_or(0))

@@ -76,8 +76,8 @@ fn put_rank(ranks: &mut Vec<u32>, number: u32, rank: u32)
     ranks[number as usize] = rank;
 }
 
-// For each of the numbers below one a place of it in a list of them.
-fn places_in(alloc: Global, order: &[u32], count: usize) -> Result<Vec<u32>, AllocError>
+/// For each of the numbers below one a place of it in a list of them.
+pub fn places_in(alloc: Global, order: &[u32], count: usize) -> Result<Vec<u32>, AllocError>
     requires few { length order.now < 2 ^ 32 }
     requires count { count < 2 ^ 32 }
     requires below { (i n : ℕ) → slice_get order.now i ≡ Some n → n < count }
