@@ -16,7 +16,6 @@ ghost use Rattle.tso_cells.specs.Hulls.{empty_hull, rows_of};
 use crate::cert::Cert;
 use std::alloc::{AllocError, Global};
 use tso_cells::{Hull, IntervalTable, widened};
-use tso_compact::{begun_calls, running_procedure};
 use tso_flow::{Checked, ProcedureKind};
 use tso_rec::Packed;
 use tso_state::{Core, Viewed};
@@ -45,8 +44,7 @@ fn take_thread<S: Viewed>(hull: &mut Hull, state: &S, number: usize)
     ensures seen { ThreadIsSeen hull.new (S.state state.now) number }
 {
     if let Some(thread) = state.thread(number) {
-        let procedure = running_procedure(begun_calls(state, number));
-        take_core(hull, procedure, &thread.core);
+        take_core(hull, state.procedure(number), &thread.core);
     }
 }
 

@@ -128,16 +128,19 @@ fn decide_stored_with<R: Threads + Wait + Sync, N: Notice + Sync>(
     match stored_fault(alloc, checked, scanned, rises)? {
         Some(code) => Ok(rejected(code)),
         None => {
+            let forms = scanned.store.forms(alloc)?;
             let part = StoredPart {
                 alloc,
                 checked,
                 scanned,
+                forms: &forms,
                 shape: &scanned.shape,
                 start: 0,
                 notice,
             };
-            let found = judge_with(rt, part, workers.count())?;
-            Ok(verdict_of(found))
+            let found = judge_with(rt, part, workers.count());
+            drop(forms);
+            Ok(verdict_of(found?))
         }
     }
 }

@@ -7,6 +7,8 @@ ghost use Rattle.tso_check.specs.Numbered.{AreKeptFrom, IsJudgedAt, IsKeptFrom};
 ghost use Rattle.tso_choose.specs.declared.choice.Choice.{Choice as AChoice};
 ghost use Rattle.tso_judge.specs.Judging.{IsJudgedAlone};
 ghost use Rattle.tso_judge.specs.Valid.{HasInitial};
+ghost use Rattle.tso_state.specs.Fitting.{HistoryFits};
+ghost use Rattle.tso_store.specs.Forms.{AreForms};
 ghost use Rattle.tso_store.specs.Orders.{IsOrderOf};
 
 use crate::rising::is_less;
@@ -16,8 +18,8 @@ use tso_flow::Checked;
 use tso_foot::{Table, is_within};
 use tso_judge::{Code, judge_alone};
 use tso_rec::End;
-use tso_state::{Actor, initial_state};
-use tso_store::{Found, Store, View};
+use tso_state::{Actor, Viewed, initial_state};
+use tso_store::{Forms, Found, Store, View};
 
 /// Whether one state is below another.
 pub fn is_below(store: &Store<'_>, a: u32, b: u32) -> bool
@@ -85,17 +87,19 @@ fn are_successors_kept(store: &Store<'_>, number: u32, end: &End) -> bool
     }
 }
 
-// The first condition that a kept state with its end fails by itself.
+// The first condition that a kept state with its end fails by itself, where it is known whether its history fits.
 fn judge_view(
     alloc: Global,
     checked: &Checked,
     table: &Table,
     view: &View<'_>,
+    fits: bool,
     end: &End,
 ) -> Result<Option<Code>, AllocError>
+    requires { IsTrue fits ↔ HistoryFits checked.now.client view.now.history }
     ensures { IfOk result (IsJudgedAlone checked.now.client table.now view.now end.now) }
 {
-    judge_alone(alloc, checked, table, view, view.history(), end)
+    judge_alone(alloc, checked, table, view, view.history(), fits, end)
 }
 
 // Where a kept state meets those conditions, K08 and K12 are left.
@@ -119,7 +123,8 @@ fn judge_rest(
     None
 }
 
-/// The first condition that the state of this number fails with an end, if there is such a state.
+/// The first condition that the state of this number fails with an end, if there is such a state, where it is known of each state
+/// whether its history fits.
 ///
 /// Errors: where a growth was refused.
 pub fn judge_number(
@@ -127,16 +132,19 @@ pub fn judge_number(
     checked: &Checked,
     table: &Table,
     store: &Store<'_>,
+    forms: &Forms<'_>,
     number: u32,
     end: &End,
 ) -> Result<Option<Code>, AllocError>
-    requires { store.now.client ≡ checked.now.client }
+    requires client { store.now.client ≡ checked.now.client }
+    requires forms { AreForms checked.now.client store.now.states forms.now }
     ensures { IfOk result (IsJudgedAt checked.now.client table.now store.now.states number end.now) }
 {
     let Some(view) = store.view(number) else {
         return Ok(None);
     };
-    match judge_view(alloc, checked, table, &view, end)? {
+    let fits = forms.get(number);
+    match judge_view(alloc, checked, table, &view, fits, end)? {
         Some(code) => Ok(Some(code)),
         None => Ok(judge_rest(table, store, number, &view, end)),
     }

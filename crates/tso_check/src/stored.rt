@@ -4,6 +4,7 @@ ghost use Rattle.std.specs.Prelude.{◌↔◌, ◌+◌, ◌≤◌, IfOk, IsTrue}
 ghost use Rattle.tso_cert.specs.Lookup.{IsRising};
 ghost use Rattle.tso_check.specs.Spans.{IsSpanJudged, IsStored, IsVerdictOn, IsWholeFaultOf, stored_span};
 ghost use Rattle.tso_scan.specs.Scanned.{shape_count};
+ghost use Rattle.tso_store.specs.Forms.{AreForms};
 
 use crate::judging::{Bad, Nobody, Notice, Part, verdict_of};
 use crate::numbered::{has_initial, is_rising, judge_number};
@@ -13,6 +14,7 @@ use tso_flow::Checked;
 use tso_foot::is_closed;
 use tso_judge::Code;
 use tso_scan::{Scanned, Shape};
+use tso_store::Forms;
 
 /// A part of the tree of a certificate in a store.
 #[derive(Drop)]
@@ -20,6 +22,8 @@ pub struct StoredPart<'a, N: Notice> {
     pub alloc: Global,
     pub checked: &'a Checked,
     pub scanned: &'a Scanned<'a>,
+    /// Which histories of its states fit.
+    pub forms: &'a Forms<'a>,
     /// How the part's records lie.
     pub shape: &'a Shape,
     /// The number of its first record.
@@ -32,11 +36,13 @@ fn judge_numbers<N: Notice>(
     alloc: Global,
     checked: &Checked,
     scanned: &Scanned<'_>,
+    forms: &Forms<'_>,
     from: u64,
     to: u64,
     notice: &N,
 ) -> Result<Option<Bad>, AllocError>
     requires stored { IsStored checked.now.client scanned.now }
+    requires forms { AreForms checked.now.client scanned.now.store.states forms.now }
     requires few { to ≤ 4194304 }
     ensures { IfOk result (IsSpanJudged (stored_span checked.now.client scanned.now from to)) }
 {
@@ -51,6 +57,7 @@ fn judge_numbers<N: Notice>(
             checked,
             &scanned.table,
             &scanned.store,
+            forms,
             number as u32,
             end,
         )? {
@@ -70,16 +77,18 @@ impl<'a, N: Notice> Part for StoredPart<'a, N> {
     ghost use Rattle.std.specs.Prelude.{◌+◌, ◌≤◌};
     ghost use Rattle.tso_check.specs.Spans.{IsStored, stored_span};
     ghost use Rattle.tso_scan.specs.Scanned.{shape_count};
+    ghost use Rattle.tso_store.specs.Forms.{AreForms};
 
     ghost span = { λ p. stored_span p.checked.now.client p.scanned.now p.start (p.start + shape_count p.shape.now) };
 
-    ghost is_ready = { λ p. IsStored p.checked.now.client p.scanned.now × (p.start + shape_count p.shape.now ≤ 4194304) };
+    ghost is_ready = { λ p. IsStored p.checked.now.client p.scanned.now × AreForms p.checked.now.client p.scanned.now.store.states p.forms.now × (p.start + shape_count p.shape.now ≤ 4194304) };
 
     fn judge(&self) -> Result<Option<Bad>, AllocError> {
         judge_numbers(
             self.alloc,
             self.checked,
             self.scanned,
+            self.forms,
             self.start,
             self.start + self.shape.len(),
             self.notice,
@@ -95,6 +104,7 @@ impl<'a, N: Notice> Part for StoredPart<'a, N> {
                     alloc: self.alloc,
                     checked: self.checked,
                     scanned: self.scanned,
+                    forms: self.forms,
                     shape: left,
                     start: self.start,
                     notice: self.notice,
@@ -103,6 +113,7 @@ impl<'a, N: Notice> Part for StoredPart<'a, N> {
                     alloc: self.alloc,
                     checked: self.checked,
                     scanned: self.scanned,
+                    forms: self.forms,
                     shape: right,
                     start: middle,
                     notice: self.notice,
@@ -154,8 +165,10 @@ pub fn decide_stored(
         Some(code) => Ok(rejected(code)),
         None => {
             let count = scanned.shape.len();
-            let found = judge_numbers(alloc, checked, scanned, 0, count, &Nobody)?;
-            Ok(verdict_of(found))
+            let forms = scanned.store.forms(alloc)?;
+            let found = judge_numbers(alloc, checked, scanned, &forms, 0, count, &Nobody);
+            drop(forms);
+            Ok(verdict_of(found?))
         }
     }
 }

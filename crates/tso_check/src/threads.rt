@@ -65,8 +65,8 @@ impl<P: Part> Task for Judging<P> {
     }
 }
 
-/// The first record of a part that is not valid, by so many workers, who share a part by the halves of its forks, each a part of each
-/// quarter. What is found in the left half stands, and only where that is nothing, what is found in the right one.
+/// The first record of a part that is not valid, by so many workers, who share a part by the halves of its forks: each a part of each
+/// quarter, where forks go deep enough. What is found in the left half stands, and only where that is nothing, what is found in the right one.
 ///
 /// Errors: where a growth was refused.
 pub fn judge_with<R: Threads + Sync, P: Part + Sync + Drop>(

@@ -1,14 +1,12 @@
 -- Threads and calls of a state, and which call may begin.
-use Rattle.std.proofs.Common.{◌≡◌, ◌∙◌, ℕ, suc, ◌-◌, ◌<◌, ◌≤◌, ◌==◌, Bool, true, false, List, [], ◌∷◌, length, map, Option, Some, None, IfSome, slice_get, slice_index_or, unwrap_or, refl, sym, ap, subst, arith}
+use Rattle.std.proofs.Common.{◌≡◌, ◌∙◌, ℕ, ◌<◌, ◌==◌, Bool, true, false, List, [], ◌∷◌, length, map, Option, Some, None, IfSome, slice_get, slice_index_or, refl, sym, ap, subst, arith}
 use Rattle.std.proofs.lemmas.Grind.{common_steps}
-use Rattle.std.proofs.lemmas.Option.{IfSome_then, get_or_from_slice_get, slice_get_within, unwrap_or-slice_get}
+use Rattle.std.proofs.lemmas.Option.{IfSome_then, get_or_from_slice_get, slice_get_within}
 use Rattle.std.specs.Option.{option_and_then, option_map}
 use Rattle.tso_compact.specs.Motions.{Fits, core_labels, labels_in, move_of}
 use Rattle.tso_compact.specs.Plans.{motion_view, procedure_in, thread_in}
 use Rattle.tso_compact.specs.declared.motion.Motion.{Motion}
-use Rattle.tso_flow.specs.Calls.{kind_of}
 use Rattle.tso_flow.specs.declared.location.ProcedureKind.{ProcedureKind}
-use Rattle.tso_hist.specs.declared.call.Call.{Call}
 use Rattle.tso_line.specs.declared.instruction.CallKind.{CallKind}
 use Rattle.tso_machine.specs.Activations.{Activation}
 use Rattle.tso_machine.specs.Machines.{entry_view}
@@ -27,17 +25,6 @@ use Rattle.tso_state.specs.declared.actor.Actor.{Actor}
 use Rattle.tso_state.specs.declared.actor.Actor.TheVariants.{Drain, Exec}
 use Rattle.tso_state.specs.declared.state.State.{State}
 use Rattle.tso_state.specs.declared.state.Thread.{Thread}
-
--- past the end there is the default
-pub none_there : {X : Type 0} (xs : List X) (i : ℕ) (d : X) → slice_get xs i ≡ None → slice_index_or xs i d ≡ d
-none_there xs i d e = sym (unwrap_or-slice_get xs i d) ∙ ap (λ o. unwrap_or o d) e
-
-pub running_procedure-last : (calls : List Call) (c : Call) → 1 ≤ length calls → c ≡ slice_index_or calls (length calls - 1) c → running_procedure calls ≡ kind_of c.kind
-running_procedure-last [] c some e = absurd (omega arith)
-running_procedure-last (x ∷ []) c some e = ap (λ (k : Call). kind_of k.kind) (sym e)
-running_procedure-last (x ∷ y ∷ rest) c some e =
-    let shift : length (x ∷ y ∷ rest) - 1 ≡ suc (length (y ∷ rest) - 1) = omega arith in
-    running_procedure-last (y ∷ rest) c (omega arith) (e ∙ ap (λ k. slice_index_or (x ∷ y ∷ rest) k c) shift)
 
 -- another thread's calls wait for the prologue's
 pub waits : (prologue : List CallKind) (n thread first : ℕ) (over : ℕ → Bool) (b : Bool) → (length prologue == 0) ≡ false → first ≡ n → (thread ≡ first → ⊥) → b ≡ over first

@@ -18,6 +18,6 @@ pub use laws::{
 };
 pub use motion::{Motion, core_motion, drain_motion};
 pub use naming::labels;
-pub use plan::{begun_calls, next_call, planned, running_procedure};
+pub use plan::{next_call, planned};
 pub use sort::{StepKind, enabled, kind};
 pub use stepping::{history_after, memory_with, step};

@@ -13,34 +13,12 @@ ghost use Rattle.tso_model.specs.States.{begun_by};
 ghost use Rattle.tso_model.specs.Steps.{move, step};
 ghost use Rattle.tso_prog.specs.Views.{call_view};
 ghost use Rattle.tso_state.specs.Actors.{actor_of, thread_of};
-ghost use Rattle.tso_state.specs.Views.{core_view, running_procedure, state_of, thread_view};
+ghost use Rattle.tso_state.specs.Views.{core_view, state_of, thread_view};
 
 use crate::motion::{Motion, core_motion, drain_motion};
-use tso_flow::ProcedureKind;
-use tso_hist::Call;
 use tso_machine::call_at;
 use tso_prog::{CallKind, Client};
 use tso_state::{Actor, Core, Thread, Viewed};
-
-/// The calls of a thread that have begun; none where the state has no list for it.
-pub fn begun_calls<S: Viewed>(state: &S, thread: usize) -> &[Call]
-    ensures { result.now ≡ slice_index_or (S.state state.now).history thread [] }
-{
-    match state.calls(thread) {
-        Some(calls) => calls,
-        None => &[],
-    }
-}
-
-/// The procedure that the last of these calls runs; that of a pop where there is none.
-pub fn running_procedure(calls: &[Call]) -> ProcedureKind
-    ensures { result ≡ running_procedure calls.now }
-{
-    match calls {
-        [] => ProcedureKind::Pop,
-        [.., last] => ProcedureKind::from(last.kind),
-    }
-}
 
 fn is_idle(core: &Core) -> bool
     ensures { (name : AProcedure) → result ≡ is_resting (core_view name core.now) }
@@ -53,7 +31,7 @@ fn is_over<S: Viewed>(client: &Client, state: &S, number: usize, thread: &Thread
     ensures { (name : AProcedure) → result ≡ is_over_in client.now (S.state state.now) number name thread.now }
 {
     is_idle(&thread.core)
-        && call_at(client, number, begun_calls(state, number).len()).is_none()
+        && call_at(client, number, state.begun(number)).is_none()
         && thread.buffer.is_empty()
 }
 
@@ -76,7 +54,7 @@ pub fn next_call<S: Viewed>(client: &Client, state: &S, thread: usize) -> Option
     ensures { option_map call_view result ≡ next_call (program_of client.now) (state_of (S.state state.now)) thread }
 {
     if may_begin(client, state, thread) {
-        call_at(client, thread, begun_calls(state, thread).len())
+        call_at(client, thread, state.begun(thread))
     } else {
         None
     }
@@ -93,7 +71,7 @@ pub fn planned<S: Viewed>(client: &Client, state: &S, actor: Actor) -> Option<Mo
     let thread = state.thread(number)?;
     match actor {
         Actor::Exec(_) => {
-            let procedure = running_procedure(begun_calls(state, number));
+            let procedure = state.procedure(number);
             core_motion(client, procedure, next_call(client, state, number), thread)
         }
         Actor::Drain(_) => drain_motion(thread),

@@ -12,7 +12,7 @@ ghost use Rattle.tso_model.specs.Steps.{move, step, when_empty};
 ghost use Rattle.tso_state.specs.Actors.{actor_of};
 ghost use Rattle.tso_state.specs.Views.{state_of};
 
-use crate::plan::{begun_calls, next_call, running_procedure};
+use crate::plan::next_call;
 use tso_flow::Checked;
 use tso_machine::{ActionKind, Entry, next_kind};
 use tso_prog::Client;
@@ -81,7 +81,7 @@ fn core_kind<S: Viewed>(
     match &thread.core {
         Core::Idle => call_kind(client, state, number),
         Core::Running(frame) => {
-            let procedure = running_procedure(begun_calls(state, number));
+            let procedure = state.procedure(number);
             kind_with_buffer(
                 next_kind(client, procedure, frame),
                 thread.buffer.as_slice(),

@@ -21,7 +21,7 @@ use tso_flow::Checked;
 use tso_foot::Table;
 use tso_machine::thread_count;
 use tso_rec::{End, Kept, Packed, Shelf};
-use tso_state::State;
+use tso_state::{State, Viewed};
 use tso_store::{Store, View};
 
 /// The most records of a leaf.

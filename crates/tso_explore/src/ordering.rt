@@ -203,7 +203,7 @@ pub fn rising_by<R: Threads + Sync>(
     requires few { length store.now.states ≤ 4194304 }
     ensures { IfOk result (λ ns. IsRising store.now.states ns.items) }
 {
-    let standings = store.standings(rt, alloc, workers)?;
+    let standings = store.standings(alloc)?;
     let groups = grouped(alloc, &standings)?;
     let unordered = Unordered {
         alloc,

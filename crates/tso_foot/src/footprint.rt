@@ -9,7 +9,6 @@ ghost use Rattle.tso_machine.specs.Programs.{calls_in};
 
 use crate::masks::{Masks, place_mask};
 use crate::table::ArrayTable;
-use tso_compact::{begun_calls, running_procedure};
 use tso_flow::{Checked, ProcedureKind};
 use tso_line::CallKind;
 use tso_machine::{Entry, calls_of};
@@ -103,9 +102,8 @@ pub(crate) fn array_future<S: Viewed>(
     let client = &checked.client;
     match state.thread(thread) {
         Some(own) => {
-            let begun = begun_calls(state, thread);
-            let calls = calls_left(client, thread, begun.len());
-            let core = core_masks(table, running_procedure(begun), calls, &own.core);
+            let calls = calls_left(client, thread, state.begun(thread));
+            let core = core_masks(table, state.procedure(thread), calls, &own.core);
             core.union(Masks {
                 reads: 0,
                 writes: buffer_mask(client.arrays.as_slice(), own.buffer.as_slice()),

@@ -7,7 +7,6 @@ use crate::ahead::{ArraysAhead, CellsAhead, Future};
 use crate::footprint::{array_future, calls_left};
 use crate::table::Table;
 use tso_cells::IntervalTable;
-use tso_compact::{begun_calls, running_procedure};
 use tso_flow::Checked;
 use tso_state::Viewed;
 
@@ -22,16 +21,13 @@ fn cells_ahead<'a, S: Viewed>(
 {
     let client = &checked.client;
     match state.thread(number) {
-        Some(thread) => {
-            let begun = begun_calls(state, number);
-            Future::Cells(CellsAhead {
-                arrays: client.arrays.as_slice(),
-                table,
-                procedure: running_procedure(begun),
-                calls: calls_left(client, number, begun.len()),
-                thread,
-            })
-        }
+        Some(thread) => Future::Cells(CellsAhead {
+            arrays: client.arrays.as_slice(),
+            table,
+            procedure: state.procedure(number),
+            calls: calls_left(client, number, state.begun(number)),
+            thread,
+        }),
         None => Future::Nothing,
     }
 }

@@ -5,7 +5,6 @@ ghost use Rattle.tso_foot.specs.Within.{IsWithin, ThreadLies, core_lies};
 
 use crate::table::Table;
 use tso_cells::lies;
-use tso_compact::{begun_calls, running_procedure};
 use tso_flow::ProcedureKind;
 use tso_state::{Core, Viewed};
 
@@ -25,10 +24,7 @@ fn thread_lies<S: Viewed>(table: &Table, state: &S, number: usize) -> bool
     ensures { IsTrue result ↔ ThreadLies table.now (S.state state.now) number }
 {
     match state.thread(number) {
-        Some(thread) => {
-            let procedure = running_procedure(begun_calls(state, number));
-            core_lies(table, procedure, &thread.core)
-        }
+        Some(thread) => { core_lies(table, state.procedure(number), &thread.core) }
         None => true,
     }
 }

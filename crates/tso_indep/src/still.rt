@@ -3,7 +3,7 @@
 ghost use Rattle.std.specs.Prelude.{◌≡◌};
 ghost use Rattle.tso_indep.specs.Reasons.{is_among, is_done, is_held};
 
-use tso_compact::{begun_calls, kind, running_procedure};
+use tso_compact::kind;
 use tso_flow::Checked;
 use tso_machine::{ActionKind, call_at, next_kind};
 use tso_state::{Actor, Core, Viewed};
@@ -27,11 +27,10 @@ pub fn is_done<S: Viewed>(checked: &Checked, state: &S, number: usize, core: &Co
     ensures { result ≡ is_done checked.now.client (S.state state.now) number core.now }
 {
     let client = &checked.client;
-    let calls = begun_calls(state, number);
     match core {
-        Core::Idle => call_at(client, number, calls.len()).is_none(),
+        Core::Idle => call_at(client, number, state.begun(number)).is_none(),
         Core::Running(frame) => {
-            let kind = next_kind(client, running_procedure(calls), frame);
+            let kind = next_kind(client, state.procedure(number), frame);
             matches!(kind, ActionKind::Cut)
         }
         Core::Stopped => true,

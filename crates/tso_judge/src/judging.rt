@@ -7,6 +7,7 @@ ghost use Rattle.tso_compact.specs.Plans.{HasHistories};
 ghost use Rattle.tso_rec.specs.Conditions.{SuccessorsAreKept};
 ghost use Rattle.tso_judge.specs.Judging.{IsJudgedAlone, IsJudgedAmong};
 ghost use Rattle.tso_rec.specs.declared.record.End.TheVariants as ends;
+ghost use Rattle.tso_state.specs.Fitting.{HistoryFits};
 ghost use Rattle.tso_state.specs.WellFormed.{IsWellFormed};
 
 use crate::code::Code;
@@ -21,7 +22,7 @@ use tso_flow::Checked;
 use tso_foot::{Table, is_within};
 use tso_hist::History;
 use tso_rec::{End, Record};
-use tso_state::{State, Viewed, is_well_formed};
+use tso_state::{State, Viewed, history_fits, is_well_formed_given};
 
 // Of a well-formed state with choices.
 fn judge_choices<S: Viewed>(
@@ -70,7 +71,7 @@ fn judge_order<S: Viewed>(
 }
 
 /// The code of the first condition that a record fails, of those that come before K12 and need no other record: K05 to K07, K10
-/// and K11. `history` is that of the state.
+/// and K11. `history` is that of the state, and `fits` says whether it fits the client (`history_fits`).
 ///
 /// Errors: where a growth was refused.
 pub fn judge_alone<S: Viewed>(
@@ -79,12 +80,14 @@ pub fn judge_alone<S: Viewed>(
     table: &Table,
     state: &S,
     history: &History,
+    fits: bool,
     end: &End,
 ) -> Result<Option<Code>, AllocError>
-    requires { (S.state state.now).history ≡ history.now }
+    requires history { (S.state state.now).history ≡ history.now }
+    requires fits { IsTrue fits ↔ HistoryFits checked.now.client (S.state state.now).history }
     ensures { IfOk result (IsJudgedAlone checked.now.client table.now (S.state state.now) end.now) }
 {
-    if !is_well_formed(checked, state) {
+    if !is_well_formed_given(checked, state, fits) {
         return Ok(Some(Code::K05));
     }
     match end {
@@ -147,7 +150,9 @@ pub fn judge_state(
     requires { IsOrdered (tree_of cert.now) }
     ensures { IfOk result (IsJudgedAmong checked.now.client table.now (tree_states (tree_of cert.now)) state.now end.now) }
 {
-    match judge_alone(alloc, checked, table, state, &state.history, end)? {
+    let history = &state.history;
+    let fits = history_fits(checked, history);
+    match judge_alone(alloc, checked, table, state, history, fits, end)? {
         Some(code) => Ok(Some(code)),
         None => judge_rest(alloc, checked, table, cert, state, end),
     }

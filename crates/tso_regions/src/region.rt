@@ -20,7 +20,7 @@ use std::marker::{Model, PhantomData};
 use tso_flow::Checked;
 use tso_foot::Table;
 use tso_search::{Judged, Marks};
-use tso_state::State;
+use tso_state::{State, Viewed};
 use tso_store::{NO_KEY, Store, View};
 
 /// One of so many owners.

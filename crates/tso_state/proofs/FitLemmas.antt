@@ -9,7 +9,7 @@ use Rattle.tso_hist.specs.declared.call.Call.{Call}
 use Rattle.tso_machine.specs.Soundness.{are_within}
 use Rattle.tso_prog.specs.declared.client.Client.{Client}
 use Rattle.tso_state.specs.declared.state.Core.{Core}
-use Rattle.tso_state.specs.Fitting.{CallFits, CallsFit, FrameFits}
+use Rattle.tso_state.specs.Fitting.{AreEarlierAnswered, CallFits, CoreFits, FrameFits}
 use Rattle.tso_state.specs.WellFormed.{IsAnswered, LastFits, last_call}
 use Rattle.tso_state.proofs.ViewLemmas.{running_procedure-append}
 
@@ -78,24 +78,26 @@ before_last cs c =
     let e : length (cs ++ c ∷ []) - 1 ≡ length cs = omega (arith, length-append cs (c ∷ [])) in
     rw (e, take-append_seam cs (c ∷ [])) refl
 
-calls_fit_appended : (k : Client) (core : Core) (cs : List Call) (c : Call) → (All IsAnswered cs × CallFits k core c) ↔ CallsFit k core (cs ++ c ∷ [])
-calls_fit_appended k core cs c = (
-  λ h. record {
-    earlier = subst (λ xs. All IsAnswered xs) (sym (before_last cs c)) h.0;
-    last = subst (λ o. LastFits core o) (sym (last_call-append cs c)) h.1.answer;
-    frame = subst (λ p. FrameFits k p core) (sym (running_procedure-append cs c)) h.1.frame;
-  },
-  λ h. (
-    subst (λ xs. All IsAnswered xs) (before_last cs c) h.earlier,
-    record {
-      answer = subst (λ o. LastFits core o) (last_call-append cs c) h.last;
-      frame = subst (λ p. FrameFits k p core) (running_procedure-append cs c) h.frame;
-    },
-  ),
+pub earlier_last : (calls cs : List Call) (c : Call) → calls ≡ cs ++ c ∷ [] → All IsAnswered cs ↔ AreEarlierAnswered calls
+earlier_last calls cs c e = subst (λ xs. All IsAnswered cs ↔ AreEarlierAnswered xs) (sym e) (
+  λ h. subst (λ xs. All IsAnswered xs) (sym (before_last cs c)) h,
+  λ h. subst (λ xs. All IsAnswered xs) (before_last cs c) h,
 )
 
-pub calls_fit_last : (k : Client) (core : Core) (calls cs : List Call) (c : Call) → calls ≡ cs ++ c ∷ [] → (All IsAnswered cs × CallFits k core c) ↔ CallsFit k core calls
-calls_fit_last k core calls cs c e = subst (λ xs. (All IsAnswered cs × CallFits k core c) ↔ CallsFit k core xs) (sym e) (calls_fit_appended k core cs c)
+core_fits_appended : (k : Client) (core : Core) (cs : List Call) (c : Call) → CallFits k core c ↔ CoreFits k core (cs ++ c ∷ [])
+core_fits_appended k core cs c = (
+  λ h. record {
+    last = subst (λ o. LastFits core o) (sym (last_call-append cs c)) h.answer;
+    frame = subst (λ p. FrameFits k p core) (sym (running_procedure-append cs c)) h.frame;
+  },
+  λ h. record {
+    answer = subst (λ o. LastFits core o) (last_call-append cs c) h.last;
+    frame = subst (λ p. FrameFits k p core) (running_procedure-append cs c) h.frame;
+  },
+)
+
+pub core_fits_last : (k : Client) (core : Core) (calls cs : List Call) (c : Call) → calls ≡ cs ++ c ∷ [] → CallFits k core c ↔ CoreFits k core calls
+core_fits_last k core calls cs c e = subst (λ xs. CallFits k core c ↔ CoreFits k core xs) (sym e) (core_fits_appended k core cs c)
 
 -- ---- places past the end
 

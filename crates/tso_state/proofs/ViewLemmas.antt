@@ -1,9 +1,9 @@
 -- What the model sees of a state whose threads and calls are read or replaced.
-use Rattle.std.proofs.Common.{◌≡◌, ℕ, zero, suc, ◌<◌, List, [], ◌∷◌, ◌++◌, ◌∙◌, length, map, slice_get, slice_set, slice_index_or, refl, ap, arith}
+use Rattle.std.proofs.Common.{◌≡◌, ℕ, zero, suc, ◌-◌, ◌<◌, ◌≤◌, List, [], ◌∷◌, ◌++◌, ◌∙◌, length, map, None, slice_get, slice_set, slice_index_or, unwrap_or, refl, sym, ap, arith}
 use Rattle.std.specs.Option.{option_map}
 use Rattle.std.proofs.Math.ListN.{get_or-map}
 use Rattle.std.proofs.lemmas.List.{length-map, map-set}
-use Rattle.std.proofs.lemmas.Option.{slice_get-map}
+use Rattle.std.proofs.lemmas.Option.{slice_get-map, unwrap_or-slice_get}
 use Rattle.tso_flow.specs.Calls.{kind_of}
 use Rattle.tso_hist.specs.declared.call.Call.{Call}
 use Rattle.tso_hist.specs.Views.{called_view, history_view}
@@ -12,6 +12,10 @@ use Rattle.tso_model.specs.States.{Called, CompactThread, begun_by, calls_in}
 use Rattle.tso_state.specs.declared.state.State.{State}
 use Rattle.tso_state.specs.declared.state.Thread.{Thread}
 use Rattle.tso_state.specs.Views.{running_procedure, state_of, thread_view, threads_view}
+
+-- past the end there is the default
+pub none_there : {X : Type 0} (xs : List X) (i : ℕ) (d : X) → slice_get xs i ≡ None → slice_index_or xs i d ≡ d
+none_there xs i d e = sym (unwrap_or-slice_get xs i d) ∙ ap (λ o. unwrap_or o d) e
 
 -- ---- threads
 
@@ -69,6 +73,13 @@ pub begun_by-state_of : (s : State) (i : ℕ) → begun_by (state_of s) i ≡ le
 begun_by-state_of s i = ap (λ (cs : List Called). length cs) (calls_in-history_view s.history i) ∙ length-map (slice_index_or s.history i []) called_view
 
 -- ---- the last call
+
+pub running_procedure-last : (calls : List Call) (c : Call) → 1 ≤ length calls → c ≡ slice_index_or calls (length calls - 1) c → running_procedure calls ≡ kind_of c.kind
+running_procedure-last [] c some e = absurd (omega arith)
+running_procedure-last (x ∷ []) c some e = ap (λ (k : Call). kind_of k.kind) (sym e)
+running_procedure-last (x ∷ y ∷ rest) c some e =
+    let shift : length (x ∷ y ∷ rest) - 1 ≡ suc (length (y ∷ rest) - 1) = omega arith in
+    running_procedure-last (y ∷ rest) c (omega arith) (e ∙ ap (λ k. slice_index_or (x ∷ y ∷ rest) k c) shift)
 
 pub running_procedure-append : (cs : List Call) (c : Call) → running_procedure (cs ++ c ∷ []) ≡ kind_of c.kind
 running_procedure-append [] c = refl

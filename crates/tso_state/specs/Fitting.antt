@@ -1,5 +1,5 @@
 -- The list of a well-formed state, thread by thread, as the code tests it. Nothing but the proof of that code rests on this.
-use Rattle.std.specs.Prelude.{◌≡◌, ◌≢◌, ℕ, ◌-◌, ◌<◌, ◌≤◌, List, length, take, Option, Some, None, slice_get, slice_index_or, All, if◌then◌else◌}
+use Rattle.std.specs.Prelude.{◌≡◌, ◌≢◌, ℕ, ◌-◌, ◌<◌, ◌≤◌, List, [], length, take, Option, Some, None, slice_get, slice_index_or, All, if◌then◌else◌}
 use Rattle.tso_flow.specs.Calls.{kind_of}
 use Rattle.tso_flow.specs.declared.location.ProcedureKind.{ProcedureKind}
 use Rattle.tso_hist.specs.declared.call.Call.{Call}
@@ -14,7 +14,7 @@ use Rattle.tso_state.specs.declared.state.Core.TheVariants.{Idle, Running, Stopp
 use Rattle.tso_state.specs.declared.state.State.{State}
 use Rattle.tso_state.specs.declared.state.Thread.{Thread}
 use Rattle.tso_state.specs.Views.{running_procedure}
-use Rattle.tso_state.specs.WellFormed.{HasStarted, IsAnswered, IsFrameOf, IsPrologueOver, LastFits, answered_count, calls_by, client_calls, last_call, thread_total, word_count}
+use Rattle.tso_state.specs.WellFormed.{HasStarted, IsAnswered, IsFrameOf, IsPrologueOver, LastFits, answered_count, client_calls, last_call, thread_total, word_count}
 
 -- each of these entries is inside a memory of so many words
 abbrev pub AreInside : ℕ → List Entry → Type 0
@@ -39,9 +39,8 @@ FrameFits c procedure Idle = Unit {0}
 FrameFits c procedure (Running f) = IsFrameOf c procedure f
 FrameFits c procedure Stopped = Unit {0}
 
--- the calls and the core of one thread fit each other
-pub record CallsFit (c : Client) (core : Core) (calls : List Call) : Type 0 where
-  pub earlier : AreEarlierAnswered calls
+-- the last of the calls, if there is one, and the core of one thread fit each other
+pub record CoreFits (c : Client) (core : Core) (calls : List Call) : Type 0 where
   pub last : LastFits core (last_call calls)
   pub frame : FrameFits c (running_procedure calls) core
 
@@ -50,20 +49,27 @@ pub record CallFits (c : Client) (core : Core) (last : Call) : Type 0 where
   pub answer : LastFits core (Some last)
   pub frame : FrameFits c (kind_of last.kind) core
 
--- thread i and its calls
-pub record ThreadFits (c : Client) (i : ℕ) (t : Thread) (calls : List Call) : Type 0 where
-  pub inside : AreInside (word_count c) t.buffer
+-- these are calls of thread i
+pub record AreTheThreads (c : Client) (i : ℕ) (calls : List Call) : Type 0 where
   pub numbered : AreNumbered (client_calls c i) (thread_total c) i calls
-  pub fit : CallsFit c t.core calls
+  pub earlier : AreEarlierAnswered calls
+
+abbrev pub ListsFit : Client → List (List Call) → Type 0
+ListsFit c h = (i : ℕ) → i < thread_total c → AreTheThreads c i (slice_index_or h i [])
+
+-- a thread and its last call
+pub record ThreadFits (c : Client) (t : Thread) (calls : List Call) : Type 0 where
+  pub inside : AreInside (word_count c) t.buffer
+  pub fit : CoreFits c t.core calls
 
 -- both are there, and fit
-abbrev pub FitsAt : Client → ℕ → Option Thread → Option (List Call) → Type 0
-FitsAt c i None calls = ⊥
-FitsAt c i (Some t) None = ⊥
-FitsAt c i (Some t) (Some calls) = ThreadFits c i t calls
+abbrev pub FitsAt : Client → Option Thread → Option (List Call) → Type 0
+FitsAt c None calls = ⊥
+FitsAt c (Some t) None = ⊥
+FitsAt c (Some t) (Some calls) = ThreadFits c t calls
 
 abbrev pub ThreadsFit : Client → State → Type 0
-ThreadsFit c s = (i : ℕ) → i < thread_total c → FitsAt c i (slice_get s.threads i) (slice_get s.history i)
+ThreadsFit c s = (i : ℕ) → i < thread_total c → FitsAt c (slice_get s.threads i) (slice_get s.history i)
 
 -- not more than so many answers of thread j are seen
 abbrev pub SeesAtMost : ℕ → ℕ → List ℕ → Type 0
@@ -72,11 +78,16 @@ SeesAtMost j count seen = (n : ℕ) → slice_get seen j ≡ Some n → n ≤ co
 abbrev pub HaveSeenAtMost : ℕ → ℕ → List Call → Type 0
 HaveSeenAtMost j count calls = All (λ c. SeesAtMost j count c.seen) calls
 
-abbrev pub HaveAllSeenAtMost : State → ℕ → ℕ → ℕ → Type 0
-HaveAllSeenAtMost s width j count = (i : ℕ) → i < width → HaveSeenAtMost j count (calls_by s i)
+abbrev pub HaveAllSeenAtMost : List (List Call) → ℕ → ℕ → ℕ → Type 0
+HaveAllSeenAtMost h width j count = (i : ℕ) → i < width → HaveSeenAtMost j count (slice_index_or h i [])
 
-abbrev pub SeenFits : State → ℕ → Type 0
-SeenFits s width = (j : ℕ) → j < width → HaveAllSeenAtMost s width j (answered_count (calls_by s j))
+abbrev pub SeenFits : List (List Call) → ℕ → Type 0
+SeenFits h width = (j : ℕ) → j < width → HaveAllSeenAtMost h width j (answered_count (slice_index_or h j []))
+
+-- all of the list that the history alone tells
+pub record HistoryFits (c : Client) (h : List (List Call)) : Type 0 where
+  pub lists : ListsFit c h
+  pub seen : SeenFits h (thread_total c)
 
 pub record HasLengths (c : Client) (s : State) : Type 0 where
   pub memory : length s.memory ≡ word_count c

@@ -18,5 +18,5 @@ pub use order::{
     is_same,
 };
 pub use state::{Core, State, Thread};
-pub use viewed::Viewed;
-pub use well_formed::is_well_formed;
+pub use viewed::{Viewed, begun_calls, running_procedure};
+pub use well_formed::{history_fits, is_well_formed, is_well_formed_given};

@@ -3,14 +3,14 @@ ghost use Rattle.std.specs.Prelude.{◌≡◌, ◌↔◌, ◌<◌, ◌≤◌, le
 ghost use Rattle.tso_flow.specs.Calls.{kind_of};
 ghost use Rattle.tso_machine.specs.Places.{first_memory};
 ghost use Rattle.tso_machine.specs.Soundness.{are_within, back_bounds, bounds_in};
-ghost use Rattle.tso_state.specs.Fitting.{AreEarlierAnswered, AreInside, AreNumbered, CallFits, CallsFit, FitsAt, HasLengths, HaveAllSeenAtMost, HaveSeenAtMost, IsNumbered, IsOtherStarted, NoneHasStarted, PrologueFits, SeenFits, SeesAtMost, ThreadFits, ThreadsFit, back_bound};
+ghost use Rattle.tso_state.specs.Fitting.{AreEarlierAnswered, AreInside, AreNumbered, AreTheThreads, CallFits, CoreFits, FitsAt, HasLengths, HaveAllSeenAtMost, HaveSeenAtMost, HistoryFits, IsNumbered, IsOtherStarted, ListsFit, NoneHasStarted, PrologueFits, SeenFits, SeesAtMost, ThreadFits, ThreadsFit, back_bound};
 ghost use Rattle.tso_state.specs.Initial.{idle_thread};
 ghost use Rattle.tso_state.specs.WellFormed.{HasStarted, IsAnswered, IsFrameOf, IsPrologueOver, IsWellFormed, answered_count, calls_by, client_calls, thread_total, word_count};
 
 use crate::state::{Core, Thread};
-use crate::viewed::Viewed;
+use crate::viewed::{Viewed, begun_calls};
 use tso_flow::{Checked, ProcedureKind};
-use tso_hist::Call;
+use tso_hist::{Call, History};
 use tso_line::{CallKind, Instruction};
 use tso_machine::{Entry, Frame, calls_of, procedure_of, thread_count};
 use tso_prog::{Answer, Array, Client, Step};
@@ -126,13 +126,23 @@ fn call_fits(client: &Client, core: &Core, last: &Call) -> bool
     }
 }
 
-// Whether the calls of a thread are answered as its core says.
-fn calls_fit(client: &Client, core: &Core, calls: &[Call]) -> bool
-    ensures { IsTrue result ↔ CallsFit client.now core.now calls.now }
+// Whether the last call of a thread, if it has begun one, is as its core says.
+fn core_fits(client: &Client, core: &Core, calls: &[Call]) -> bool
+    ensures { IsTrue result ↔ CoreFits client.now core.now calls.now }
 {
     match calls.split_last() {
-        Some((last, earlier)) => are_answered(earlier) && call_fits(client, core, last),
+        Some((last, _)) => call_fits(client, core, last),
         None => matches!(core, Core::Idle),
+    }
+}
+
+// Whether all of these calls but the last are answered.
+fn are_earlier_answered(calls: &[Call]) -> bool
+    ensures { IsTrue result ↔ AreEarlierAnswered calls.now }
+{
+    match calls.split_last() {
+        Some((_, earlier)) => are_answered(earlier),
+        None => true,
     }
 }
 
@@ -154,6 +164,30 @@ fn have_seen_at_most(thread: usize, count: usize, calls: &[Call]) -> bool
         .all(|call| sees_at_most(thread, count, call.seen.as_slice()))
 }
 
+fn all_have_seen_at_most(history: &History, width: usize, thread: usize, count: usize) -> bool
+    ensures { IsTrue result ↔ HaveAllSeenAtMost history.now width thread count }
+{
+    for number in 0..width {
+        if !have_seen_at_most(thread, count, begun_calls(history, number)) {
+            return false;
+        }
+    }
+    true
+}
+
+// Whether no call has seen more answers of a thread than there are.
+fn seen_fits(history: &History, width: usize) -> bool
+    ensures { IsTrue result ↔ SeenFits history.now width }
+{
+    for thread in 0..width {
+        let count = count_answered(begun_calls(history, thread));
+        if !all_have_seen_at_most(history, width, thread, count) {
+            return false;
+        }
+    }
+    true
+}
+
 // How many threads there are, the prologue's counted.
 fn width_of(client: &Client) -> usize
     ensures { result ≡ thread_total client.now }
@@ -168,25 +202,48 @@ fn kinds_of(client: &Client, number: usize) -> &[CallKind]
     calls_of(client, number)
 }
 
-// Whether a thread and its calls are as the client, whose memory has so many words, lets them be.
-fn thread_fits(
-    client: &Client,
-    words: usize,
-    number: usize,
-    thread: &Thread,
-    calls: &[Call],
-) -> bool
-    requires { words ≡ word_count client.now }
-    ensures { IsTrue result ↔ ThreadFits client.now number thread.now calls.now }
+// Whether these are the first calls of a thread, of which all but the last are answered.
+fn are_the_threads(client: &Client, width: usize, number: usize, calls: &[Call]) -> bool
+    requires { width ≡ thread_total client.now }
+    ensures { IsTrue result ↔ AreTheThreads client.now number calls.now }
 {
-    are_inside(words, thread.buffer.as_slice())
-        && are_numbered(kinds_of(client, number), width_of(client), number, calls)
-        && calls_fit(client, &thread.core, calls)
+    are_numbered(kinds_of(client, number), width, number, calls) && are_earlier_answered(calls)
+}
+
+// Whether the calls of each thread are such.
+fn lists_fit(client: &Client, width: usize, history: &History) -> bool
+    requires { width ≡ thread_total client.now }
+    ensures { IsTrue result ↔ ListsFit client.now history.now }
+{
+    for number in 0..width {
+        if !are_the_threads(client, width, number, begun_calls(history, number)) {
+            return false;
+        }
+    }
+    true
+}
+
+/// Whether the calls of all threads are as those of a well-formed state of the client, as far as they alone tell it: they are the
+/// client's, all but the last of each thread are answered, and none has seen more answers than there are. It takes no memory.
+pub fn history_fits(checked: &Checked, history: &History) -> bool
+    ensures { IsTrue result ↔ HistoryFits checked.now.client history.now }
+{
+    let client = &checked.client;
+    let width = width_of(client);
+    lists_fit(client, width, history) && seen_fits(history, width)
+}
+
+// Whether a thread and its last call are as the client, whose memory has so many words, lets them be.
+fn thread_fits(client: &Client, words: usize, thread: &Thread, calls: &[Call]) -> bool
+    requires { words ≡ word_count client.now }
+    ensures { IsTrue result ↔ ThreadFits client.now thread.now calls.now }
+{
+    are_inside(words, thread.buffer.as_slice()) && core_fits(client, &thread.core, calls)
 }
 
 fn fits_at<S: Viewed>(client: &Client, words: usize, state: &S, number: usize) -> bool
     requires { words ≡ word_count client.now }
-    ensures { IsTrue result ↔ FitsAt client.now number (slice_get (S.state state.now).threads number) (slice_get (S.state state.now).history number) }
+    ensures { IsTrue result ↔ FitsAt client.now (slice_get (S.state state.now).threads number) (slice_get (S.state state.now).history number) }
 {
     let Some(thread) = state.thread(number) else {
         return false;
@@ -194,7 +251,7 @@ fn fits_at<S: Viewed>(client: &Client, words: usize, state: &S, number: usize) -
     let Some(calls) = state.calls(number) else {
         return false;
     };
-    thread_fits(client, words, number, thread, calls)
+    thread_fits(client, words, thread, calls)
 }
 
 fn threads_fit<S: Viewed>(client: &Client, words: usize, state: &S) -> bool
@@ -217,30 +274,6 @@ fn calls_by<S: Viewed>(state: &S, number: usize) -> &[Call]
         Some(calls) => calls,
         None => &[],
     }
-}
-
-fn all_have_seen_at_most<S: Viewed>(state: &S, width: usize, thread: usize, count: usize) -> bool
-    ensures { IsTrue result ↔ HaveAllSeenAtMost (S.state state.now) width thread count }
-{
-    for number in 0..width {
-        if !have_seen_at_most(thread, count, calls_by(state, number)) {
-            return false;
-        }
-    }
-    true
-}
-
-// Whether no call has seen more answers of a thread than there are.
-fn seen_fits<S: Viewed>(state: &S, width: usize) -> bool
-    ensures { IsTrue result ↔ SeenFits (S.state state.now) width }
-{
-    for thread in 0..width {
-        let count = count_answered(calls_by(state, thread));
-        if !all_have_seen_at_most(state, width, thread, count) {
-            return false;
-        }
-    }
-    true
 }
 
 fn has_started<S: Viewed>(state: &S, number: usize) -> bool
@@ -313,8 +346,10 @@ fn has_lengths<S: Viewed>(client: &Client, words: usize, state: &S) -> bool
     state.memory().len() == words && state.thread_count() == width && state.history_count() == width
 }
 
-/// Whether the state is well-formed for the client. It is asked of any state, whatever its parts are, and takes no memory.
-pub fn is_well_formed<S: Viewed>(checked: &Checked, state: &S) -> bool
+/// Whether a state is well-formed for the client, where it is known whether its history is as one of such a state. It is asked of any
+/// state, whatever its parts are, and takes no memory.
+pub fn is_well_formed_given<S: Viewed>(checked: &Checked, state: &S, fits: bool) -> bool
+    requires { IsTrue fits ↔ HistoryFits checked.now.client (S.state state.now).history }
     ensures { IsTrue result ↔ IsWellFormed checked.now.client (S.state state.now) }
 {
     let client = &checked.client;
@@ -322,11 +357,19 @@ pub fn is_well_formed<S: Viewed>(checked: &Checked, state: &S) -> bool
     if !has_lengths(client, words, state) {
         return false;
     }
+    if !fits {
+        return false;
+    }
     if !threads_fit(client, words, state) {
         return false;
     }
-    if !seen_fits(state, width_of(client)) {
-        return false;
-    }
     prologue_fits(client, state)
+}
+
+/// Whether the state is well-formed for the client. It is asked of any state, whatever its parts are, and takes no memory.
+pub fn is_well_formed<S: Viewed>(checked: &Checked, state: &S) -> bool
+    ensures { IsTrue result ↔ IsWellFormed checked.now.client (S.state state.now) }
+{
+    let fits = history_fits(checked, state.history());
+    is_well_formed_given(checked, state, fits)
 }

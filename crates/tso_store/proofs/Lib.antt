@@ -2,6 +2,7 @@ pub mod Rows
 pub mod Lists
 pub mod Recalls
 pub mod Procedures
+pub mod Formed
 pub mod Performed
 pub mod Alone
 pub mod Sheeted

@@ -1,6 +1,5 @@
 -- Ranks of kept values.
-use Rattle.std.proofs.Common.{◌≡◌, ℕ, zero, suc, ◌+◌, ◌<◌, ◌≤◌, inl, inr, Bool, true, false, List, [], ◌∷◌, ◌++◌, length, map, Option, Some, refl, sym, ap, ◌∙◌, arith, get_or, slice_get, slice_set, take, drop}
-use Rattle.std.proofs.lemmas.Grind.{common_steps}
+use Rattle.std.proofs.Common.{◌≡◌, ℕ, zero, suc, ◌+◌, ◌<◌, ◌≤◌, inl, inr, Bool, true, false, List, [], ◌∷◌, ◌++◌, length, map, Option, Some, refl, sym, ap, ◌∙◌, arith, get_or, slice_get, slice_set}
 use Rattle.std.proofs.lemmas.Bool.{false≢true}
 use Rattle.std.proofs.lemmas.Bool.Decides.{eqb_tells}
 use Rattle.std.proofs.lemmas.List.MinMax.{ranks_by}
@@ -39,10 +38,6 @@ not_above R o pool ns i j n m up le a b =
     let far = sorted_far (λ a b. is_lt (option_cmp R (slice_get pool a) (slice_get pool b))) (ranks_by (options_total o) (slice_get pool)) ns up i j 0 le (within ns j m b) in
     ap (λ (k : ℕ). is_lt (option_cmp R (slice_get pool m) (slice_get pool k))) (sym (get_or_from_slice_get ns i n 0 a))
     ∙ ap (λ (k : ℕ). is_lt (option_cmp R (slice_get pool k) (slice_get pool (get_or ns i 0)))) (sym (get_or_from_slice_get ns j m 0 b)) ∙ far
-
--- a vector whose items were all written over
-pub written : {X : Type 0} (new items : List X) (len : ℕ) → length new ≡ length items → len ≡ length items → take len (new ++ drop (length new) items) ≡ new
-written new items len e f = grind (arith, common_steps)
 
 pub length_below : (n : ℕ) → length (numbers_below n) ≡ n
 length_below zero = refl

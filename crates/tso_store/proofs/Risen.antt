@@ -14,7 +14,6 @@ use Rattle.std.specs.Option.{option_cmp}
 use Rattle.std.specs.Ordering.{is_lt, nat_cmp, ordering_then}
 use Rattle.std.specs.declared.cmp.Ordering.{Ordering}
 use denote.Param.Members.{Mut}
-use Rattle.tso_hist.specs.contracts.call.CallOrd.TheImpl as call_impl
 use Rattle.tso_prog.specs.declared.client.Client.{Client}
 use Rattle.tso_state.proofs.OrderLemmas.{state_alike}
 use Rattle.tso_state.specs.Order.{state_cmp}
@@ -23,7 +22,7 @@ use Rattle.tso_state.specs.declared.state.State.{State}
 use Rattle.tso_store.proofs.Ranked.{by_ranks, five, rows_by_ranks}
 use Rattle.tso_store.proofs.Sheeted.{kept_at}
 use Rattle.tso_store.specs.Keys.{AreKept, IsKept, IsKeyOf, state_at, states_at}
-use Rattle.tso_store.specs.Orders.{AreRanksBy, AreRowsOf, rank_at, row_by}
+use Rattle.tso_store.specs.Orders.{AreRanksBy, AreRowsOf, history_cmp, rank_at, row_by}
 use Rattle.tso_store.specs.contracts.rank_rows.RowOrd.TheImpl as row_impl
 use Rattle.tso_store.specs.declared.key.Key.{Key}
 use Rattle.tso_store.specs.declared.parts.Parts.{Parts}
@@ -49,7 +48,7 @@ row_order p ms ts hs is k l a b wide =
     let T : Ordering = slice_cmp nat_cmp x.threads y.threads in
     let H : Ordering = nat_cmp x.history y.history in
     let memory : nat_cmp x.memory y.memory ≡ slice_cmp nat_cmp s.memory t.memory = by_ranks (slice_cmp nat_cmp) p.memories ms is.memories k.memory l.memory s.memory t.memory a.memory b.memory in
-    let history : H ≡ slice_cmp (slice_cmp call_impl.cmp-value.it) s.history t.history = by_ranks (slice_cmp (slice_cmp call_impl.cmp-value.it)) p.histories hs is.histories k.history l.history s.history t.history a.history b.history in
+    let history : H ≡ history_cmp s.history t.history = by_ranks history_cmp p.histories hs is.histories k.history l.history s.history t.history a.history b.history in
     let rows : slice_cmp nat_cmp (map (rank_at ts) k.threads) (map (rank_at ts) l.threads) ≡ slice_cmp thread_impl.cmp-value.it s.threads t.threads =
     rows_by_ranks thread_impl.cmp-value.it p.threads ts is.threads k.threads l.threads s.threads t.threads a.threads b.threads (a.wide ∙ sym b.wide) wide in
     let threads : T ≡ slice_cmp thread_impl.cmp-value.it s.threads t.threads =

@@ -2,6 +2,7 @@ pub mod Numbers
 pub mod Keys
 pub mod Remembered
 pub mod Running
+pub mod Forms
 pub mod Sheets
 pub mod Stepping
 pub mod Seeking

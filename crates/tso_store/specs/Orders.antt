@@ -8,6 +8,7 @@ use Rattle.std.specs.declared.cmp.Ordering.{Ordering}
 use Rattle.tso_state.specs.Order.{state_cmp}
 use Rattle.tso_state.specs.declared.state.State.{State}
 use Rattle.tso_hist.specs.contracts.call.CallOrd.TheImpl as call_impl
+use Rattle.tso_hist.specs.declared.call.Call.{Call}
 use Rattle.tso_state.specs.contracts.state.ThreadOrd.TheImpl as thread_impl
 use Rattle.tso_store.specs.contracts.rank_rows.RowOrd.TheImpl as row_impl
 use Rattle.tso_store.specs.Numbers.{AreNumbersOf}
@@ -15,6 +16,14 @@ use Rattle.tso_store.specs.declared.key.Key.{Key}
 use Rattle.tso_store.specs.declared.parts.Parts.{Parts}
 use Rattle.tso_store.specs.declared.ranks.Ranks.{Ranks}
 use Rattle.tso_store.specs.declared.rank_rows.Row.{Row}
+
+-- how the lists of calls of one thread are ordered
+abbrev pub list_cmp : List Call → List Call → Ordering
+list_cmp = slice_cmp call_impl.cmp-value.it
+
+-- how histories are
+abbrev pub history_cmp : List (List Call) → List (List Call) → Ordering
+history_cmp = slice_cmp list_cmp
 
 -- this is the order of the values with these numbers
 abbrev pub IsOrderOfParts : {X : Type 0} → (X → X → Ordering) → List X → ℕ → ℕ → Ordering → Type 0
@@ -67,7 +76,7 @@ pub record AreRanks {X : Type 0} (R : X → X → Ordering) (pool : List X) (ran
 pub record AreRanksBy (p : Parts) (ms ts hs : List ℕ) : Type 0 where
   pub memories : AreRanks (slice_cmp nat_cmp) p.memories ms
   pub threads : AreRanks thread_impl.cmp-value.it p.threads ts
-  pub histories : AreRanks (slice_cmp (slice_cmp call_impl.cmp-value.it)) p.histories hs
+  pub histories : AreRanks history_cmp p.histories hs
 
 -- the rank of a number; 0 where it has none
 abbrev pub rank_at : List ℕ → ℕ → ℕ
@@ -77,11 +86,15 @@ rank_at ranks n = slice_index_or ranks n 0
 abbrev pub rank_of : List ℕ → List ℕ → ℕ → ℕ
 rank_of ranks ns i = rank_at ranks (slice_index_or ns i 0)
 
+-- those of the numbers of a row
+abbrev pub ranks_in : List ℕ → List ℕ → List ℕ
+ranks_in ranks ns = rank_of ranks ns 0 ∷ rank_of ranks ns 1 ∷ rank_of ranks ns 2 ∷ rank_of ranks ns 3 ∷ rank_of ranks ns 4 ∷ []
+
 -- those of a state's parts, by the ranks of memories, of threads and of histories
 abbrev pub row_by : List ℕ → List ℕ → List ℕ → Key → Row
 row_by memories threads histories k = record {
   memory = rank_at memories k.memory;
-  threads = rank_of threads k.threads 0 ∷ rank_of threads k.threads 1 ∷ rank_of threads k.threads 2 ∷ rank_of threads k.threads 3 ∷ rank_of threads k.threads 4 ∷ [];
+  threads = ranks_in threads k.threads;
   history = rank_at histories k.history;
 }
 

@@ -5,11 +5,10 @@ ghost use Rattle.tso_parts.specs.declared.refused.Refused.TheVariants as reasons
 ghost use Rattle.tso_store.specs.Keys.{FitsClient, Grows, HasNoKey, IsKeyOf, part_count};
 ghost use Rattle.tso_store.specs.Numbers.{AreNumbersOf, HasNoRow};
 
-use crate::key::{Key, NONE};
+use crate::key::{Key, NO_KEY, NONE};
 use crate::parts::Parts;
 use std::hash::Hash;
-use tso_hist::History;
-use tso_list::{Exact, Seq};
+use tso_list::Exact;
 use tso_machine::thread_count;
 use tso_parts::{Catalog, Like, Refused};
 use tso_prog::Client;
@@ -40,77 +39,52 @@ pub fn find_near<T: Exact + Hash, L: Like<T>>(
     catalog.find(like)
 }
 
-/// The number of a memory, which is kept if it is new. It is looked for at the number `near` first.
-pub fn add_memory(
-    memories: &mut Catalog<Seq<u64>>,
+/// The number of a value, which is kept if it is new. It is looked for at the number `near` first.
+pub fn add_near<T: Exact + Hash + Clone + Drop>(
+    catalog: &mut Catalog<T>,
     near: u32,
-    memory: &Seq<u64>,
+    item: &T,
 ) -> Result<u32, Refused>
-    ensures number { IfOk result (λ n. slice_get memories.new n ≡ Some memory.now) }
-    ensures extends { Extends memories.old memories.new }
-    ensures more { length memories.new ≤ length memories.old + 1 }
-    ensures full { result ≡ Err reasons.Full → 4294967295 ≤ length memories.new }
-    ensures absent { OnErr result (IsNowhere memories.old memory.now) }
+    requires copied { (x y : T) → T.is_clone x y → y ≡ x }
+    ensures number { IfOk result (λ n. slice_get catalog.new n ≡ Some item.now) }
+    ensures extends { Extends catalog.old catalog.new }
+    ensures small { length catalog.old < 2 ^ 32 → length catalog.new < 2 ^ 32 }
+    ensures more { length catalog.new ≤ length catalog.old + 1 }
+    ensures full { result ≡ Err reasons.Full → 4294967295 ≤ length catalog.new }
+    ensures absent { OnErr result (IsNowhere catalog.old item.now) }
 {
-    if let Some(number) = find_near(memories, near, memory) {
+    if let Some(number) = find_near(catalog, near, item) {
         return Ok(number);
     }
-    let copy = memory.clone()?;
-    let (number, _) = memories.add(copy)?;
+    let copy = item.clone()?;
+    let (number, _) = catalog.add(copy)?;
     Ok(number)
 }
 
-/// The number of a history, which is kept if it is new. It is looked for at the number `near` first.
-pub fn add_history(
-    histories: &mut Catalog<History>,
-    near: u32,
-    history: &History,
-) -> Result<u32, Refused>
-    ensures number { IfOk result (λ n. slice_get histories.new n ≡ Some history.now) }
-    ensures extends { Extends histories.old histories.new }
-    ensures more { length histories.new ≤ length histories.old + 1 }
-    ensures full { result ≡ Err reasons.Full → 4294967295 ≤ length histories.new }
-    ensures absent { OnErr result (IsNowhere histories.old history.now) }
-{
-    if let Some(number) = find_near(histories, near, history) {
-        return Ok(number);
-    }
-    let copy = history.clone()?;
-    let (number, _) = histories.add(copy)?;
-    Ok(number)
+/// The number at a place of a row; that of nothing past its end.
+pub fn number_at(row: &[u32; 5], place: usize) -> u32 {
+    row.get(place).copied().unwrap_or(NONE)
 }
 
-/// The number of a thread, which is kept if it is new. It is looked for at the number `near` first.
-pub fn add_thread(threads: &mut Catalog<Thread>, near: u32, thread: &Thread) -> Result<u32, Refused>
-    ensures number { IfOk result (λ n. slice_get threads.new n ≡ Some thread.now) }
-    ensures extends { Extends threads.old threads.new }
-    ensures small { length threads.old < 2 ^ 32 → length threads.new < 2 ^ 32 }
-    ensures more { length threads.new ≤ length threads.old + 1 }
-    ensures full { result ≡ Err reasons.Full → 4294967295 ≤ length threads.new }
-    ensures absent { OnErr result (IsNowhere threads.old thread.now) }
-{
-    if let Some(number) = find_near(threads, near, thread) {
-        return Ok(number);
-    }
-    let copy = thread.clone()?;
-    let (number, _) = threads.add(copy)?;
-    Ok(number)
-}
-
-// The numbers of threads, which are kept where they are new.
-fn add_threads(threads: &mut Catalog<Thread>, all: &[Thread]) -> Result<[u32; 5], Refused>
-    requires { length all.now ≤ 5 }
-    ensures numbers { IfOk result (λ ns. AreNumbersOf threads.new ns all.now) }
-    ensures extends { Extends threads.old threads.new }
-    ensures small { length threads.old < 2 ^ 32 → length threads.new < 2 ^ 32 }
+/// The numbers of values, which are kept where they are new. Each is looked for at its place among `near` first.
+pub fn add_row<T: Exact + Hash + Clone + Drop>(
+    catalog: &mut Catalog<T>,
+    near: &[u32; 5],
+    all: &[T],
+) -> Result<[u32; 5], Refused>
+    requires few { length all.now ≤ 5 }
+    requires copied { (x y : T) → T.is_clone x y → y ≡ x }
+    ensures numbers { IfOk result (λ ns. AreNumbersOf catalog.new ns all.now) }
+    ensures extends { Extends catalog.old catalog.new }
+    ensures small { length catalog.old < 2 ^ 32 → length catalog.new < 2 ^ 32 }
     ensures wide { IfOk result (λ ns. length ns ≡ 5) }
-    ensures more { length threads.new ≤ length threads.old + 5 }
-    ensures full { result ≡ Err reasons.Full → 4294967295 ≤ length threads.new }
-    ensures absent { OnErr result (HasNoRow threads.old all.now) }
+    ensures more { length catalog.new ≤ length catalog.old + 5 }
+    ensures full { result ≡ Err reasons.Full → 4294967295 ≤ length catalog.new }
+    ensures absent { OnErr result (HasNoRow catalog.old all.now) }
 {
     let mut numbers = [NONE; 5];
     for i in 0..all.len() {
-        let number = add_thread(threads, NONE, &all[i])?;
+        let number = add_near(catalog, number_at(near, i), &all[i])?;
         numbers[i] = number;
     }
     Ok(numbers)
@@ -125,9 +99,13 @@ pub fn key_of(parts: &mut Parts, state: &State) -> Result<Key, Refused>
     ensures full { result ≡ Err reasons.Full → 4294967295 ≤ part_count parts.new }
     ensures absent { OnErr result (HasNoKey parts.old state.now) }
 {
-    let memory = add_memory(&mut parts.memories, NONE, &state.memory)?;
-    let history = add_history(&mut parts.histories, NONE, &state.history)?;
-    let threads = add_threads(&mut parts.threads, state.threads.as_slice())?;
+    let memory = add_near(&mut parts.memories, NONE, &state.memory)?;
+    let history = add_near(&mut parts.histories, NONE, &state.history)?;
+    let threads = add_row(
+        &mut parts.threads,
+        &NO_KEY.threads,
+        state.threads.as_slice(),
+    )?;
     Ok(Key {
         memory,
         history,

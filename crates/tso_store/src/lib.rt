@@ -2,6 +2,7 @@
 #![tactic(auto)]
 
 mod fault;
+mod forms;
 mod gathered;
 mod history_after;
 mod kept;
@@ -26,6 +27,7 @@ mod view;
 mod viewed_key;
 
 pub use fault::AddError;
+pub use forms::Forms;
 pub use gathered::Gathered;
 pub use key::{Key, NO_KEY, NONE};
 pub use lone::Lone;

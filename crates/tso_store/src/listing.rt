@@ -4,28 +4,20 @@ ghost use Rattle.std.specs.Cmp.Lexicographic.{slice_cmp};
 ghost use Rattle.std.specs.Option.{option_cmp};
 ghost use Rattle.std.specs.Ordering.{nat_cmp};
 ghost use Rattle.std.specs.Prelude.{◌≡◌, ◌<◌, ◌≤◌, ◌^◌, ℕ, IfOk, IfSome, Some, length, slice_get};
-ghost use Rattle.tso_parts.specs.Numbers.{Extends, IsNumbered};
-ghost use Rattle.tso_store.specs.Listing.{AreListed, history_cmp, ranks_in};
-ghost use Rattle.tso_store.specs.Numbers.{AreNumbersOf};
-ghost use Rattle.tso_store.specs.Orders.{AreRanks, IsInOrder};
+ghost use Rattle.tso_parts.specs.Numbers.{IsNumbered};
+ghost use Rattle.tso_store.specs.Listing.{AreListed};
+ghost use Rattle.tso_store.specs.Orders.{AreRanks, IsInOrder, history_cmp, ranks_in};
 
-use crate::kept::find_near;
-use crate::key::NONE;
-use crate::rank_rows::rank_of;
+use crate::kept::add_row;
+use crate::key::NO_KEY;
+use crate::rank_rows::ranks_in;
 use crate::ranks::{all_numbers, places_in, ranks_of};
 use std::alloc::{AllocError, Global};
 use std::cmp::Ordering;
 use std::marker::Model;
-use std::thread::Threads;
 use tso_hist::{Call, History};
 use tso_list::Seq;
 use tso_parts::{Catalog, Refused};
-
-/// The numbers of a history's lists of calls.
-#[derive(Clone, Copy)]
-pub struct Listed {
-    pub lists: [u32; 5],
-}
 
 /// Histories of as many threads, by the numbers of their lists of calls, each of which is kept once and has a rank. Contracts see the
 /// histories.
@@ -34,7 +26,7 @@ struct Listing<'a> {
     histories: &'a [History],
     lists: Catalog<Seq<Call>>,
     ranks: Vec<u32>,
-    rows: Vec<Listed>,
+    rows: Vec<[u32; 5]>,
 }
 
 impl<'a> Model for Listing<'a> {
@@ -49,48 +41,11 @@ impl<'a> Model for Listing<'a> {
     ghost invariant = { λ l. IsListing l.lists l.ranks.items l.histories.now l.rows.items };
 }
 
-// The number of a list of calls, which is kept if it is new. It is looked for at the number `near` first.
-fn add_list(lists: &mut Catalog<Seq<Call>>, near: u32, list: &Seq<Call>) -> Result<u32, Refused>
-    ensures number { IfOk result (λ n. slice_get lists.new n ≡ Some list.now) }
-    ensures extends { Extends lists.old lists.new }
-{
-    if let Some(number) = find_near(lists, near, list) {
-        return Ok(number);
-    }
-    let copy = list.clone()?;
-    let (number, _) = lists.add(copy)?;
-    Ok(number)
-}
-
 // The row with this number.
-fn row_at(rows: &[Listed], number: u32) -> Option<Listed>
+fn row_at(rows: &[[u32; 5]], number: u32) -> Option<[u32; 5]>
     ensures { result ≡ slice_get rows.now number }
 {
     rows.get(number as usize).copied()
-}
-
-// The number at a place of a row.
-fn number_in(row: Listed, place: usize) -> u32 {
-    row.lists.as_slice().get(place).copied().unwrap_or(NONE)
-}
-
-// The row of a history with these lists. Each is looked for first at the number that the row `near` has for it.
-fn listed_row(
-    lists: &mut Catalog<Seq<Call>>,
-    near: Listed,
-    all: &[Seq<Call>],
-) -> Result<Listed, Refused>
-    requires { length all.now ≤ 5 }
-    ensures numbers { IfOk result (λ r. AreNumbersOf lists.new r.lists all.now) }
-    ensures wide { IfOk result (λ r. length r.lists ≡ 5) }
-    ensures extends { Extends lists.old lists.new }
-{
-    let mut numbers = [NONE; 5];
-    for i in 0..all.len() {
-        let number = add_list(lists, number_in(near, i), &all[i])?;
-        numbers[i] = number;
-    }
-    Ok(Listed { lists: numbers })
 }
 
 // The rows of these histories, whose lists are kept where they are new, if all have so many threads.
@@ -99,43 +54,29 @@ fn listed_rows(
     lists: &mut Catalog<Seq<Call>>,
     width: usize,
     histories: &[History],
-) -> Result<Option<Vec<Listed>>, Refused>
+) -> Result<Option<Vec<[u32; 5]>>, Refused>
     requires { width ≤ 5 }
     ensures { IfOk result (λ o. IfSome o (λ rows. AreListed lists.new width histories.now rows.items)) }
 {
     let mut rows = Vec::new(alloc);
-    let mut near = Listed { lists: [NONE; 5] };
+    let mut near = NO_KEY.threads;
     for history in histories {
         let all = history.threads();
         if all.len() != width {
             return Ok(None);
         }
-        near = listed_row(lists, near, all)?;
+        near = add_row(lists, &near, all)?;
         rows.push(near)?;
     }
     Ok(Some(rows))
 }
 
-// The ranks of a row's lists.
-fn ranks_in(ranks: &[u32], row: Listed) -> [u32; 5]
-    ensures { result ≡ ranks_in ranks.now row }
-{
-    let numbers = row.lists.as_slice();
-    [
-        rank_of(ranks, numbers, 0),
-        rank_of(ranks, numbers, 1),
-        rank_of(ranks, numbers, 2),
-        rank_of(ranks, numbers, 3),
-        rank_of(ranks, numbers, 4),
-    ]
-}
-
 // How two rows are ordered.
-fn compare_rows(ranks: &[u32], a: Listed, b: Listed) -> Ordering
+fn compare_rows(ranks: &[u32], a: [u32; 5], b: [u32; 5]) -> Ordering
     ensures { result ≡ slice_cmp nat_cmp (ranks_in ranks.now a) (ranks_in ranks.now b) }
 {
-    let first = ranks_in(ranks, a);
-    let second = ranks_in(ranks, b);
+    let first = ranks_in(ranks, &a);
+    let second = ranks_in(ranks, &b);
     first.as_slice().cmp(&second.as_slice())
 }
 
@@ -177,17 +118,16 @@ fn listed_order(alloc: Global, listing: &Listing<'_>) -> Result<Vec<u32>, AllocE
 }
 
 // These histories with their rows, whose lists are ranked.
-fn with_ranks<'a, R: Threads + Sync>(
-    rt: &R,
+fn with_ranks<'a>(
     alloc: Global,
     histories: &'a [History],
     lists: Catalog<Seq<Call>>,
-    rows: Vec<Listed>,
+    rows: Vec<[u32; 5]>,
 ) -> Result<Listing<'a>, AllocError>
     requires { (width : ℕ) × AreListed lists width histories.now rows.items }
     ensures { IfOk result (λ l. l ≡ histories.now) }
 {
-    match ranks_of(rt, alloc, 1, &lists) {
+    match ranks_of(alloc, &lists) {
         Ok(ranks) => Ok(Listing {
             histories,
             lists,
@@ -203,8 +143,7 @@ fn with_ranks<'a, R: Threads + Sync>(
 }
 
 // The histories by their lists, if all have as many threads, at most five.
-fn listing_of<'a, R: Threads + Sync>(
-    rt: &R,
+fn listing_of<'a>(
     alloc: Global,
     histories: &'a [History],
 ) -> Result<Option<Listing<'a>>, AllocError>
@@ -221,7 +160,7 @@ fn listing_of<'a, R: Threads + Sync>(
     let mut lists = Catalog::new(alloc, 0);
     match listed_rows(alloc, &mut lists, width, histories) {
         Ok(Some(rows)) => {
-            let listing = with_ranks(rt, alloc, histories, lists, rows)?;
+            let listing = with_ranks(alloc, histories, lists, rows)?;
             Ok(Some(listing))
         }
         Ok(None) | Err(Refused::Full) => {
@@ -253,17 +192,12 @@ fn ranks_by_lists(alloc: Global, listing: Listing<'_>, count: usize) -> Result<V
 /// are kept once and ranked, and histories are compared by these; else they are compared as they are.
 ///
 /// Errors: where a growth was refused.
-pub fn history_ranks<R: Threads + Sync>(
-    rt: &R,
-    alloc: Global,
-    workers: u64,
-    histories: &Catalog<History>,
-) -> Result<Vec<u32>, AllocError>
+pub fn history_ranks(alloc: Global, histories: &Catalog<History>) -> Result<Vec<u32>, AllocError>
     ensures { IfOk result (λ rs. AreRanks history_cmp histories.now rs.items) }
 {
     histories.is_numbered();
-    match listing_of(rt, alloc, histories.values())? {
+    match listing_of(alloc, histories.values())? {
         Some(listing) => ranks_by_lists(alloc, listing, histories.len()),
-        None => ranks_of(rt, alloc, workers, histories),
+        None => ranks_of(alloc, histories),
     }
 }

@@ -7,6 +7,7 @@ ghost use Rattle.tso_store.specs.Moving.{ArePartNumbersIn, moved_number, moved_a
 ghost use Rattle.tso_store.specs.Numbers.{AreNumbersOf};
 ghost use Rattle.tso_store.specs.Unions.{IsGrownBy, IsThere, IsUnion, IsWithinUnion};
 
+use crate::kept::add_near;
 use crate::key::{Key, NONE};
 use crate::parts::Parts;
 use crate::ranking::key_at;
@@ -21,26 +22,6 @@ pub struct PartNumbers {
     pub memories: Seq<u32>,
     pub histories: Seq<u32>,
     pub threads: Seq<u32>,
-}
-
-// The number of a value, which is copied and kept if it is new.
-fn add_copy<T: Exact + Hash + Clone + Drop>(
-    catalog: &mut Catalog<T>,
-    item: &T,
-) -> Result<u32, Refused>
-    requires copied { (x y : T) → T.is_clone x y → y ≡ x }
-    ensures number { IfOk result (λ n. slice_get catalog.new n ≡ Some item.now) }
-    ensures extends { Extends catalog.old catalog.new }
-    ensures small { length catalog.old < 2 ^ 32 → length catalog.new < 2 ^ 32 }
-    ensures more { length catalog.new ≤ length catalog.old + 1 }
-    ensures full { result ≡ Err reasons.Full → 4294967295 ≤ length catalog.new }
-{
-    if let Some(number) = catalog.find(item) {
-        return Ok(number);
-    }
-    let copy = item.clone()?;
-    let (number, _) = catalog.add(copy)?;
-    Ok(number)
 }
 
 // The numbers of values, which are copied and kept where they are new.
@@ -59,7 +40,7 @@ fn add_copies<T: Exact + Hash + Clone + Drop>(
 {
     let mut numbers = Seq::new(alloc);
     for i in 0..items.len() {
-        let number = add_copy(catalog, &items[i])?;
+        let number = add_near(catalog, NONE, &items[i])?;
         numbers.push(number)?;
     }
     Ok(numbers)

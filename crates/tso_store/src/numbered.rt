@@ -2,6 +2,7 @@
 ghost use Rattle.std.specs.Prelude.{◌≡◌, ◌↔◌, ◌+◌, ◌<◌, ◌≤◌, ◌^◌, List, [], length, Some, None, Err, IfOk, OnErr, OnOk, IfSome, MatchOption, slice_get};
 ghost use Rattle.tso_parts.specs.Numbers.{IsNumbered, IsNowhere};
 ghost use Rattle.tso_parts.specs.declared.refused.Refused.TheVariants as reasons;
+ghost use Rattle.tso_store.specs.Forms.{AreForms};
 ghost use Rattle.tso_store.specs.Keys.{AreKept, FitsClient, part_count, states_at};
 ghost use Rattle.tso_store.specs.Lone.{HasNoLoneAt, IsLoneAt};
 ghost use Rattle.tso_store.specs.Orders.{AreRowsOf, IsCompared};
@@ -10,6 +11,7 @@ ghost use Rattle.tso_store.specs.Unions.{IsUnion, IsWithinUnion};
 ghost use Rattle.tso_store.specs.declared.fault.AddError.TheVariants as errors;
 
 use crate::fault::AddError;
+use crate::forms::{Forms, forms_of};
 use crate::kept::{find_key, fits_client, key_of};
 use crate::key::Key;
 use crate::known::{Known, learn_runs};
@@ -28,7 +30,6 @@ use crate::viewed_key::{find_view_key, key_of_view, view_fits_client};
 use std::alloc::{AllocError, Global};
 use std::cmp::Ordering;
 use std::marker::Model;
-use std::thread::Threads;
 use tso_flow::Checked;
 use tso_list::Seq;
 use tso_parts::{Pool, Refused};
@@ -102,7 +103,7 @@ impl<'a> Store<'a> {
         ensures fits { IfSome result (FitsClient self.now.client) }
     {
         match self.keys.get(number) {
-            Some(key) => View::of_key(&self.parts, key),
+            Some(key) => View::of_key(&self.parts, &self.running, key),
             None => None,
         }
     }
@@ -288,8 +289,8 @@ impl<'a> Store<'a> {
         learn_runs(&self.checked.client, &self.parts.threads, &mut self.known)
     }
 
-    /// Remembers which calls the threads of kept states are in, so that `lone` looks at no history, in a store that no `successor`
-    /// filled. The states stay.
+    /// Remembers which calls the threads of kept states are in, and how many they have begun, so that neither `lone` nor a view that
+    /// is asked for them looks at a history, in a store that no `successor` filled. The states stay.
     ///
     /// Errors: where a growth was refused.
     pub fn learn_running(&mut self) -> Result<(), AllocError>
@@ -337,24 +338,32 @@ impl<'a> Store<'a> {
     }
 
     /// The rows of ranks of all states, which are ordered as these. Each memory, thread and history is ranked among its kind, histories
-    /// by the ranks of their lists of calls, by one thread, or, where there are to be several workers, by all processors.
+    /// by the ranks of their lists of calls.
     ///
     /// Errors: where a growth was refused.
-    pub fn standings<R: Threads + Sync>(
-        &self,
-        rt: &R,
-        alloc: Global,
-        workers: u64,
-    ) -> Result<Standings<'_>, AllocError>
+    pub fn standings(&self, alloc: Global) -> Result<Standings<'_>, AllocError>
         ensures { IfOk result (AreRowsOf self.now.states) }
     {
-        let memories = ranks_of(rt, alloc, workers, &self.parts.memories)?;
-        let threads = ranks_of(rt, alloc, workers, &self.parts.threads)?;
-        let histories = history_ranks(rt, alloc, workers, &self.parts.histories)?;
+        let memories = ranks_of(alloc, &self.parts.memories)?;
+        let threads = ranks_of(alloc, &self.parts.threads)?;
+        let histories = history_ranks(alloc, &self.parts.histories)?;
         Ok(Standings {
             keys: &self.keys,
             memories,
             threads,
+            histories,
+        })
+    }
+
+    /// For each state whether its history fits the client, which is asked once for each history.
+    ///
+    /// Errors: where a growth was refused.
+    pub fn forms(&self, alloc: Global) -> Result<Forms<'_>, AllocError>
+        ensures { IfOk result (AreForms self.now.client self.now.states) }
+    {
+        let histories = forms_of(alloc, self.checked, &self.parts.histories)?;
+        Ok(Forms {
+            keys: &self.keys,
             histories,
         })
     }

@@ -3,11 +3,9 @@ ghost use Rattle.std.specs.Prelude.{◌≡◌, ◌<◌, ◌^◌, ℕ, length, If
 ghost use Rattle.std.specs.Option.{option_cmp};
 ghost use Rattle.tso_store.specs.Orders.{AreRanks, HasPlace, IsInOrder, numbers_below};
 
-use rayon::prelude::par_sort_unstable_by;
 use std::alloc::{AllocError, Global};
 use std::cmp::Ordering;
 use std::hash::Hash;
-use std::thread::Threads;
 use tso_list::Exact;
 use tso_parts::Catalog;
 
@@ -48,22 +46,11 @@ fn compare_at<T: Exact + Ord + Hash>(pool: &Catalog<T>, a: u32, b: u32) -> Order
 }
 
 // The numbers of all values, in the order of the values.
-fn in_order<R: Threads + Sync, T: Exact + Ord + Hash + Send + Sync>(
-    rt: &R,
-    alloc: Global,
-    workers: u64,
-    pool: &Catalog<T>,
-) -> Result<Vec<u32>, AllocError>
+fn in_order<T: Exact + Ord + Hash>(alloc: Global, pool: &Catalog<T>) -> Result<Vec<u32>, AllocError>
     ensures order { IfOk result (λ ns. IsInOrder T.cmp pool.now ns.items) }
     ensures few { IfOk result (λ ns. length ns.items < 2 ^ 32) }
 {
     let mut numbers = all_numbers(alloc, pool.len())?;
-    if workers > 1 {
-        par_sort_unstable_by(rt, numbers.as_mut_slice(), |a: &u32, b: &u32| {
-            compare_at(pool, *a, *b)
-        });
-        return Ok(numbers);
-    }
     numbers.sort_by(|a: &u32, b: &u32| compare_at(pool, *a, *b))?;
     Ok(numbers)
 }
@@ -91,18 +78,17 @@ pub fn places_in(alloc: Global, order: &[u32], count: usize) -> Result<Vec<u32>,
     Ok(ranks)
 }
 
-/// For each number of a value its rank: its place among the numbers in the order of their values. Where there are to be several
-/// workers, all processors put them in order.
-pub fn ranks_of<R: Threads + Sync, T: Exact + Ord + Hash + Send + Sync>(
-    rt: &R,
+/// For each number of a value its rank: its place among the numbers in the order of their values.
+///
+/// Errors: where a growth was refused.
+pub fn ranks_of<T: Exact + Ord + Hash>(
     alloc: Global,
-    workers: u64,
     pool: &Catalog<T>,
 ) -> Result<Vec<u32>, AllocError>
     ensures { IfOk result (λ rs. AreRanks T.cmp pool.now rs.items) }
 {
     pool.is_numbered();
-    let order = in_order(rt, alloc, workers, pool)?;
+    let order = in_order(alloc, pool)?;
     let ranks = places_in(alloc, order.as_slice(), pool.len())?;
     Ok(ranks)
 }

@@ -1,34 +1,39 @@
-//! Which calls threads are in, by the numbers of histories.
+//! Which calls threads are in, and how many they have begun, by the numbers of histories.
 
-ghost use Rattle.std.specs.Prelude.{◌≡◌, IfOk, IfSome, Some, [], length, slice_get, slice_index_or};
-ghost use Rattle.tso_store.specs.Running.{AreRunning, procedure_in, procedures_in};
+ghost use Rattle.std.specs.Prelude.{◌≡◌, ◌<◌, ◌≤◌, IfSome, OnOk, Some, [], length, slice_get, slice_index_or};
+ghost use Rattle.tso_store.specs.Running.{AreRunning, IsRemembered, IsRunningOf, count_in, procedure_in};
 
 use std::alloc::AllocError;
-use tso_compact::running_procedure;
 use tso_flow::ProcedureKind;
 use tso_hist::History;
 use tso_list::Seq;
 use tso_parts::Catalog;
+use tso_state::{begun_calls, running_procedure};
 
-/// For each thread of a history the procedure that its last call runs.
+/// For each thread of a history the procedure that its last call runs, and how many of its calls have begun, as far as a byte counts.
 #[derive(Clone, Copy)]
 pub struct Running {
     pub procedures: [ProcedureKind; 5],
+    pub begun: [u8; 5],
 }
 
 // The procedure that the last call of this thread runs; a pop where there is none.
 fn procedure_in(history: &History, thread: usize) -> ProcedureKind
     ensures { result ≡ procedure_in history.now thread }
 {
-    match history.threads().get(thread) {
-        Some(calls) => running_procedure(calls.as_slice()),
-        None => ProcedureKind::Pop,
-    }
+    running_procedure(begun_calls(history, thread))
+}
+
+// How many calls of this thread have begun; 255 where there are more.
+fn count_in(history: &History, thread: usize) -> u8
+    ensures { result ≡ count_in history.now thread }
+{
+    u8::try_from(begun_calls(history, thread).len()).unwrap_or(u8::MAX)
 }
 
 // What runs by this history.
 fn running_in(history: &History) -> Running
-    ensures { result.procedures ≡ procedures_in history.now }
+    ensures { IsRunningOf history.now result }
 {
     Running {
         procedures: [
@@ -38,18 +43,14 @@ fn running_in(history: &History) -> Running
             procedure_in(history, 3),
             procedure_in(history, 4),
         ],
+        begun: [
+            count_in(history, 0),
+            count_in(history, 1),
+            count_in(history, 2),
+            count_in(history, 3),
+            count_in(history, 4),
+        ],
     }
-}
-
-// Remembers what runs by the first history of which it is not known.
-fn learn_next(histories: &Catalog<History>, running: &mut Seq<Running>) -> Result<(), AllocError>
-    requires { AreRunning histories.now running.old }
-    ensures { AreRunning histories.now running.new }
-{
-    if let Some(history) = histories.values().get(running.len()) {
-        running.push(running_in(history))?;
-    }
-    Ok(())
 }
 
 /// Remembers what runs by each history of which it is not known.
@@ -60,39 +61,70 @@ pub fn learn_running(
     running: &mut Seq<Running>,
 ) -> Result<(), AllocError>
     requires { AreRunning histories.now running.old }
-    ensures { AreRunning histories.now running.new }
+    ensures known { AreRunning histories.now running.new }
+    ensures all { OnOk result (length histories.now ≤ length running.new) }
 {
-    for _ in running.len()..histories.len() {
-        learn_next(histories, running)?;
+    for number in running.len()..histories.len() {
+        let Some(history) = histories.values().get(number) else {
+            unreachable!();
+        };
+        running.push(running_in(history))?;
     }
     Ok(())
 }
 
-// That of this thread, of which there may be none.
+// The procedure of this thread, of which there may be none.
 fn procedure_of(running: Running, thread: usize) -> Option<ProcedureKind>
     ensures { result ≡ slice_get running.procedures thread }
 {
     running.procedures.as_slice().get(thread).copied()
 }
 
-// What is remembered of a thread.
-fn remembered(
-    histories: &Catalog<History>,
-    running: &Seq<Running>,
-    number: u32,
-    thread: usize,
-) -> Option<ProcedureKind>
-    requires { AreRunning histories.now running.now }
-    ensures { IfSome result (λ p. p ≡ procedure_in (slice_index_or histories.now number []) thread) }
+// How many calls of this thread have begun, if a byte tells it.
+fn count_of(running: Running, thread: usize) -> Option<usize>
+    ensures { IfSome result (λ n. (slice_get running.begun thread ≡ Some n) × (n < 255)) }
 {
-    match running.get(number as usize) {
-        Some(found) => procedure_of(*found, thread),
-        None => None,
+    let count = running.begun.as_slice().get(thread).copied()?;
+    if count < u8::MAX {
+        Some(count as usize)
+    } else {
+        None
     }
 }
 
-/// The procedure that the last call of a thread runs in a kept history. What is remembered of it tells it, so that the history is
-/// not looked at, or else the history does.
+/// The procedure that the last call of a thread runs in the history with this number. What is remembered of it tells it, so that the
+/// history is not looked at, or else the history does.
+pub fn procedure_by(
+    running: &Seq<Running>,
+    number: u32,
+    history: &History,
+    thread: usize,
+) -> ProcedureKind
+    requires { IsRemembered history.now running.now number }
+    ensures { result ≡ procedure_in history.now thread }
+{
+    if let Some(found) = running.get(number as usize) {
+        if let Some(procedure) = procedure_of(*found, thread) {
+            return procedure;
+        }
+    }
+    procedure_in(history, thread)
+}
+
+/// How many calls of a thread have begun in the history with this number. What is remembered of it tells it, or else the history does.
+pub fn begun_by(running: &Seq<Running>, number: u32, history: &History, thread: usize) -> usize
+    requires { IsRemembered history.now running.now number }
+    ensures { result ≡ length (slice_index_or history.now thread []) }
+{
+    if let Some(found) = running.get(number as usize) {
+        if let Some(count) = count_of(*found, thread) {
+            return count;
+        }
+    }
+    begun_calls(history, thread).len()
+}
+
+/// The procedure that the last call of a thread runs in a kept history.
 pub fn procedure_at(
     histories: &Catalog<History>,
     running: &Seq<Running>,
@@ -103,11 +135,8 @@ pub fn procedure_at(
     requires running { AreRunning histories.now running.now }
     ensures { result ≡ procedure_in (slice_index_or histories.now number []) thread }
 {
-    if let Some(procedure) = remembered(histories, running, number, thread) {
-        return procedure;
-    }
     match histories.get(number) {
-        Some(history) => procedure_in(history, thread),
+        Some(history) => procedure_by(running, number, history, thread),
         None => ProcedureKind::Pop,
     }
 }

@@ -22,7 +22,7 @@ use crate::parts::Parts;
 use crate::running::{Running, procedure_at};
 use crate::view::View;
 use std::alloc::Global;
-use tso_compact::{Motion, begun_calls, history_after, memory_with, planned, word_read, written};
+use tso_compact::{Motion, history_after, memory_with, planned, word_read, written};
 use tso_hist::History;
 use tso_list::Seq;
 use tso_machine::Entry;
@@ -101,12 +101,19 @@ pub fn own_number(key: &Key, thread: usize) -> Option<u32>
 }
 
 // What the actor does in a kept state, found from the state.
-fn planned_at(client: &Client, parts: &Parts, key: &Key, actor: Actor) -> Option<Motion>
+fn planned_at(
+    client: &Client,
+    parts: &Parts,
+    running: &Seq<Running>,
+    key: &Key,
+    actor: Actor,
+) -> Option<Motion>
     requires kept { IsKept client.now parts.now key.now }
     requires small { length parts.now.threads < 2 ^ 32 }
+    requires running { AreRunning parts.now.histories running.now }
     ensures { MatchOption result (HasStep client.now (state_at parts.now key.now) actor → ⊥) (IsPlanned client.now (state_at parts.now key.now) actor) }
 {
-    match View::of_key(parts, key) {
+    match View::of_key(parts, running, key) {
         Some(view) => planned(client, &view, actor),
         None => None,
     }
@@ -153,9 +160,9 @@ pub fn plan(
     match actor {
         Actor::Exec(thread) => match known_plan(client, parts, known, running, key, thread, own) {
             Some(motion) => Some(motion),
-            None => planned_at(client, parts, key, actor),
+            None => planned_at(client, parts, running, key, actor),
         },
-        Actor::Drain(_) => planned_at(client, parts, key, actor),
+        Actor::Drain(_) => planned_at(client, parts, running, key, actor),
     }
 }
 

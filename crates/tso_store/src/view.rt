@@ -1,21 +1,33 @@
 //! A kept state, read where it is kept.
 ghost use Rattle.std.specs.Prelude.{◌≡◌, ◌↔◌, IfOk, IsTrue, slice_get};
-ghost use Rattle.tso_store.specs.Numbers.{values_at};
+ghost use Rattle.tso_store.specs.Numbers.{count_kept, values_at};
 
-use crate::key::Key;
+use crate::key::{Key, NONE};
 use crate::parts::Parts;
+use crate::running::{Running, begun_by, procedure_by};
 use std::alloc::{AllocError, Global};
 use std::marker::Model;
+use tso_flow::ProcedureKind;
 use tso_hist::{Call, History};
 use tso_list::{Seq, is_same};
 use tso_parts::Catalog;
 use tso_state::{State, Thread, Viewed};
 
-/// A kept state. Contracts see the state.
+// How many of these are numbers of something.
+fn count_kept(numbers: &[u32]) -> usize
+    ensures { result ≡ count_kept numbers.now }
+{
+    numbers.iter().filter(|number| **number != NONE).count()
+}
+
+/// A kept state. Contracts see the state. How many threads there are, which calls they are in, and how many they have begun is told
+/// without a look at its history, where that is remembered.
 #[derive(Drop)]
 pub struct View<'a> {
     memory: &'a Seq<u64>,
     history: &'a History,
+    running: &'a Seq<Running>,
+    number: u32,
     threads: &'a Catalog<Thread>,
     numbers: [u32; 5],
 }
@@ -25,12 +37,13 @@ impl<'a> Model for View<'a> {
     ghost use Rattle.tso_state.specs.declared.state.State.{State as StateValue};
     ghost use Rattle.tso_store.specs.Numbers.{values_at};
     ghost use Rattle.tso_store.specs.Keys.{IsViewed};
+    ghost use Rattle.tso_store.specs.Running.{IsRemembered};
 
     ghost Value = { StateValue };
 
     ghost view = { λ v. record { memory = v.memory.now; threads = values_at v.threads.now v.numbers; history = v.history.now } };
 
-    ghost invariant = { λ v. IsViewed v.threads.now v.numbers v.history.now };
+    ghost invariant = { λ v. IsViewed v.threads.now v.numbers v.history.now × IsRemembered v.history.now v.running.now v.number };
 }
 
 impl<'a> Viewed for View<'a> {
@@ -41,7 +54,7 @@ impl<'a> Viewed for View<'a> {
     }
 
     fn thread_count(&self) -> usize {
-        self.history.threads().len()
+        count_kept(self.numbers.as_slice())
     }
 
     fn thread(&self, number: usize) -> Option<&Thread> {
@@ -51,13 +64,25 @@ impl<'a> Viewed for View<'a> {
         }
     }
 
+    fn history(&self) -> &History {
+        self.history
+    }
+
     fn history_count(&self) -> usize {
-        self.history.threads().len()
+        count_kept(self.numbers.as_slice())
     }
 
     fn calls(&self, number: usize) -> Option<&[Call]> {
         let calls = self.history.threads().get(number)?;
         Some(calls.as_slice())
+    }
+
+    fn begun(&self, number: usize) -> usize {
+        begun_by(self.running, self.number, self.history, number)
+    }
+
+    fn procedure(&self, number: usize) -> ProcedureKind {
+        procedure_by(self.running, self.number, self.history, number)
     }
 }
 
@@ -65,13 +90,7 @@ impl<'a> View<'a> {
     ghost use Rattle.std.specs.Prelude.{◌^◌, ◌<◌, ◌↔◌, IsTrue, Some, length};
     ghost use Rattle.tso_store.specs.Keys.{IsKept, state_at};
     ghost use Rattle.tso_prog.specs.declared.client.Client.{Client};
-
-    /// The calls of all threads.
-    pub fn history(&self) -> &History
-        ensures { result.now ≡ self.now.history }
-    {
-        self.history
-    }
+    ghost use Rattle.tso_store.specs.Running.{AreRunning};
 
     /// The words of its memory.
     pub fn words(&self) -> &Seq<u64>
@@ -94,9 +113,10 @@ impl<'a> View<'a> {
     }
 
     /// The state of a key, where it is kept.
-    pub(crate) fn of_key(parts: &'a Parts, key: &Key) -> Option<View<'a>>
+    pub(crate) fn of_key(parts: &'a Parts, running: &'a Seq<Running>, key: &Key) -> Option<View<'a>>
         requires kept { (c : Client) × IsKept c parts.now key.now }
         requires small { length parts.now.threads < 2 ^ 32 }
+        requires running { AreRunning parts.now.histories running.now }
         ensures { result ≡ Some (state_at parts.now key.now) }
     {
         let memory = parts.memories.get(key.memory)?;
@@ -104,6 +124,8 @@ impl<'a> View<'a> {
         Some(View {
             memory,
             history,
+            running,
+            number: key.history,
             threads: &parts.threads,
             numbers: key.threads,
         })

@@ -5,7 +5,7 @@ ghost use Rattle.tso_parts.specs.declared.refused.Refused.TheVariants as reasons
 ghost use Rattle.tso_store.specs.Keys.{FitsClient, Grows, HasNoKey, IsKeyOf, part_count};
 ghost use Rattle.tso_store.specs.Numbers.{AreNumbersOf, HasNoRow};
 
-use crate::kept::{add_history, add_memory, add_thread, find_near};
+use crate::kept::{add_near, find_near, number_at};
 use crate::key::{Key, NONE};
 use crate::parts::Parts;
 use crate::view::View;
@@ -41,11 +41,10 @@ fn add_viewed(
 {
     let mut numbers = [NONE; 5];
     for i in 0..view.thread_count() {
-        let at = near.get(i).copied().unwrap_or(NONE);
         let Some(thread) = view.thread(i) else {
             unreachable!();
         };
-        let number = add_thread(threads, at, thread)?;
+        let number = add_near(threads, number_at(near, i), thread)?;
         numbers[i] = number;
     }
     Ok(numbers)
@@ -60,8 +59,8 @@ pub fn key_of_view(parts: &mut Parts, near: &Key, view: &View<'_>) -> Result<Key
     ensures full { result ≡ Err reasons.Full → 4294967295 ≤ part_count parts.new }
     ensures absent { OnErr result (HasNoKey parts.old view.now) }
 {
-    let memory = add_memory(&mut parts.memories, near.memory, view.words())?;
-    let history = add_history(&mut parts.histories, near.history, view.history())?;
+    let memory = add_near(&mut parts.memories, near.memory, view.words())?;
+    let history = add_near(&mut parts.histories, near.history, view.history())?;
     let threads = add_viewed(&mut parts.threads, &near.threads, view)?;
     Ok(Key {
         memory,
@@ -79,11 +78,10 @@ fn find_viewed(threads: &Catalog<Thread>, near: &[u32; 5], view: &View<'_>) -> O
 {
     let mut numbers = [NONE; 5];
     for i in 0..view.thread_count() {
-        let at = near.get(i).copied().unwrap_or(NONE);
         let Some(thread) = view.thread(i) else {
             unreachable!();
         };
-        let Some(number) = find_near(threads, at, thread) else {
+        let Some(number) = find_near(threads, number_at(near, i), thread) else {
             return None;
         };
         numbers[i] = number;

@@ -16,14 +16,13 @@ use crate::order::most_items;
 use crate::round::{Rounds, first_written, is_filled};
 use std::alloc::{AllocError, Global};
 use tso_cert::Cert;
-use tso_compact::running_procedure;
 use tso_flow::ProcedureKind;
 use tso_hist::Call;
 use tso_list::Seq;
 use tso_machine::Frame;
 use tso_prog::Client;
 use tso_rec::{End, Packed};
-use tso_state::{Core, State, Thread};
+use tso_state::{Core, State, Thread, running_procedure};
 
 /// Whether calls were refused.
 #[derive(Clone, Copy, PartialEq, Eq)]

@@ -4,7 +4,6 @@ use std::alloc::{AllocError, Global};
 use std::fmt;
 use tso_cells::{Interval, IntervalTable, register_number, registers_at};
 use tso_cert::{Cert, decode};
-use tso_compact::{begun_calls, running_procedure};
 use tso_flow::{LOCATIONS, Location, ProcedureKind};
 use tso_foot::Table;
 use tso_line::register_word;
@@ -62,7 +61,7 @@ fn thread_outside(table: &IntervalTable, state: &State, thread: usize) -> Option
     let Core::Running(frame) = &state.thread(thread)?.core else {
         return None;
     };
-    let procedure = running_procedure(begun_calls(state, thread));
+    let procedure = state.procedure(thread);
     let intervals = registers_at(table.items(procedure), frame.pc);
     let register = register_outside(&intervals, frame)?;
     Some(Outside {

@@ -19,4 +19,4 @@ pub returns : goal.returns
 returns g c = valid_up_to c.args.checked.now.client c.args.scanned.now c.requires.stored c.args.from c.args.to c.loop-number.number c.loop-number-test.false c.loop-number.invariant
 
 pub judge_number-requires : goal.judge_number-requires
-judge_number-requires g c = c.requires.stored.client
+judge_number-requires g c = record { client = c.requires.stored.client; forms = c.requires.forms }

@@ -1,7 +1,4 @@
-use Rattle.std.proofs.Common.{◌≡◌, ◌∙◌, ap}
 use Rattle.tso_compact.proofs.PlanLemmas.{IsCoreMotion, IsDrainMotion, drain_plan, exec_plan, no_plan}
-use Rattle.tso_compact.specs.Plans.{procedure_in}
-use Rattle.tso_state.specs.Views.{running_procedure}
 use Rattle.tso_compact.proofs.plan.planned.Goals as goal
 
 pub returns-in_err-thread-clause-is : goal.returns-in_err-thread-clause-is
@@ -11,11 +8,10 @@ returns-in_err-thread-clause-is g c =
 pub returns-in-Exec : goal.returns-in-Exec
 returns-in-Exec g c =
     let s = g.S.Viewed.state c.args.state.now in
-    let named : c.running_procedure-procedure.result ≡ procedure_in s c.thread-number.result = c.running_procedure-procedure.ensures ∙ ap running_procedure c.begun_calls.ensures in
-    let m : IsCoreMotion c.args.client.now c.running_procedure-procedure.result c.next_call.result c.in_ok-thread.thread.now c.core_motion.result =
+    let m : IsCoreMotion c.args.client.now c.procedure-procedure.result c.next_call.result c.in_ok-thread.thread.now c.core_motion.result =
     record { is = c.core_motion.ensures.is; fits = c.core_motion.ensures.fits; labels = c.core_motion.ensures.labels } in
-    let plan = exec_plan c.args.client.now s c.args.actor c.in-Exec.field-0 c.thread-number.result c.in_ok-thread.thread.now c.running_procedure-procedure.result c.next_call.result c.core_motion.result
-    c.in-Exec.is c.thread-number.ensures c.in_ok-thread.ensures named c.next_call.ensures m in
+    let plan = exec_plan c.args.client.now s c.args.actor c.in-Exec.field-0 c.thread-number.result c.in_ok-thread.thread.now c.procedure-procedure.result c.next_call.result c.core_motion.result
+    c.in-Exec.is c.thread-number.ensures c.in_ok-thread.ensures c.procedure-procedure.ensures c.next_call.ensures m in
     record { is = plan.is; there = plan.there; fits = plan.fits; labels = plan.labels }
 
 pub returns-in-Drain : goal.returns-in-Drain

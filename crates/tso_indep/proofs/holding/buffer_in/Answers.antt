@@ -1,5 +1,5 @@
 use Rattle.std.proofs.Common.{ap, sym}
-use Rattle.tso_compact.proofs.PlanLemmas.{none_there}
+use Rattle.tso_state.proofs.ViewLemmas.{none_there}
 use Rattle.tso_state.specs.declared.state.Thread.{Thread}
 use Rattle.tso_indep.proofs.holding.buffer_in.Goals as goal
 

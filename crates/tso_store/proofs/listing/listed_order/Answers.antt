@@ -1,7 +1,6 @@
 use Rattle.std.proofs.Common.{◌∙◌, List, ℕ, ap, arith, length, rules, slice_get, subst}
 use Rattle.std.specs.List.Sorted.{IsPermutation}
-use Rattle.tso_store.specs.Listing.{history_cmp}
-use Rattle.tso_store.specs.Orders.{numbers_below}
+use Rattle.tso_store.specs.Orders.{history_cmp, numbers_below}
 use Rattle.tso_store.proofs.Listings.{history_total}
 use Rattle.tso_store.proofs.Ranked.{length_below}
 use Rattle.tso_store.proofs.Risen.{rising_with}

@@ -1,8 +1,7 @@
 use Rattle.std.proofs.Common.{◌≡◌, ◌∙◌, ℕ, List, Some, ap, arith, length, slice_get, subst, sym}
 use Rattle.tso_store.proofs.Listings.{histories_differ, history_total}
 use Rattle.tso_store.proofs.Ranked.{order_below, ranked}
-use Rattle.tso_store.specs.Listing.{history_cmp}
-use Rattle.tso_store.specs.Orders.{HasPlace}
+use Rattle.tso_store.specs.Orders.{HasPlace, history_cmp}
 use Rattle.tso_store.proofs.listing.ranks_by_lists.Goals as goal
 
 pub places_in-requires-clause-below : goal.places_in-requires-clause-below

@@ -10,7 +10,7 @@ places_in-requires-clause-below g c = λ i n at.
 
 pub returns : goal.returns
 returns g c =
-    let exact = (g.met.T.Exact g.world.𝓛 g.world.𝓜 g.world.𝓡 ((λ s x. x), (λ x. x), (λ x. x), (λ x. x))).exact in
-    let laws = g.met.T.Ord g.world.𝓛 g.world.𝓜 g.world.𝓡 ((λ s x. x), (λ x. x), (λ x. x), (λ x. x)) in
+    let exact = g.met.T.Exact.exact in
+    let laws = g.met.T.Ord in
     ranked g.T.Ord.cmp laws.total (equal_is_same _ g.T.Ord.cmp exact laws.matches_eq) c.args.pool.now c.in_ok-order.order.items c.in_ok-ranks.ranks.items c.is_numbered.ensures.numbered c.in_ok-order.ensures.order
     (c.in_ok-ranks.ensures.len ∙ c.len.ensures.value) (subst (λ (ns : List ℕ). (i n : ℕ) → slice_get ns i ≡ Some n → HasPlace ns c.in_ok-ranks.ranks.items n) c.as_slice.ensures.value c.in_ok-ranks.ensures.places)

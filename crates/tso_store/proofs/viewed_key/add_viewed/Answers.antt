@@ -10,11 +10,11 @@ loop-i-preserved c =
     let all = c.args.view.now.threads in
     let lt : c.loop-i.i < length all = omega (arith, c.loop-i-test.true, c.thread_count-i-end.ensures) in
     let at = sym (get_or_from_slice_get all c.loop-i.i c.in-Some.thread.now c.in-Some.thread.now (sym c.in-Some.ensures)) in (
-      row_step c.loop-i.threads c.add_thread.new.threads c.loop-i.numbers all c.loop-i.i c.in_ok-number.number c.in-Some.thread.now c.loop-i.invariant.0 c.add_thread.ensures.extends c.loop-i.invariant.2 c.requires lt at c.in_ok-number.ensures.number,
-      λ i x e. c.add_thread.ensures.extends i x (c.loop-i.invariant.1 i x e),
+      row_step c.loop-i.threads c.add_near.new.catalog c.loop-i.numbers all c.loop-i.i c.in_ok-number.number c.in-Some.thread.now c.loop-i.invariant.0 c.add_near.ensures.extends c.loop-i.invariant.2 c.requires lt at c.in_ok-number.ensures.number,
+      λ i x e. c.add_near.ensures.extends i x (c.loop-i.invariant.1 i x e),
       length-set c.loop-i.numbers c.loop-i.i c.in_ok-number.number ∙ c.loop-i.invariant.2,
-      λ h. c.add_thread.ensures.small (c.loop-i.invariant.3 h),
-      omega (arith, c.add_thread.ensures.more, c.loop-i.invariant.4),
+      λ h. c.add_near.ensures.small (c.loop-i.invariant.3 h),
+      omega (arith, c.add_near.ensures.more, c.loop-i.invariant.4),
     )
 
 pub returns-in_err-number-clause-absent : goal.returns-in_err-number-clause-absent

@@ -11,8 +11,8 @@ returns-in-Fork g c =
     let right = c.deref-in-Fork-2.ensures in
     let both : shape_count p.shape.now ≡ shape_count c.deref-in-Fork.result.now + shape_count c.deref-in-Fork-2.result.now = ap shape_count c.in-Fork.is ∙ (λ i. shape_count (sym left i) + shape_count (sym right i)) in
     let count : c.len.result ≡ shape_count c.deref-in-Fork.result.now = c.len.ensures ∙ ap shape_count (c.deref.ensures ∙ sym left) in
-    let few = c.requires.1 in (
+    let few = c.requires.2 in (
       cut p.checked.now.client p.scanned.now.table (records_with p.scanned.now.store.states p.scanned.now.ends) p.start (shape_count p.shape.now) (shape_count c.deref-in-Fork.result.now) (shape_count c.deref-in-Fork-2.result.now) c.len.result both count,
-      (c.requires.0, omega (arith, both, few)),
-      (c.requires.0, omega (arith, both, count, few)),
+      (c.requires.0, c.requires.1, omega (arith, both, few)),
+      (c.requires.0, c.requires.1, omega (arith, both, count, few)),
     )

@@ -24,7 +24,7 @@ pub learn_running-requires : goal.learn_running-requires
 learn_running-requires c = still_running c.self.inside.parts c.step_key.new.parts c.self.inside.running c.step_key.ensures.grows c.self.invariant.running
 
 pub invariant_of-self-in_err-learn_running : goal.invariant_of-self-in_err-learn_running
-invariant_of-self-in_err-learn_running c = sheet_grows c.self.inside.checked.now.client c.self.inside.parts c.step_key.new.parts c.self.inside.keys c.self.inside.known c.step_key.new.known c.self.inside.running c.learn_running.new.running c.self.invariant c.step_key.ensures.grows c.step_key.ensures.known c.learn_running.ensures
+invariant_of-self-in_err-learn_running c = sheet_grows c.self.inside.checked.now.client c.self.inside.parts c.step_key.new.parts c.self.inside.keys c.self.inside.known c.step_key.new.known c.self.inside.running c.learn_running.new.running c.self.invariant c.step_key.ensures.grows c.step_key.ensures.known c.learn_running.ensures.known
 
 pub returns-in_err-learn_running-clause-err : goal.returns-in_err-learn_running-clause-err
 returns-in_err-learn_running-clause-err c = rw (← c.self.view_is) (on_err c.from_residual-in_err-learn_running.result (states_stay c.self.inside.checked.now.client c.self.inside.parts c.step_key.new.parts c.self.inside.keys c.step_key.ensures.grows (c.step_key.ensures.grows.small c.self.invariant.small) c.self.invariant.kept))
@@ -35,7 +35,7 @@ returns-in_err-learn_running-clause-some c =
     rw (← c.self.view_is) (on_err c.from_residual-in_err-learn_running.result (can_step c.self.inside.checked.now.client c.self.inside.parts c.self.inside.keys c.in-Some.key c.args.number c.args.actor (sym c.in-Some.ensures) (step_has c.self.inside.checked.now.client c.self.inside.parts c.in-Some.key c.args.actor c.step_key.new.parts c.in-Some-2.next by)))
 
 pub invariant_of-self-in_err-result : goal.invariant_of-self-in_err-result
-invariant_of-self-in_err-result c = rw c.in_err-result.ensures.err (sheet_grows c.self.inside.checked.now.client c.self.inside.parts c.step_key.new.parts c.self.inside.keys c.self.inside.known c.step_key.new.known c.self.inside.running c.learn_running.new.running c.self.invariant c.step_key.ensures.grows c.step_key.ensures.known c.learn_running.ensures)
+invariant_of-self-in_err-result c = rw c.in_err-result.ensures.err (sheet_grows c.self.inside.checked.now.client c.self.inside.parts c.step_key.new.parts c.self.inside.keys c.self.inside.known c.step_key.new.known c.self.inside.running c.learn_running.new.running c.self.invariant c.step_key.ensures.grows c.step_key.ensures.known c.learn_running.ensures.known)
 
 pub returns-in_err-result-clause-err : goal.returns-in_err-result-clause-err
 returns-in_err-result-clause-err c = rw (← c.self.view_is) (on_err c.from_residual-in_err-result.result (ap (states_at c.step_key.new.parts) c.in_err-result.ensures.err ∙ states_stay c.self.inside.checked.now.client c.self.inside.parts c.step_key.new.parts c.self.inside.keys c.step_key.ensures.grows (c.step_key.ensures.grows.small c.self.invariant.small) c.self.invariant.kept))
@@ -48,7 +48,7 @@ returns-in_err-result-clause-some c =
 pub invariant_of-self-2 : goal.invariant_of-self-2
 invariant_of-self-2 c =
     let by = rw c.in-Some-2.is at c.in_ok-next.ensures.step in
-    sheet_added c.self.inside.checked.now.client c.self.inside.parts c.step_key.new.parts c.self.inside.keys c.add.new.self c.self.inside.known c.step_key.new.known c.self.inside.running c.learn_running.new.running c.in-Some-2.next by.state c.in_ok-result.result.1 c.self.invariant c.step_key.ensures.grows c.step_key.ensures.known c.learn_running.ensures by.key by.fits c.in_ok-result.ensures.kept
+    sheet_added c.self.inside.checked.now.client c.self.inside.parts c.step_key.new.parts c.self.inside.keys c.add.new.self c.self.inside.known c.step_key.new.known c.self.inside.running c.learn_running.new.running c.in-Some-2.next by.state c.in_ok-result.result.1 c.self.invariant c.step_key.ensures.grows c.step_key.ensures.known c.learn_running.ensures.known by.key by.fits c.in_ok-result.ensures.kept
 
 pub returns-clause-step : goal.returns-clause-step
 returns-clause-step c =
