@@ -79,12 +79,22 @@ fn put_together<'c>(table: Table, whole: Whole<'c>) -> Scanned<'c>
     }
 }
 
-// The same, whose store knows where the next steps of its threads lead.
+// Has a store learn what its look-ups remember: where the next steps of its threads lead, and which calls they are in.
+fn learnt(store: &mut Store<'_>) -> Result<(), AllocError>
+    ensures states { store.new.states ≡ store.old.states }
+    ensures client { store.new.client ≡ store.old.client }
+{
+    store.learn()?;
+    store.learn_running()?;
+    Ok(())
+}
+
+// The same, whose store has learnt that.
 fn learned<'c>(table: Table, whole: Whole<'c>) -> Result<Scanned<'c>, AllocError>
     ensures { IfOk result (IsOfWhole table whole.entry) }
 {
     let mut whole = whole;
-    match whole.store.learn() {
+    match learnt(&mut whole.store) {
         Ok(()) => Ok(put_together(table, whole)),
         Err(reason) => {
             drop(table);
