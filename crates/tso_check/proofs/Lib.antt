@@ -1,9 +1,7 @@
 pub mod Goodness
 pub mod NumberedLemmas
-pub mod NeighbourLemmas
 pub mod OneAnswer
 pub mod OneVerdict
-pub mod RisingByNumbers
 pub mod RisingLemmas
 pub mod SpanLemmas
 pub mod StoredLemmas

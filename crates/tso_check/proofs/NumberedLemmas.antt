@@ -1,12 +1,9 @@
 -- From what a store says of numbers to what is judged of records.
-use Rattle.std.proofs.Common.{◌≡◌, ◌∙◌, ℕ, zero, suc, ◌+◌, ◌-◌, ◌<◌, ◌≤◌, Bool, List, [], ◌∷◌, length, Option, Some, None, slice_get, refl, sym, ap, subst, arith}
-use Rattle.std.specs.Prelude.{◌↔◌, IsTrue, is_some}
-use Rattle.std.proofs.lemmas.Option.{same_Some}
-use Rattle.std.specs.declared.cmp.Ordering.{Ordering}
-use Rattle.std.specs.declared.cmp.Ordering.TheVariants.{Less}
+use Rattle.std.proofs.Common.{◌≡◌, ◌∙◌, ℕ, zero, suc, ◌<◌, List, [], ◌∷◌, length, Option, Some, None, slice_get, refl, sym, ap, subst, arith}
+use Rattle.std.specs.Prelude.{Contains, is_some}
+use Rattle.std.proofs.lemmas.Option.{same_Some, slice_get_within}
 use Rattle.tso_cert.proofs.LookupLemmas.{rises}
 use Rattle.tso_cert.specs.Lookup.{IsRising}
-use Rattle.tso_check.proofs.RisingByNumbers.{RisesTo, at_contains, contains_at, rises_on}
 use Rattle.tso_check.proofs.VerdictLemmas.{initial_there}
 use Rattle.tso_check.specs.Numbered.{AreKeptFrom, IsJudgedAt, IsKeptFrom}
 use Rattle.tso_compact.specs.Laws.{initial_of}
@@ -22,11 +19,10 @@ use Rattle.tso_judge.specs.declared.code.Code.TheVariants as faults
 use Rattle.tso_prog.specs.declared.client.Client.{Client}
 use Rattle.tso_rec.specs.declared.record.End.{End}
 use Rattle.tso_rec.specs.declared.record.End.TheVariants.{Choices, Order}
-use Rattle.tso_state.specs.Order.{state_cmp}
 use Rattle.tso_state.specs.Views.{state_of}
 use Rattle.tso_state.specs.declared.actor.Actor.{Actor}
 use Rattle.tso_state.specs.declared.state.State.{State}
-use Rattle.tso_store.specs.Orders.{IsOrderOf}
+use Rattle.tso_store.specs.Rising.{AreRising}
 use Rattle.tso_parts.specs.Numbers.{IsNowhere}
 use Rattle.tso_store.specs.Sheets.{CanStep, IsSuccessorNowhere}
 
@@ -35,30 +31,20 @@ at_place [] k lt = absurd (omega (arith, lt))
 at_place (x ∷ xs) zero lt = (x, refl)
 at_place (x ∷ xs) (suc k) lt = at_place xs k (omega (arith, lt))
 
--- ---- orders
+-- what is at a place is there
+at_contains : {X : Type 0} (xs : List X) (k : ℕ) (x : X) → slice_get xs k ≡ Some x → Contains xs x
+at_contains [] k x e = absurd (let lt = slice_get_within [] k x e in omega (arith, lt))
+at_contains (y ∷ xs) zero x e = (0, omega arith, same_Some y x e)
+at_contains (y ∷ xs) (suc k) x e = let (n, lt, is) = at_contains xs k x e in (suc n, omega (arith, lt), is)
 
--- the order of two states is the one that was found
-pub is_less_at : (states : List State) (n m : ℕ) (o : Ordering) (r : Bool) → IsOrderOf states n m o → (IsTrue r ↔ (o ≡ Less)) → IsTrue r ↔ IsOrderOf states n m Less
-is_less_at states n m o r found is = (
-  λ h. subst (IsOrderOf states n m) (is.0 h) found,
-  λ less.
-      let first : found.first ≡ less.first = same_Some found.first less.first (sym found.first_at ∙ less.first_at) in
-      let second : found.second ≡ less.second = same_Some found.second less.second (sym found.second_at ∙ less.second_at) in
-      is.1 (found.order ∙ (λ i. state_cmp (first i) (second i)) ∙ sym less.order),
-)
+contains_at : {X : Type 0} (xs : List X) (x : X) → Contains xs x → (k : ℕ) × (slice_get xs k ≡ Some x)
+contains_at [] x (k, lt, e) = absurd (omega (arith, lt))
+contains_at (y ∷ xs) x (zero, lt, e) = (0, ap Some e)
+contains_at (y ∷ xs) x (suc k, lt, e) = let (n, at) = contains_at xs x (k, omega (arith, lt), e) in (suc n, at)
 
-pub rises_by_order : (states : List State) (k : ℕ) → 1 ≤ k → RisesTo states k → IsOrderOf states (k - 1) k Less → RisesTo states (k + 1)
-rises_by_order states k some to o =
-    let n = k - 1 in
-    let e : n + 1 ≡ k = omega (arith, some) in
-    let f : n + 2 ≡ k + 1 = omega (arith, some) in
-    subst (RisesTo states) f (rises_on states n o.first o.second (subst (RisesTo states) (sym e) to) o.first_at (ap (slice_get states) e ∙ o.second_at) (sym o.order))
-
-pub no_rise : (states : List State) (k : ℕ) → 1 ≤ k → k < length states → (IsOrderOf states (k - 1) k Less → ⊥) → IsRising states → ⊥
-no_rise states k some within fails rising =
-    let (x, at) = at_place states (k - 1) (omega (arith, some, within)) in
-    let (y, there) = at_place states k within in
-    fails (record { first = x; second = y; first_at = at; second_at = there; order = sym (rises states (k - 1) k x y rising (omega (arith, some)) at there) })
+-- of states that rise each is less than those with greater numbers
+pub rising_pairs : (states : List State) → IsRising states → AreRising states
+rising_pairs states rising n m s t lt at there = rises states n m s t rising lt at there
 
 -- ---- the initial state
 

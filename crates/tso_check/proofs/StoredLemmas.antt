@@ -125,6 +125,7 @@ stored_of c bytes s is =
       long = states ∙ sym ends;
       count = shape_counts s.shape is.tree is.scanned.shape ∙ sym count ∙ sym ends;
       few = omega (arith, states, count, few);
+      rising = is.scanned.rising;
     }
 
 -- the verdict on what was read is that on the bytes
@@ -143,9 +144,6 @@ stored_whole c s tree to found is count judged =
 
 ordered_of : (c : Client) (s : Scanned) (tree : Tree) → IsScannedTree c tree s → IsRising s.store.states → IsOrdered tree
 ordered_of c s tree is rising = let r = subst IsRising is.states rising in (r, begins_split tree r is.forks)
-
-pub not_rising : (c : Client) (s : Scanned) (tree : Tree) → (IsRising s.store.states → ⊥) → IsScannedTree c tree s → (IsOrdered tree → ⊥)
-not_rising c s tree fails is o = fails (subst IsRising (sym is.states) o.0)
 
 module _ (c : Client) (s : Scanned) (rising : IsRising s.store.states) where
   pub initial_missing : IsClosed c s.table → (HasInitial c s.store.states → ⊥) → (tree : Tree) → IsScannedTree c tree s → IsTreeFault c s.table tree faults.K09 None

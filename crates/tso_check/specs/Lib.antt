@@ -1,8 +1,8 @@
 pub mod Halved
 pub mod Laws
-pub mod Neighbours
 pub mod Numbered
 pub mod Risen
 pub mod Spans
+pub mod Trails
 pub mod Upgrades
 pub mod Verdicts

@@ -1,6 +1,6 @@
 -- Records of a certificate that are judged by their numbers. Nothing here need be believed: it serves the code.
 use Rattle.std.specs.Prelude.{◌≡◌, ◌<◌, ◌≤◌, ℕ, List, [], ◌∷◌, length, None, Option, Some, slice_get}
-use Rattle.tso_cert.specs.Lookup.{IsOrdered, tree_states}
+use Rattle.tso_cert.specs.Lookup.{IsOrdered, IsRising, tree_states}
 use Rattle.tso_cert.specs.Trees.{Tree, record_count, records_of}
 use Rattle.tso_check.specs.Verdicts.{IsTreeFault, IsTreeVerdict}
 use Rattle.tso_check.specs.declared.judging.Bad.{Bad}
@@ -80,12 +80,13 @@ records_with [] es = []
 records_with (s ∷ ss) [] = []
 records_with (s ∷ ss) (e ∷ es) = record { state = s; end = e } ∷ records_with ss es
 
--- each state of the client's certificate has an end, and they are as many as the shape says
+-- each state of the client's certificate has an end, they are as many as the shape says, and rise
 pub record IsStored (c : Client) (s : Scanned) : Type 0 where
   pub client : s.store.client ≡ c
   pub long : length s.store.states ≡ length s.ends
   pub count : shape_count s.shape ≡ length s.ends
   pub few : length s.store.states ≤ 4194304
+  pub rising : IsRising s.store.states
 
 abbrev pub stored_span : Client → Scanned → ℕ → ℕ → Span
 stored_span c s from to = record { client = c; table = s.table; records = records_with s.store.states s.ends; from = from; to = to }

@@ -18,7 +18,6 @@ ghost use Rattle.tso_scan.specs.Scanned.{IsScanned};
 
 use crate::halved::{TreePart, Whole, decide_tree, tree_fault};
 use crate::judging::{Notice, verdict_of};
-use crate::neighbours::is_rising_with;
 use crate::stored::{StoredPart, decide_stored, stored_fault};
 use crate::threads::{Told, judge_with};
 use crate::verdict::{Verdict, rejected};
@@ -124,8 +123,7 @@ fn decide_stored_with<R: Threads + Wait + Sync, N: Notice + Sync>(
     requires stored { IsStored checked.now.client scanned.now }
     ensures { IfOk result (IsVerdictOn checked.now.client scanned.now) }
 {
-    let rises = is_rising_with(rt, &scanned.store, workers.count())?;
-    match stored_fault(alloc, checked, scanned, rises)? {
+    match stored_fault(alloc, checked, scanned)? {
         Some(code) => Ok(rejected(code)),
         None => {
             let forms = scanned.store.forms(alloc)?;

@@ -7,11 +7,11 @@ mod halved;
 mod halves;
 mod judging;
 mod laws;
-mod neighbours;
 mod numbered;
 mod rising;
 mod stored;
 mod threads;
+mod trail;
 mod upgrading;
 mod verdict;
 

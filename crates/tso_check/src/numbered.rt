@@ -1,17 +1,15 @@
-//! Records whose states lie in a store under the records' numbers.
+//! Records whose states lie in a store under the records' numbers, and rise.
 
-ghost use Rattle.std.specs.Prelude.{◌≡◌, ◌↔◌, ◌≤◌, All, IfOk, IsTrue, None, Some, length, slice_get};
-ghost use Rattle.std.specs.declared.cmp.Ordering.TheVariants.{Less};
-ghost use Rattle.tso_cert.specs.Lookup.{IsRising};
+ghost use Rattle.std.specs.Prelude.{◌≡◌, ◌↔◌, All, IfOk, IsTrue, None, Some, slice_get};
 ghost use Rattle.tso_check.specs.Numbered.{AreKeptFrom, IsJudgedAt, IsKeptFrom};
 ghost use Rattle.tso_choose.specs.declared.choice.Choice.{Choice as AChoice};
 ghost use Rattle.tso_judge.specs.Judging.{IsJudgedAlone};
 ghost use Rattle.tso_judge.specs.Valid.{HasInitial};
 ghost use Rattle.tso_state.specs.Fitting.{HistoryFits};
 ghost use Rattle.tso_store.specs.Forms.{AreForms};
-ghost use Rattle.tso_store.specs.Orders.{IsOrderOf};
+ghost use Rattle.tso_store.specs.Rising.{AreRising};
 
-use crate::rising::is_less;
+use crate::trail::Trail;
 use std::alloc::{AllocError, Global};
 use tso_choose::Choice;
 use tso_flow::Checked;
@@ -20,29 +18,6 @@ use tso_judge::{Code, judge_alone};
 use tso_rec::End;
 use tso_state::{Actor, Viewed, initial_state};
 use tso_store::{Forms, Found, Store, View};
-
-/// Whether one state is below another.
-pub fn is_below(store: &Store<'_>, a: u32, b: u32) -> bool
-    ensures { IsTrue result ↔ IsOrderOf store.now.states a b Less }
-{
-    match store.compare(a, b) {
-        Some(order) => is_less(order),
-        None => false,
-    }
-}
-
-/// Whether each state is below the next one.
-pub fn is_rising(store: &Store<'_>) -> bool
-    requires { length store.now.states ≤ 4194304 }
-    ensures { IsTrue result ↔ IsRising store.now.states }
-{
-    for k in 1..store.len() {
-        if !is_below(store, (k - 1) as u32, k as u32) {
-            return false;
-        }
-    }
-    true
-}
 
 /// Whether the initial state is kept.
 ///
@@ -57,32 +32,41 @@ pub fn has_initial(alloc: Global, checked: &Checked, store: &Store<'_>) -> Resul
     }
 }
 
-// Whether the state after the actor's step is kept.
-fn is_kept_from(store: &Store<'_>, number: u32, actor: Actor) -> bool
+// Whether the state after the actor's step is kept, which is looked for first where the trail goes on.
+fn is_kept_from(store: &Store<'_>, number: u32, actor: Actor, trail: &mut Trail) -> bool
+    requires { AreRising store.now.states }
     ensures { IsTrue result ↔ IsKeptFrom store.now.client store.now.states number actor }
 {
-    match store.find_successor(number, actor) {
-        Found::At(_) => true,
+    match store.find_risen_successor(number, actor, trail.near(actor)) {
+        Found::At(next) => {
+            trail.note(actor, next);
+            true
+        }
         Found::Absent => false,
         Found::Disabled => false,
     }
 }
 
 // Whether the states after the steps of all chosen actors are kept.
-fn are_kept_from(store: &Store<'_>, number: u32, choices: &[Choice]) -> bool
+fn are_kept_from(store: &Store<'_>, number: u32, choices: &[Choice], trail: &mut Trail) -> bool
+    requires { AreRising store.now.states }
     ensures { IsTrue result ↔ All (λ (x : AChoice). IsKeptFrom store.now.client store.now.states number x.actor) choices.now }
 {
-    choices
-        .iter()
-        .all(|choice| is_kept_from(store, number, choice.actor))
+    for choice in choices {
+        if !is_kept_from(store, number, choice.actor, trail) {
+            return false;
+        }
+    }
+    true
 }
 
 // The same, where there are chosen actors.
-fn are_successors_kept(store: &Store<'_>, number: u32, end: &End) -> bool
+fn are_successors_kept(store: &Store<'_>, number: u32, end: &End, trail: &mut Trail) -> bool
+    requires { AreRising store.now.states }
     ensures { IsTrue result ↔ AreKeptFrom store.now.client store.now.states number end.now }
 {
     match end {
-        End::Choices(choices) => are_kept_from(store, number, choices.as_slice()),
+        End::Choices(choices) => are_kept_from(store, number, choices.as_slice(), trail),
         End::Order(_) => true,
     }
 }
@@ -109,12 +93,14 @@ fn judge_rest(
     number: u32,
     view: &View<'_>,
     end: &End,
+    trail: &mut Trail,
 ) -> Option<Code>
+    requires rising { AreRising store.now.states }
     requires state { slice_get store.now.states number ≡ Some view.now }
     requires alone { IsJudgedAlone store.now.client table.now view.now end.now None }
     ensures { IsJudgedAt store.now.client table.now store.now.states number end.now result }
 {
-    if !are_successors_kept(store, number, end) {
+    if !are_successors_kept(store, number, end, trail) {
         return Some(Code::K08);
     }
     if !is_within(table, view) {
@@ -124,7 +110,7 @@ fn judge_rest(
 }
 
 /// The first condition that the state of this number fails with an end, if there is such a state, where it is known of each state
-/// whether its history fits.
+/// whether its history fits. The states after the chosen steps are looked for first where the trail goes on.
 ///
 /// Errors: where a growth was refused.
 pub fn judge_number(
@@ -135,7 +121,9 @@ pub fn judge_number(
     forms: &Forms<'_>,
     number: u32,
     end: &End,
+    trail: &mut Trail,
 ) -> Result<Option<Code>, AllocError>
+    requires rising { AreRising store.now.states }
     requires client { store.now.client ≡ checked.now.client }
     requires forms { AreForms checked.now.client store.now.states forms.now }
     ensures { IfOk result (IsJudgedAt checked.now.client table.now store.now.states number end.now) }
@@ -146,6 +134,6 @@ pub fn judge_number(
     let fits = forms.get(number);
     match judge_view(alloc, checked, table, &view, fits, end)? {
         Some(code) => Ok(Some(code)),
-        None => Ok(judge_rest(table, store, number, &view, end)),
+        None => Ok(judge_rest(table, store, number, &view, end, trail)),
     }
 }

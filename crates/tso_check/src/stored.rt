@@ -1,13 +1,13 @@
 //! Certificates whose states lie in a store under the numbers of their records.
 
-ghost use Rattle.std.specs.Prelude.{◌↔◌, ◌+◌, ◌≤◌, IfOk, IsTrue};
-ghost use Rattle.tso_cert.specs.Lookup.{IsRising};
+ghost use Rattle.std.specs.Prelude.{◌+◌, ◌≤◌, IfOk};
 ghost use Rattle.tso_check.specs.Spans.{IsSpanJudged, IsStored, IsVerdictOn, IsWholeFaultOf, stored_span};
 ghost use Rattle.tso_scan.specs.Scanned.{shape_count};
 ghost use Rattle.tso_store.specs.Forms.{AreForms};
 
 use crate::judging::{Bad, Nobody, Notice, Part, verdict_of};
-use crate::numbered::{has_initial, is_rising, judge_number};
+use crate::numbered::{has_initial, judge_number};
+use crate::trail::Trail;
 use crate::verdict::{Verdict, rejected};
 use std::alloc::{AllocError, Global};
 use tso_flow::Checked;
@@ -46,6 +46,7 @@ fn judge_numbers<N: Notice>(
     requires few { to ≤ 4194304 }
     ensures { IfOk result (IsSpanJudged (stored_span checked.now.client scanned.now from to)) }
 {
+    let mut trail = Trail::new();
     for number in from..to {
         notice.before(number);
         let end = match scanned.end(number) {
@@ -60,6 +61,7 @@ fn judge_numbers<N: Notice>(
             forms,
             number as u32,
             end,
+            &mut trail,
         )? {
             Some(code) => {
                 return Ok(Some(Bad {
@@ -124,22 +126,17 @@ impl<'a, N: Notice> Part for StoredPart<'a, N> {
     }
 }
 
-/// The code of the first condition of the tree and the table as wholes that fails, where it is known whether the states rise.
+/// The code of the first condition of the tree and the table as wholes that fails. The states rise.
 ///
 /// Errors: where a growth was refused.
 pub fn stored_fault(
     alloc: Global,
     checked: &Checked,
     scanned: &Scanned<'_>,
-    rises: bool,
 ) -> Result<Option<Code>, AllocError>
     requires stored { IsStored checked.now.client scanned.now }
-    requires rises { IsTrue rises ↔ IsRising scanned.now.store.states }
     ensures { IfOk result (IsWholeFaultOf checked.now.client scanned.now) }
 {
-    if !rises {
-        return Ok(Some(Code::K03));
-    }
     if !is_closed(checked, &scanned.table) {
         return Ok(Some(Code::K04));
     }
@@ -160,8 +157,7 @@ pub fn decide_stored(
     requires { IsStored checked.now.client scanned.now }
     ensures { IfOk result (IsVerdictOn checked.now.client scanned.now) }
 {
-    let rises = is_rising(&scanned.store);
-    match stored_fault(alloc, checked, scanned, rises)? {
+    match stored_fault(alloc, checked, scanned)? {
         Some(code) => Ok(rejected(code)),
         None => {
             let count = scanned.shape.len();

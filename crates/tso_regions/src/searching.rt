@@ -217,17 +217,7 @@ fn concluded<'c, U: Realm + Send + Sync, R: Threads + Sync>(
     }
 }
 
-// Has a store learn what its look-ups remember: where the next steps of its threads lead, and which calls they are in.
-fn learnt(store: &mut Store<'_>) -> Result<(), AllocError>
-    ensures states { store.new.states ≡ store.old.states }
-    ensures client { store.new.client ≡ store.old.client }
-{
-    store.learn()?;
-    store.learn_running()?;
-    Ok(())
-}
-
-// One store of these states, which has learnt where the next steps of their threads lead, if there are not too many.
+// One store of these states, which has learnt what its look-ups remember, if there are not too many.
 fn finished<'c>(gathered: Gathered<'c>, limit: u32) -> Result<Option<Store<'c>>, AllocError>
     requires differ { IsNumbered gathered.states }
     requires limit { limit ≤ 4194304 }
@@ -240,7 +230,7 @@ fn finished<'c>(gathered: Gathered<'c>, limit: u32) -> Result<Option<Store<'c>>,
         return Ok(None);
     }
     let mut store = gathered.finish();
-    match learnt(&mut store) {
+    match store.learn() {
         Ok(()) => Ok(Some(store)),
         Err(reason) => {
             drop(store);

@@ -4,7 +4,7 @@ use Rattle.std.proofs.lemmas.List.{length-append, length-drop, map-append, nil_f
 use Rattle.tso_cert.proofs.Opening.{opens_fork}
 use Rattle.tso_cert.proofs.TreeCode.{tree_again, tree_take}
 use Rattle.tso_cert.specs.Certificates.{fork_at, tree_at}
-use Rattle.tso_cert.specs.Lookup.{tree_states}
+use Rattle.tso_cert.specs.Lookup.{IsRising, tree_states}
 use Rattle.tso_cert.specs.Trees.{Tree, fork, record_count, records_of, spelling_of}
 use Rattle.tso_code.proofs.StateCodes.{state_code}
 use Rattle.tso_code.specs.States.{state, state_at}
@@ -19,7 +19,7 @@ use Rattle.tso_scan.specs.Scanned.{IsScannedBehind, IsShapeOf, scanned_states}
 use Rattle.tso_scan.specs.declared.halves.Half.{Half}
 use Rattle.tso_scan.specs.declared.halves.Records.{Records}
 use Rattle.tso_scan.specs.declared.halves.Twig.{Twig}
-use Rattle.tso_scan.specs.declared.index.Whole.{Whole}
+use Rattle.tso_scan.specs.declared.whole.Whole.{Whole}
 use Rattle.tso_scan.specs.declared.scanned.Scanned.{Scanned}
 use Rattle.tso_scan.specs.declared.shape.Shape.{Shape}
 use Rattle.tso_scan.specs.declared.shape.Shape.TheViews.{Fork}
@@ -142,6 +142,7 @@ tree_learned c bytes t h w s none is stored learnt =
       scanned = record {
         client = learnt.client ∙ stored.client ∙ is.client;
         states = learnt.states ∙ stored.states ∙ is.states;
+        rising = subst IsRising (sym learnt.states) stored.rising;
         ends = learnt.ends ∙ ap (λ (r : Records). r.ends) stored.records ∙ is.ends;
         shape = let S : Shape → Type 0 = λ x. IsShapeOf x is.tree in subst S (sym (learnt.shape ∙ ap (λ (r : Records). r.shape) stored.records)) is.shape;
         forks = is.forks;

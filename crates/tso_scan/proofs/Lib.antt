@@ -4,4 +4,4 @@ pub mod HistoryLemmas
 pub mod ScanLemmas
 pub mod TreeLemmas
 pub mod HalfLemmas
-pub mod IndexLemmas
+pub mod NeighbourLemmas

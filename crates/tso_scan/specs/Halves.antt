@@ -1,7 +1,7 @@
 -- Trees that are read by themselves and put together. Nothing here need be believed: it serves the code.
 use Rattle.std.specs.Prelude.{◌≡◌, ◌+◌, ◌-◌, ◌≤◌, ◌++◌, ℕ, List, drop, get_or, length, Ok, Some, slice_get, take}
 use Rattle.tso_cert.specs.Certificates.{tree_at}
-use Rattle.tso_cert.specs.Lookup.{tree_states}
+use Rattle.tso_cert.specs.Lookup.{IsRising, tree_states}
 use Rattle.tso_cert.specs.Trees.{Tree, fork, records_of}
 use Rattle.tso_code.specs.States.{state_at}
 use Rattle.tso_foot.specs.declared.table.Table.{Table}
@@ -11,7 +11,7 @@ use Rattle.tso_scan.specs.Scanned.{ForksBegin, IsBranchScanned, IsShapeOf, scann
 use Rattle.tso_scan.specs.declared.halves.Half.{Half}
 use Rattle.tso_scan.specs.declared.halves.Records.{Records}
 use Rattle.tso_scan.specs.declared.halves.Twig.{Twig}
-use Rattle.tso_scan.specs.declared.index.Whole.{Whole}
+use Rattle.tso_scan.specs.declared.whole.Whole.{Whole}
 use Rattle.tso_scan.specs.declared.scanned.Scanned.{Scanned}
 use Rattle.tso_scan.specs.declared.shape.Shape.{Shape}
 use Rattle.tso_scan.specs.declared.states.Scan.{Scan}
@@ -113,10 +113,11 @@ pub record IsForkOf (first second : Records) (room : ℕ) (all : Records) : Type
 
 -- ---- a whole tree
 
--- what was read of a tree, with its states in a store
+-- what was read of a tree, with its states in a store, where they rise
 pub record IsStored (h : Half) (w : Whole) : Type 0 where
   pub client : w.store.client ≡ h.states.client
   pub states : w.store.states ≡ h.states.states
+  pub rising : IsRising w.store.states
   pub records : w.records ≡ h.records
 
 -- a table, and what was read behind it

@@ -2,4 +2,4 @@ pub mod Scrolls
 pub mod Sources
 pub mod Scanned
 pub mod Halves
-pub mod Indexes
+pub mod Neighbours

@@ -1,7 +1,7 @@
 -- A certificate that is read straight into a store. Nothing here need be believed: it serves the code.
 use Rattle.std.specs.Prelude.{◌≡◌, ◌+◌, ◌<◌, ◌^◌, ◌++◌, ◌∷◌, ℕ, List, [], length, Ok, Some, slice_get}
 use Rattle.tso_cert.specs.Certificates.{Branch, certificate_at, tree_at}
-use Rattle.tso_cert.specs.Lookup.{tree_states}
+use Rattle.tso_cert.specs.Lookup.{IsRising, tree_states}
 use Rattle.tso_cert.specs.Trees.{Tree, fork, leaf, records_of}
 use Rattle.tso_code.specs.Fields.{items_at}
 use Rattle.tso_code.specs.States.{state_at}
@@ -87,10 +87,11 @@ pub record IsBranchScanned (c : Client) (old new : Scan) (reading : Branch) (sh 
   pub forks : ForksBegin tree
   pub more : HasMore c old new (tree_states tree) (ends_of (records_of tree))
 
--- the states and the ends are those of the tree's records, for this client
+-- the states and the ends are those of the tree's records, for this client, and the states rise
 pub record IsScannedTree (c : Client) (tree : Tree) (s : Scanned) : Type 0 where
   pub client : s.store.client ≡ c
   pub states : s.store.states ≡ tree_states tree
+  pub rising : IsRising s.store.states
   pub ends : s.ends ≡ ends_of (records_of tree)
   pub shape : IsShapeOf s.shape tree
   pub forks : ForksBegin tree

@@ -3,7 +3,7 @@
 
 mod halves;
 mod histories;
-mod index;
+mod neighbours;
 mod rows;
 mod scanned;
 mod scroll;
@@ -12,6 +12,7 @@ mod shape;
 mod sources;
 mod states;
 mod trees;
+mod whole;
 
 pub use scanned::{Scanned, scan, scan_with};
 pub use shape::Shape;

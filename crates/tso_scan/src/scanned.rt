@@ -6,8 +6,8 @@ ghost use Rattle.tso_scan.specs.Scanned.{IsScanned, IsScannedBehind};
 ghost use Rattle.tso_prog.specs.declared.client.Client.{Client};
 
 use crate::halves::{Half, RECORDS, Records, Unread, read_alone};
-use crate::index::{Whole, whole_by, whole_of};
 use crate::shape::Shape;
+use crate::whole::{Whole, whole_by, whole_of};
 use std::alloc::{AllocError, Global};
 use std::thread;
 use std::thread::Threads;
@@ -79,22 +79,12 @@ fn put_together<'c>(table: Table, whole: Whole<'c>) -> Scanned<'c>
     }
 }
 
-// Has a store learn what its look-ups remember: where the next steps of its threads lead, and which calls they are in.
-fn learnt(store: &mut Store<'_>) -> Result<(), AllocError>
-    ensures states { store.new.states ≡ store.old.states }
-    ensures client { store.new.client ≡ store.old.client }
-{
-    store.learn()?;
-    store.learn_running()?;
-    Ok(())
-}
-
-// The same, whose store has learnt that.
+// The same, whose store has learnt what its look-ups remember.
 fn learned<'c>(table: Table, whole: Whole<'c>) -> Result<Scanned<'c>, AllocError>
     ensures { IfOk result (IsOfWhole table whole.entry) }
 {
     let mut whole = whole;
-    match learnt(&mut whole.store) {
+    match whole.store.learn() {
         Ok(()) => Ok(put_together(table, whole)),
         Err(reason) => {
             drop(table);
@@ -169,7 +159,7 @@ fn scan_tree<'a>(
     let Some(half) = read_tree(alloc, checked, bytes)? else {
         return Ok(None);
     };
-    match whole_of(alloc, checked, half)? {
+    match whole_of(half) {
         Some(whole) => scanned_of(table, whole),
         None => Ok(None),
     }
@@ -189,15 +179,15 @@ fn scan_tree_with<'a, R: Threads + Sync>(
     let Some(half) = read_tree_with(rt, alloc, checked, bytes, workers)? else {
         return Ok(None);
     };
-    match whole_by(rt, alloc, checked, half, workers)? {
+    match whole_by(rt, half, workers)? {
         Some(whole) => scanned_of(table, whole),
         None => Ok(None),
     }
 }
 
-/// The certificate in the bytes, for this client, read straight into a store. `None` where they are no certificate, where a
-/// record's state does not fit the client or stands in two records, where a fork's state is not the first one of its right half,
-/// or where there are as many parts as numbers: then nothing is said of the bytes.
+/// The certificate in the bytes, for this client, read straight into a store, where its states rise. `None` where they are no
+/// certificate, where a record's state does not fit the client or is not above the one before, where a fork's state is not the first
+/// one of its right half, or where there are as many parts as numbers: then nothing is said of the bytes.
 ///
 /// Errors: where a growth was refused.
 pub fn scan<'a>(

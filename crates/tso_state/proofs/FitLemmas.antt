@@ -1,10 +1,9 @@
 -- Lists of calls and of counts, as the code goes over them.
-use Rattle.std.proofs.Common.{◌≡◌, ◌↔◌, ℕ, zero, suc, ◌-◌, ◌≤◌, true, false, IsTrue, nat_eq, nat_le, List, [], ◌∷◌, ◌++◌, length, take, drop, Option, Some, None, slice_get, get_or, unwrap_or, refl, sym, ap, subst, ◌∙◌, arith, length-append, length-drop}
+use Rattle.std.proofs.Common.{◌≡◌, ◌↔◌, ℕ, zero, suc, ◌-◌, ◌≤◌, true, false, IsTrue, nat_eq, nat_le, List, [], ◌∷◌, ◌++◌, length, take, drop, Some, slice_get, refl, sym, ap, subst, ◌∙◌, arith, length-append, length-drop}
 use Rattle.std.specs.Prelude.{All}
 use Rattle.std.proofs.lemmas.Bool.{and_parts, and_from, false≢true, leb-true}
 use Rattle.std.proofs.lemmas.Bool.Decides.{nat_tests}
 use Rattle.std.proofs.Math.Seq.{take-append_seam}
-use Rattle.std.proofs.lemmas.Option.{unwrap_or-slice_get}
 use Rattle.tso_hist.specs.declared.call.Call.{Call}
 use Rattle.tso_machine.specs.Soundness.{are_within}
 use Rattle.tso_prog.specs.declared.client.Client.{Client}
@@ -98,8 +97,3 @@ core_fits_appended k core cs c = (
 
 pub core_fits_last : (k : Client) (core : Core) (calls cs : List Call) (c : Call) → calls ≡ cs ++ c ∷ [] → CallFits k core c ↔ CoreFits k core calls
 core_fits_last k core calls cs c e = subst (λ xs. CallFits k core c ↔ CoreFits k core xs) (sym e) (core_fits_appended k core cs c)
-
--- ---- places past the end
-
-pub get_or-none : {X : Type 0} (xs : List X) (i : ℕ) (d : X) → None ≡ slice_get xs i → get_or xs i d ≡ d
-get_or-none {X} xs i d e = sym (unwrap_or-slice_get xs i d) ∙ ap (λ (o : Option X). unwrap_or o d) (sym e)

@@ -1,4 +1,4 @@
--- The list of a well-formed state, thread by thread, as the code tests it. Nothing but the proof of that code rests on this.
+-- The list of a well-formed state as it is asked: of its history, of each thread with its last call, and of the prologue.
 use Rattle.std.specs.Prelude.{◌≡◌, ◌≢◌, ℕ, ◌-◌, ◌<◌, ◌≤◌, List, [], length, take, Option, Some, None, slice_get, slice_index_or, All, if◌then◌else◌}
 use Rattle.tso_flow.specs.Calls.{kind_of}
 use Rattle.tso_flow.specs.declared.location.ProcedureKind.{ProcedureKind}

@@ -5,7 +5,7 @@ ghost use Rattle.tso_machine.specs.Places.{first_memory};
 ghost use Rattle.tso_machine.specs.Soundness.{are_within, back_bounds, bounds_in};
 ghost use Rattle.tso_state.specs.Fitting.{AreEarlierAnswered, AreInside, AreNumbered, AreTheThreads, CallFits, CoreFits, FitsAt, HasLengths, HaveAllSeenAtMost, HaveSeenAtMost, HistoryFits, IsNumbered, IsOtherStarted, ListsFit, NoneHasStarted, PrologueFits, SeenFits, SeesAtMost, ThreadFits, ThreadsFit, back_bound};
 ghost use Rattle.tso_state.specs.Initial.{idle_thread};
-ghost use Rattle.tso_state.specs.WellFormed.{HasStarted, IsAnswered, IsFrameOf, IsPrologueOver, IsWellFormed, answered_count, calls_by, client_calls, thread_total, word_count};
+ghost use Rattle.tso_state.specs.WellFormed.{HasStarted, IsAnswered, IsFrameOf, IsPrologueOver, IsWellFormed, answered_count, client_calls, thread_total, word_count};
 
 use crate::state::{Core, Thread};
 use crate::viewed::{Viewed, begun_calls};
@@ -266,20 +266,10 @@ fn threads_fit<S: Viewed>(client: &Client, words: usize, state: &S) -> bool
     true
 }
 
-// The calls of a thread that have begun, none where there is no list of them.
-fn calls_by<S: Viewed>(state: &S, number: usize) -> &[Call]
-    ensures { result.now ≡ calls_by (S.state state.now) number }
-{
-    match state.calls(number) {
-        Some(calls) => calls,
-        None => &[],
-    }
-}
-
 fn has_started<S: Viewed>(state: &S, number: usize) -> bool
     ensures { IsTrue result ↔ HasStarted (S.state state.now) number }
 {
-    if !calls_by(state, number).is_empty() {
+    if state.begun(number) > 0 {
         return true;
     }
     match state.thread(number) {
@@ -319,7 +309,7 @@ fn is_prologue_over<S: Viewed>(client: &Client, state: &S) -> bool
     let Some(thread) = state.thread(number) else {
         return false;
     };
-    let calls = calls_by(state, number);
+    let calls = begun_calls(state.history(), number);
     is_idle_thread(thread)
         && calls.len() == client.prologue.len()
         && count_answered(calls) == client.prologue.len()

@@ -19,8 +19,10 @@ use Rattle.tso_state.specs.declared.state.State.{State}
 use Rattle.tso_state.specs.declared.state.Thread.{Thread}
 use Rattle.tso_store.specs.declared.key.Key.{Key}
 use Rattle.tso_store.specs.declared.parts.Parts.{Parts}
+use Rattle.tso_store.specs.declared.sought.Sought.{Sought}
+use Rattle.tso_store.specs.declared.sought.Sought.TheVariants.{Disabled, Absent, At}
 use Rattle.tso_store.specs.Keys.{AreKept, IsKeyOf, IsKept, state_at, states_at}
-use Rattle.tso_store.specs.Seeking.{HasNoKeyAfter, IsThreadSought}
+use Rattle.tso_store.specs.Seeking.{HasNoKeyAfter, IsSoughtFrom, IsStepSought, IsThreadSought}
 use Rattle.tso_store.specs.Sheets.{IsSuccessorNowhere}
 use Rattle.tso_store.specs.Stepping.{IsPlanned, IsStepOf}
 use Rattle.tso_compact.specs.declared.motion.Motion.TheVariants as the
@@ -28,7 +30,7 @@ use Rattle.tso_machine.specs.declared.buffer.Entry.{Entry}
 use Rattle.tso_store.specs.Remembered.{IsDrained}
 use Rattle.tso_store.proofs.Performed.{after_view, left_drained}
 use Rattle.tso_store.proofs.Rows.{row_has}
-use Rattle.tso_store.proofs.Sheeted.{same_key, state_got, there_key}
+use Rattle.tso_store.proofs.Sheeted.{can_step, cannot, same_key, state_got, there_key}
 use Rattle.tso_store.proofs.Views.{same_history, same_state}
 
 -- ---- steps have one state each
@@ -107,6 +109,12 @@ key_nowhere c p ks k next n a one two three all at by none from to from_at step 
     let f = there_key c p ks i to all there in
     let K : State → Type 0 = λ s. IsKeyOf p f.0 s in
     none i (f.1 ∙ ap Some (same_key p f.0 next by.state one two three (subst K equal f.2) by.key))
+
+-- what is known of a key is known of the state with its number
+pub sought_from : (c : Client) (p : Parts) (ks : List Key) (k : Key) (n : ℕ) (a : Actor) (sought : Sought) → AreKept c p ks → slice_get ks n ≡ Some k → IsStepSought c p k a sought → IsSoughtFrom c p ks n a sought
+sought_from c p ks k n a Disabled all at none = cannot c p ks k n a at none
+sought_from c p ks k n a Absent all at none = (can_step c p ks k n a at none.0, no_successor_key c p ks k n a all at none.1)
+sought_from c p ks k n a (At next) all at by = record { from = k; at = at; step = by }
 
 -- ---- a drain that is known
 

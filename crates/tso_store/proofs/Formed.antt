@@ -1,5 +1,7 @@
 -- Which histories fit a client.
 use Rattle.std.proofs.Common.{◌≡◌, ◌∙◌, ◌⊎◌, inl, inr, ℕ, zero, suc, ◌+◌, ◌<◌, Bool, false, IsTrue, ◌↔◌, List, [], ◌∷◌, ◌++◌, length, take, Some, None, refl, ap, sym, subst, arith, slice_get, slice_index_or}
+use Rattle.std.proofs.Math.ListN.{get_or-append}
+use Rattle.std.proofs.Math.Seq.{get_or-append_seam}
 use Rattle.std.proofs.lemmas.List.{length_push, take_more}
 use Rattle.std.proofs.lemmas.Option.{get_or_from_slice_get, slice_get_within}
 use Rattle.tso_hist.specs.declared.call.Call.{Call}
@@ -12,24 +14,15 @@ use Rattle.tso_store.specs.declared.key.Key.{Key}
 use Rattle.tso_store.specs.declared.parts.Parts.{Parts}
 use Rattle.tso_store.proofs.Lists.{at_end}
 
-last_of : {X : Type 0} (xs : List X) (x d : X) → slice_index_or (xs ++ x ∷ []) (length xs) d ≡ x
-last_of [] x d = refl
-last_of (y ∷ xs) x d = last_of xs x d
-
-earlier : {X : Type 0} (xs : List X) (x d : X) (n : ℕ) → n < length xs → slice_index_or (xs ++ x ∷ []) n d ≡ slice_index_or xs n d
-earlier [] x d n lt = absurd (omega (arith, lt))
-earlier (y ∷ xs) x d zero lt = refl
-earlier (y ∷ xs) x d (suc n) lt = earlier xs x d n (omega (arith, lt))
-
 -- one more history
 module _ (c : Client) (hs : List (List (List Call))) (forms : List Bool) (h : List (List Call)) (b : Bool) (are : AreFormsOf c hs forms) (is : IsTrue b ↔ HistoryFits c h) where
   both : (n : ℕ) (g : List (List Call)) → (slice_get hs n ≡ Some g) ⊎ ((n ≡ length hs) × (g ≡ h)) → IsTrue (slice_index_or (forms ++ b ∷ []) n false) ↔ HistoryFits c g
   both n g (inl at) =
       let lt = slice_get_within hs n g at in
-      rw (earlier forms b false n (omega (arith, lt, are.count))) (are.each n g at)
+      rw (get_or-append forms (b ∷ []) false n (omega (arith, lt, are.count))) (are.each n g at)
   both n g (inr k) =
       let there : n ≡ length forms = k.0 ∙ sym are.count in
-      rw (there, k.1, last_of forms b false) is
+      rw (there, k.1, get_or-append_seam forms b [] false) is
 
   one_formed : AreFormsOf c (hs ++ h ∷ []) (forms ++ b ∷ [])
   one_formed = record {

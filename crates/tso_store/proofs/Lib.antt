@@ -9,6 +9,7 @@ pub mod Sheeted
 pub mod Closing
 pub mod Views
 pub mod Absences
+pub mod Halves
 pub mod Ordered
 pub mod Risen
 pub mod Histories

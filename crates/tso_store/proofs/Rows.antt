@@ -1,11 +1,8 @@
 -- Rows of numbers.
-use Rattle.std.proofs.Common.{◌≡◌, ◌==◌, cond, false, not, ℕ, zero, suc, ◌+◌, ◌<◌, ◌≤◌, ◌^◌, List, [], ◌∷◌, ◌++◌, length, Option, Some, None, refl, sym, ap, ◌∙◌, arith, slice_get, slice_set, take, get_or, add-one}
+use Rattle.std.proofs.Common.{◌≡◌, ℕ, zero, suc, ◌+◌, ◌<◌, ◌≤◌, ◌^◌, List, [], ◌∷◌, ◌++◌, length, Option, Some, None, refl, sym, ap, ◌∙◌, arith, slice_get, slice_set, take, get_or, add-one}
 use Rattle.std.specs.Option.{option_and_then}
-use Rattle.std.proofs.lemmas.Bool.Decides.{nat_tests}
-use Rattle.std.proofs.lemmas.List.Sums.{sum_by-cons}
-use Rattle.std.proofs.lemmas.Option.{slice_get_within}
 use Rattle.tso_parts.specs.Numbers.{IsNumbered, IsNowhere, Extends}
-use Rattle.tso_store.specs.Numbers.{AreNumbersOf, before, count_kept, values_at}
+use Rattle.tso_store.specs.Numbers.{AreNumbersOf, before, values_at}
 
 pub past : {X : Type 0} (xs : List X) (n : ℕ) → length xs ≤ n → slice_get xs n ≡ None
 past [] n le = refl
@@ -28,31 +25,6 @@ values_is pool [] [] small are = refl
 values_is pool [] (x ∷ xs) small are = absurd are
 values_is pool (n ∷ ns) [] small are = before_none (slice_get pool n) (values_at pool ns) (nothing pool n small are.0)
 values_is pool (n ∷ ns) (x ∷ xs) small are = before_some (slice_get pool n) x (values_at pool ns) xs are.0 (values_is pool ns xs small are.1)
-
--- as many numbers as values
-abbrev weight : ℕ → ℕ
-weight n = cond (not (n == 4294967295)) 1 0
-
-of_none : (n : ℕ) → n ≡ 4294967295 → weight n ≡ 0
-of_none n e = rw e refl
-
-of_some : (n : ℕ) → n < 4294967295 → weight n ≡ 1
-of_some n lt = let no : (n == 4294967295) ≡ false = grind (arith, nat_tests) in rw no refl
-
-pub counted : {X : Type 0} (pool : List X) (ns : List ℕ) (xs : List X) → length pool < 2 ^ 32 → AreNumbersOf pool ns xs → count_kept ns ≡ length xs
-counted pool [] [] small are = refl
-counted pool [] (x ∷ xs) small are = absurd are
-counted pool (n ∷ ns) [] small are =
-    let none = of_none n are.0 in
-    let rest = counted pool ns [] small are.1 in
-    let all : weight n + count_kept ns ≡ 0 = omega (arith, none, rest) in
-    sum_by-cons weight n ns ∙ all
-counted pool (n ∷ ns) (x ∷ xs) small are =
-    let less = slice_get_within pool n x are.0 in
-    let one = of_some n (omega (arith, less, small)) in
-    let rest = counted pool ns xs small are.1 in
-    let all : weight n + count_kept ns ≡ length (x ∷ xs) = omega (arith, one, rest) in
-    sum_by-cons weight n ns ∙ all
 
 pub more_numbers : {X : Type 0} (old new : List X) (ns : List ℕ) (xs : List X) → Extends old new → AreNumbersOf old ns xs → AreNumbersOf new ns xs
 more_numbers old new [] [] ext are = are

@@ -42,10 +42,11 @@ pub record IsKept (c : Client) (p : Parts) (k : Key) : Type 0 where
 abbrev pub AreKept : Client → Parts → List Key → Type 0
 AreKept c p ks = AllByRecursion (IsKept c p) ks
 
--- the numbers are those of threads of a pool, as many as there are lists of calls
-pub record IsViewed (pool : List Thread) (numbers : List ℕ) (history : List (List Call)) : Type 0 where
+-- the numbers are those of threads of a pool, so many, as there are lists of calls
+pub record IsViewed (pool : List Thread) (numbers : List ℕ) (history : List (List Call)) (count : ℕ) : Type 0 where
   pub threads : AreNumbersOf pool numbers (values_at pool numbers)
-  pub lists : length history ≡ length (values_at pool numbers)
+  pub width : length (values_at pool numbers) ≡ count
+  pub lists : length history ≡ count
   pub small : length pool < 2 ^ 32
 
 -- the keys are of states of some client

@@ -1,5 +1,5 @@
 -- A list of values as a row of numbers, after which there is no number.
-use Rattle.std.specs.Prelude.{◌≡◌, ◌==◌, ℕ, List, [], ◌∷◌, Option, Some, None, count_by, not, slice_get}
+use Rattle.std.specs.Prelude.{◌≡◌, ℕ, List, [], ◌∷◌, Option, Some, None, slice_get}
 
 -- these numbers are those of the values, and each one after them is the number of nothing
 abbrev pub AreNumbersOf : {X : Type 0} → List X → List ℕ → List X → Type 0
@@ -7,10 +7,6 @@ AreNumbersOf pool [] [] = Unit {0}
 AreNumbersOf pool [] (x ∷ xs) = ⊥
 AreNumbersOf pool (n ∷ ns) [] = (n ≡ 4294967295) × AreNumbersOf pool ns []
 AreNumbersOf pool (n ∷ ns) (x ∷ xs) = (slice_get pool n ≡ Some x) × AreNumbersOf pool ns xs
-
--- how many of these are numbers of something
-abbrev pub count_kept : List ℕ → ℕ
-count_kept ns = count_by (λ n. not (n == 4294967295)) ns
 
 -- one of the values has no number
 abbrev pub HasNoRow : {X : Type 0} → List X → List X → Type 0

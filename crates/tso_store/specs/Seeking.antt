@@ -11,7 +11,8 @@ use Rattle.tso_prog.specs.declared.client.Client.{Client}
 use Rattle.tso_state.specs.declared.actor.Actor.{Actor}
 use Rattle.tso_state.specs.declared.state.State.{State}
 use Rattle.tso_state.specs.declared.state.Thread.{Thread}
-use Rattle.tso_store.specs.Keys.{IsKeyOf, state_at}
+use Rattle.tso_store.specs.Keys.{IsKeyOf, state_at, states_at}
+use Rattle.tso_store.specs.Sheets.{CanStep, IsSuccessorNowhere}
 use Rattle.tso_store.specs.Stepping.{IsStepOf}
 use Rattle.tso_store.specs.declared.key.Key.{Key}
 use Rattle.tso_store.specs.declared.parts.Parts.{Parts}
@@ -46,3 +47,15 @@ abbrev pub IsStepSought : Client → Parts → Key → Actor → Sought → Type
 IsStepSought c p k a Disabled = HasStep c (state_at p k) a → ⊥
 IsStepSought c p k a Absent = HasStep c (state_at p k) a × HasNoKeyAfter c p k a
 IsStepSought c p k a (At next) = IsStepOf c p k a p next
+
+-- the key of the state after the actor's step from the state with this number
+pub record IsStepFrom (c : Client) (p : Parts) (ks : List Key) (n : ℕ) (a : Actor) (next : Key) : Type 0 where
+  pub from : Key
+  pub at : slice_get ks n ≡ Some from
+  pub step : IsStepOf c p from a p next
+
+-- that key, or that there is no such step, or that no kept state comes of it
+abbrev pub IsSoughtFrom : Client → Parts → List Key → ℕ → Actor → Sought → Type 0
+IsSoughtFrom c p ks n a Disabled = CanStep c (states_at p ks) n a → ⊥
+IsSoughtFrom c p ks n a Absent = CanStep c (states_at p ks) n a × IsSuccessorNowhere c (states_at p ks) n a
+IsSoughtFrom c p ks n a (At next) = IsStepFrom c p ks n a next

@@ -5,14 +5,17 @@ ghost use Rattle.tso_parts.specs.declared.refused.Refused.TheVariants as reasons
 ghost use Rattle.tso_store.specs.Gathering.{AreThere, moved_from, picked};
 ghost use Rattle.tso_store.specs.Keys.{AreKept, part_count, states_at};
 ghost use Rattle.tso_store.specs.Moving.{moved_key};
+ghost use Rattle.tso_store.specs.Orders.{IsCompared};
 
 use crate::kept::{find_key, fits_client};
 use crate::key::Key;
 use crate::moved::{PartNumbers, moved_key, take_parts};
 use crate::numbered::Store;
+use crate::orders::compare_keys;
 use crate::parts::Parts;
 use crate::ranking::key_or_none;
 use std::alloc::{AllocError, Global};
+use std::cmp::Ordering;
 use std::marker::Model;
 use tso_flow::Checked;
 use tso_list::{Exact, Seq};
@@ -188,6 +191,19 @@ impl<'a> Gathered<'a> {
         match kept_at(self.keys.as_slice(), place) {
             Some(kept) => are_same(&kept, &key),
             None => false,
+        }
+    }
+
+    /// How two states are ordered, if there are so many: memory, threads, history, each as lists are. It takes no memory.
+    pub fn compare(&self, a: usize, b: usize) -> Option<Ordering>
+        ensures { IsCompared self.now.states a b result }
+    {
+        match kept_at(self.keys.as_slice(), a) {
+            Some(first) => match kept_at(self.keys.as_slice(), b) {
+                Some(second) => Some(compare_keys(&self.parts, &first, &second)),
+                None => None,
+            },
+            None => None,
         }
     }
 

@@ -1,5 +1,5 @@
 //! Keys of states, and states of keys.
-ghost use Rattle.std.specs.Prelude.{◌≡◌, ◌↔◌, ◌+◌, ◌<◌, ◌≤◌, ◌^◌, length, Some, Err, IsTrue, IfOk, IfSome, OnErr, MatchOption, slice_get};
+ghost use Rattle.std.specs.Prelude.{◌≡◌, ◌↔◌, ◌+◌, ◌<◌, ◌≤◌, ◌^◌, length, Some, Err, IsTrue, IfOk, IfSome, OnErr, MatchOption, slice_get, slice_index_or};
 ghost use Rattle.tso_parts.specs.Numbers.{Extends, IsNowhere};
 ghost use Rattle.tso_parts.specs.declared.refused.Refused.TheVariants as reasons;
 ghost use Rattle.tso_store.specs.Keys.{FitsClient, Grows, HasNoKey, IsKeyOf, part_count};
@@ -62,7 +62,9 @@ pub fn add_near<T: Exact + Hash + Clone + Drop>(
 }
 
 /// The number at a place of a row; that of nothing past its end.
-pub fn number_at(row: &[u32; 5], place: usize) -> u32 {
+pub fn number_at(row: &[u32; 5], place: usize) -> u32
+    ensures { result ≡ slice_index_or row.now place 4294967295 }
+{
     row.get(place).copied().unwrap_or(NONE)
 }
 

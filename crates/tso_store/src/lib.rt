@@ -4,6 +4,7 @@
 mod fault;
 mod forms;
 mod gathered;
+mod halving;
 mod history_after;
 mod kept;
 mod key;

@@ -113,7 +113,7 @@ fn lone_core(
     match run_of(&checked.client, &parts.threads, known, procedure, own) {
         Run::Leaves(_) => Some(StepKind::Local),
         Run::Does(motion) => lone_motion(motion),
-        Run::Unknown => match View::of_key(parts, running, key) {
+        Run::Unknown => match View::of_key(&checked.client, parts, running, key) {
             Some(view) => lone_seen(checked, &view, thread),
             None => None,
         },

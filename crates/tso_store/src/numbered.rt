@@ -6,12 +6,14 @@ ghost use Rattle.tso_store.specs.Forms.{AreForms};
 ghost use Rattle.tso_store.specs.Keys.{AreKept, FitsClient, part_count, states_at};
 ghost use Rattle.tso_store.specs.Lone.{HasNoLoneAt, IsLoneAt};
 ghost use Rattle.tso_store.specs.Orders.{AreRowsOf, IsCompared};
+ghost use Rattle.tso_store.specs.Rising.{AreRising};
 ghost use Rattle.tso_store.specs.Sheets.{CanStep, IsAdded, IsFound, IsSuccessorOrNone};
 ghost use Rattle.tso_store.specs.Unions.{IsUnion, IsWithinUnion};
 ghost use Rattle.tso_store.specs.declared.fault.AddError.TheVariants as errors;
 
 use crate::fault::AddError;
 use crate::forms::{Forms, forms_of};
+use crate::halving::number_risen;
 use crate::kept::{find_key, fits_client, key_of};
 use crate::key::Key;
 use crate::known::{Known, learn_runs};
@@ -22,7 +24,7 @@ use crate::parts::Parts;
 use crate::ranking::{compare_at, key_at, key_or_none};
 use crate::ranks::ranks_of;
 use crate::running::{Running, learn_running};
-use crate::sought::{Found, Sought, find_step};
+use crate::sought::{Found, Sought, find_from};
 use crate::standings::Standings;
 use crate::stepped::step_key;
 use crate::view::{View, copy_of};
@@ -103,7 +105,7 @@ impl<'a> Store<'a> {
         ensures fits { IfSome result (FitsClient self.now.client) }
     {
         match self.keys.get(number) {
-            Some(key) => View::of_key(&self.parts, &self.running, key),
+            Some(key) => View::of_key(&self.checked.client, &self.parts, &self.running, key),
             None => None,
         }
     }
@@ -277,8 +279,9 @@ impl<'a> Store<'a> {
         Ok(Some(result))
     }
 
-    /// Remembers where the next steps of kept threads lead, so that `find_successor` is fast in a store that no `successor`
-    /// filled. The states stay.
+    /// Remembers where the next steps of kept threads lead, which calls they are in and how many they have begun, so that
+    /// `find_successor` is fast, and neither `lone` nor a view that is asked for them looks at a history, in a store that no
+    /// `successor` filled. The states stay.
     ///
     /// Errors: where a growth was refused.
     pub fn learn(&mut self) -> Result<(), AllocError>
@@ -286,18 +289,7 @@ impl<'a> Store<'a> {
         ensures kept { self.new.kept ≡ self.old.kept }
         ensures client { self.new.client ≡ self.old.client }
     {
-        learn_runs(&self.checked.client, &self.parts.threads, &mut self.known)
-    }
-
-    /// Remembers which calls the threads of kept states are in, and how many they have begun, so that neither `lone` nor a view that
-    /// is asked for them looks at a history, in a store that no `successor` filled. The states stay.
-    ///
-    /// Errors: where a growth was refused.
-    pub fn learn_running(&mut self) -> Result<(), AllocError>
-        ensures states { self.new.states ≡ self.old.states }
-        ensures kept { self.new.kept ≡ self.old.kept }
-        ensures client { self.new.client ≡ self.old.client }
-    {
+        learn_runs(&self.checked.client, &self.parts.threads, &mut self.known)?;
         learn_running(&self.parts.histories, &mut self.running)
     }
 
@@ -306,23 +298,48 @@ impl<'a> Store<'a> {
     pub fn find_successor(&self, number: u32, actor: Actor) -> Found
         ensures { IsFound self.now.client self.now.states number actor result }
     {
-        let Some(key) = key_at(&self.keys, number) else {
-            return Found::Disabled;
-        };
         self.parts.threads.is_numbered();
         self.parts.memories.is_numbered();
         self.parts.histories.is_numbered();
-        match find_step(
+        match find_from(
             &self.checked.client,
             &self.parts,
             &self.known,
             &self.running,
-            &key,
+            &self.keys,
+            number,
             actor,
         ) {
             Sought::Disabled => Found::Disabled,
             Sought::Absent => Found::Absent,
             Sought::At(next) => match self.keys.find(&next) {
+                Some(number) => Found::At(number),
+                None => Found::Absent,
+            },
+        }
+    }
+
+    /// The same in a store whose states rise, which needs no index of them: the state is looked for first at the number `near` and
+    /// the next ones, which need not be those of states, and then by halves.
+    pub fn find_risen_successor(&self, number: u32, actor: Actor, near: u32) -> Found
+        requires rising { AreRising self.now.states }
+        ensures { IsFound self.now.client self.now.states number actor result }
+    {
+        self.parts.threads.is_numbered();
+        self.parts.memories.is_numbered();
+        self.parts.histories.is_numbered();
+        match find_from(
+            &self.checked.client,
+            &self.parts,
+            &self.known,
+            &self.running,
+            &self.keys,
+            number,
+            actor,
+        ) {
+            Sought::Disabled => Found::Disabled,
+            Sought::Absent => Found::Absent,
+            Sought::At(next) => match number_risen(&self.parts, &self.keys, near, &next) {
                 Some(number) => Found::At(number),
                 None => Found::Absent,
             },

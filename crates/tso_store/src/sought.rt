@@ -2,21 +2,22 @@
 ghost use Rattle.std.specs.Prelude.{◌≡◌, ◌<◌, ◌^◌, length, Some, IfSome, slice_get};
 ghost use Rattle.tso_state.specs.Actors.{thread_of};
 ghost use Rattle.tso_state.specs.declared.actor.Actor.TheVariants as actors;
-ghost use Rattle.tso_store.specs.Keys.{IsKept, state_at};
+ghost use Rattle.tso_store.specs.Keys.{AreKept, IsKept, state_at};
 ghost use Rattle.tso_store.specs.Running.{AreRunning};
 ghost use Rattle.tso_store.specs.Remembered.{AreKnown, FitsAt};
-ghost use Rattle.tso_store.specs.Seeking.{IsKeySought, IsStepSought, IsThreadSought};
+ghost use Rattle.tso_store.specs.Seeking.{IsKeySought, IsSoughtFrom, IsStepSought, IsThreadSought};
 ghost use Rattle.tso_store.specs.Stepping.{IsPlanned, IsStepOf};
 
 use crate::key::Key;
 use crate::known::{Known, known_drain, known_run};
 use crate::lookup::{find_history, find_memory, find_thread};
 use crate::parts::Parts;
+use crate::ranking::key_at;
 use crate::running::{Running, procedure_at};
 use crate::stepped::{own_number, plan, with_thread, word_at, written_at};
 use tso_compact::Motion;
 use tso_list::Seq;
-use tso_parts::Catalog;
+use tso_parts::{Catalog, Pool};
 use tso_prog::Client;
 use tso_state::{Actor, Thread};
 
@@ -167,8 +168,8 @@ fn find_core(
     }
 }
 
-/// The key of the state after the actor's next step, if there is one and its parts are kept.
-pub fn find_step(
+// The key of the state after the actor's next step, if there is one and its parts are kept.
+fn find_step(
     client: &Client,
     parts: &Parts,
     known: &Seq<Known>,
@@ -188,5 +189,27 @@ pub fn find_step(
     match actor {
         Actor::Exec(thread) => find_core(client, parts, known, running, key, thread, own),
         Actor::Drain(_) => find_by_plan(client, parts, known, running, key, actor, own),
+    }
+}
+
+/// The key of the state after the actor's next step from the state with this number, if there is such a step and its parts are kept.
+pub fn find_from(
+    client: &Client,
+    parts: &Parts,
+    known: &Seq<Known>,
+    running: &Seq<Running>,
+    keys: &Pool<Key>,
+    number: u32,
+    actor: Actor,
+) -> Sought
+    requires kept { AreKept client.now parts.now keys.now }
+    requires small { length parts.now.threads < 2 ^ 32 }
+    requires known { AreKnown client.now parts.now.threads known.now }
+    requires running { AreRunning parts.now.histories running.now }
+    ensures { IsSoughtFrom client.now parts.now keys.now number actor result }
+{
+    match key_at(keys, number) {
+        Some(key) => find_step(client, parts, known, running, &key, actor),
+        None => Sought::Disabled,
     }
 }

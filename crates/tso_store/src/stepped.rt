@@ -113,7 +113,7 @@ fn planned_at(
     requires running { AreRunning parts.now.histories running.now }
     ensures { MatchOption result (HasStep client.now (state_at parts.now key.now) actor → ⊥) (IsPlanned client.now (state_at parts.now key.now) actor) }
 {
-    match View::of_key(parts, running, key) {
+    match View::of_key(client, parts, running, key) {
         Some(view) => planned(client, &view, actor),
         None => None,
     }

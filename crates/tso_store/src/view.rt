@@ -1,8 +1,8 @@
 //! A kept state, read where it is kept.
 ghost use Rattle.std.specs.Prelude.{◌≡◌, ◌↔◌, IfOk, IsTrue, slice_get};
-ghost use Rattle.tso_store.specs.Numbers.{count_kept, values_at};
+ghost use Rattle.tso_store.specs.Numbers.{values_at};
 
-use crate::key::{Key, NONE};
+use crate::key::Key;
 use crate::parts::Parts;
 use crate::running::{Running, begun_by, procedure_by};
 use std::alloc::{AllocError, Global};
@@ -10,26 +10,22 @@ use std::marker::Model;
 use tso_flow::ProcedureKind;
 use tso_hist::{Call, History};
 use tso_list::{Seq, is_same};
+use tso_machine::thread_count;
 use tso_parts::Catalog;
+use tso_prog::Client;
 use tso_state::{State, Thread, Viewed};
 
-// How many of these are numbers of something.
-fn count_kept(numbers: &[u32]) -> usize
-    ensures { result ≡ count_kept numbers.now }
-{
-    numbers.iter().filter(|number| **number != NONE).count()
-}
-
-/// A kept state. Contracts see the state. How many threads there are, which calls they are in, and how many they have begun is told
-/// without a look at its history, where that is remembered.
+/// A kept state. Contracts see the state. How many threads it has is kept beside it; which calls they are in, and how many they have
+/// begun, is told without a look at its history, where that is remembered.
 #[derive(Drop)]
 pub struct View<'a> {
     memory: &'a Seq<u64>,
     history: &'a History,
+    history_number: u32,
     running: &'a Seq<Running>,
-    number: u32,
     threads: &'a Catalog<Thread>,
     numbers: [u32; 5],
+    count: usize,
 }
 
 impl<'a> Model for View<'a> {
@@ -43,7 +39,7 @@ impl<'a> Model for View<'a> {
 
     ghost view = { λ v. record { memory = v.memory.now; threads = values_at v.threads.now v.numbers; history = v.history.now } };
 
-    ghost invariant = { λ v. IsViewed v.threads.now v.numbers v.history.now × IsRemembered v.history.now v.running.now v.number };
+    ghost invariant = { λ v. IsViewed v.threads.now v.numbers v.history.now v.count × IsRemembered v.history.now v.running.now v.history_number };
 }
 
 impl<'a> Viewed for View<'a> {
@@ -54,7 +50,7 @@ impl<'a> Viewed for View<'a> {
     }
 
     fn thread_count(&self) -> usize {
-        count_kept(self.numbers.as_slice())
+        self.count
     }
 
     fn thread(&self, number: usize) -> Option<&Thread> {
@@ -69,7 +65,7 @@ impl<'a> Viewed for View<'a> {
     }
 
     fn history_count(&self) -> usize {
-        count_kept(self.numbers.as_slice())
+        self.count
     }
 
     fn calls(&self, number: usize) -> Option<&[Call]> {
@@ -78,18 +74,17 @@ impl<'a> Viewed for View<'a> {
     }
 
     fn begun(&self, number: usize) -> usize {
-        begun_by(self.running, self.number, self.history, number)
+        begun_by(self.running, self.history_number, self.history, number)
     }
 
     fn procedure(&self, number: usize) -> ProcedureKind {
-        procedure_by(self.running, self.number, self.history, number)
+        procedure_by(self.running, self.history_number, self.history, number)
     }
 }
 
 impl<'a> View<'a> {
     ghost use Rattle.std.specs.Prelude.{◌^◌, ◌<◌, ◌↔◌, IsTrue, Some, length};
     ghost use Rattle.tso_store.specs.Keys.{IsKept, state_at};
-    ghost use Rattle.tso_prog.specs.declared.client.Client.{Client};
     ghost use Rattle.tso_store.specs.Running.{AreRunning};
 
     /// The words of its memory.
@@ -113,8 +108,13 @@ impl<'a> View<'a> {
     }
 
     /// The state of a key, where it is kept.
-    pub(crate) fn of_key(parts: &'a Parts, running: &'a Seq<Running>, key: &Key) -> Option<View<'a>>
-        requires kept { (c : Client) × IsKept c parts.now key.now }
+    pub(crate) fn of_key(
+        client: &Client,
+        parts: &'a Parts,
+        running: &'a Seq<Running>,
+        key: &Key,
+    ) -> Option<View<'a>>
+        requires kept { IsKept client.now parts.now key.now }
         requires small { length parts.now.threads < 2 ^ 32 }
         requires running { AreRunning parts.now.histories running.now }
         ensures { result ≡ Some (state_at parts.now key.now) }
@@ -124,10 +124,11 @@ impl<'a> View<'a> {
         Some(View {
             memory,
             history,
+            history_number: key.history,
             running,
-            number: key.history,
             threads: &parts.threads,
             numbers: key.threads,
+            count: thread_count(client),
         })
     }
 }

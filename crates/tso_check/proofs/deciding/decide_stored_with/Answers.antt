@@ -22,6 +22,3 @@ judge_with-found-requires-clause-ready g c =
     let long = s.long in
     let most = s.few in
     λ k within. (s, subst (λ (client : Client). AreForms client c.args.scanned.now.store.states c.in_ok-forms-in-None.forms) s.client c.in_ok-forms-in-None.ensures, omega (arith, count, long, most))
-
-pub is_rising_with-requires-clause-few : goal.is_rising_with-requires-clause-few
-is_rising_with-requires-clause-few g c = λ k within. c.requires.stored.few

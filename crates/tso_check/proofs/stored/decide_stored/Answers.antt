@@ -12,8 +12,5 @@ returns-in_ok-found-in-None c = λ tree is.
     let whole = (rw c.in-None.is at c.in_ok-code.ensures) tree is in
     c.verdict_of.ensures c.args.checked.now.client c.args.scanned.now.table tree whole (stored_whole c.args.checked.now.client c.args.scanned.now tree c.len-count.result c.in_ok-found-in-None.field-0 is c.len-count.ensures c.in_ok-found-in-None.ensures)
 
-pub is_rising-rises-requires : goal.is_rising-rises-requires
-is_rising-rises-requires c = c.requires.few
-
 pub judge_numbers-found-requires-clause-forms : goal.judge_numbers-found-requires-clause-forms
 judge_numbers-found-requires-clause-forms c = subst (λ (client : Client). AreForms client c.args.scanned.now.store.states c.in_ok-forms-in-None.forms) c.requires.client c.in_ok-forms-in-None.ensures

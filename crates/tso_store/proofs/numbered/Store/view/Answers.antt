@@ -3,7 +3,7 @@ use Rattle.tso_store.proofs.Sheeted.{kept_at, state_got, state_none}
 use Rattle.tso_store.proofs.numbered.Store.view.Goals as goal
 
 pub of_key-requires-clause-kept : goal.of_key-requires-clause-kept
-of_key-requires-clause-kept c = (c.self.inside.checked.now.client, kept_at c.self.inside.checked.now.client c.self.inside.parts c.self.inside.keys c.args.number c.in-Some.key.now c.self.invariant.kept (sym c.in-Some.ensures))
+of_key-requires-clause-kept c = kept_at c.self.inside.checked.now.client c.self.inside.parts c.self.inside.keys c.args.number c.in-Some.key.now c.self.invariant.kept (sym c.in-Some.ensures)
 
 pub returns-in-Some-clause-state : goal.returns-in-Some-clause-state
 returns-in-Some-clause-state c = rw (← c.self.view_is) (c.of_key.ensures ∙ sym (state_got c.self.inside.parts c.self.inside.keys c.args.number c.in-Some.key.now (sym c.in-Some.ensures)))

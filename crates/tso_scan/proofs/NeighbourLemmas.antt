@@ -1,0 +1,111 @@
+-- The order of neighbours, from halves, and of all states, from neighbours.
+use Rattle.std.proofs.Common.{◌≡◌, ◌∙◌, ℕ, zero, suc, ◌+◌, ◌-◌, ◌<◌, ◌≤◌, Bool, List, [], ◌∷◌, length, inl, inr, Some, refl, slice_get, sym, ap, subst, arith}
+use Rattle.std.specs.Prelude.{◌↔◌, Err, IfOk, IsTrue, Ok, Result}
+use Rattle.std.proofs.lemmas.Bool.{cases_lt}
+use Rattle.std.proofs.lemmas.Cmp.{tied_itself}
+use Rattle.std.proofs.lemmas.Option.{same_Some, slice_get_within}
+use Rattle.std.specs.List.{AllByRecursion}
+use Rattle.std.specs.declared.cmp.Ordering.{Ordering}
+use Rattle.std.specs.declared.cmp.Ordering.TheVariants.{Less}
+use Rattle.tso_cert.proofs.LookupLemmas.{rises, total}
+use Rattle.tso_cert.specs.Lookup.{IsBelow, IsRising}
+use Rattle.tso_parts.proofs.Marked.{item_at}
+use Rattle.tso_parts.specs.Numbers.{IsNumbered}
+use Rattle.tso_scan.specs.Neighbours.{AreHalved, RisesBetween, Stairs}
+use Rattle.tso_state.specs.Order.{state_cmp}
+use Rattle.tso_state.specs.declared.state.State.{State}
+use Rattle.tso_store.specs.Orders.{IsOrderOf}
+
+-- the order of two states is the one that was found
+pub is_less_at : (states : List State) (n m : ℕ) (o : Ordering) (r : Bool) → IsOrderOf states n m o → (IsTrue r ↔ (o ≡ Less)) → IsTrue r ↔ IsOrderOf states n m Less
+is_less_at states n m o r found is = (
+  λ h. subst (IsOrderOf states n m) (is.0 h) found,
+  λ less.
+      let left : found.first ≡ less.first = same_Some found.first less.first (sym found.first_at ∙ less.first_at) in
+      let right : found.second ≡ less.second = same_Some found.second less.second (sym found.second_at ∙ less.second_at) in
+      is.1 (found.order ∙ (λ i. state_cmp (left i) (right i)) ∙ sym less.order),
+)
+
+pub rises_none : (states : List State) (from : ℕ) → RisesBetween states from from
+rises_none states from = λ k le lt. absurd (omega (arith, le, lt))
+
+pub rises_more : (states : List State) (from to : ℕ) → RisesBetween states from to → IsOrderOf states (to - 1) to Less → RisesBetween states from (to + 1)
+rises_more states from to so_far next = λ k le lt. elim (cases_lt k to) [
+  | inl less ↦ so_far k le less
+  | inr ge ↦ let same : to ≡ k = omega (arith, lt, ge) in subst (λ n. IsOrderOf states (n - 1) n Less) same next
+]
+
+pub both_rise : (whole left right : Stairs) → AreHalved whole left right → RisesBetween left.states left.from left.to → RisesBetween right.states right.from right.to → RisesBetween whole.states whole.from whole.to
+both_rise whole left right halves first second =
+    let P : Stairs → Type 0 = λ s. RisesBetween s.states s.from s.to in
+    let one = subst P halves.left_is first in
+    let two = subst P halves.right_is second in
+    λ k le lt. elim (cases_lt k halves.middle) [
+      | inl less ↦ one k le less
+      | inr ge ↦ two k ge lt
+    ]
+
+pub left_rises : (whole left right : Stairs) → AreHalved whole left right → RisesBetween whole.states whole.from whole.to → RisesBetween left.states left.from left.to
+left_rises whole left right halves all =
+    let P : Stairs → Type 0 = λ s. RisesBetween s.states s.from s.to in
+    let ends = halves.ends in
+    subst P (sym halves.left_is) (λ k le lt. all k le (omega (arith, lt, ends)))
+
+pub right_rises : (whole left right : Stairs) → AreHalved whole left right → RisesBetween whole.states whole.from whole.to → RisesBetween right.states right.from right.to
+right_rises whole left right halves all =
+    let P : Stairs → Type 0 = λ s. RisesBetween s.states s.from s.to in
+    let begins = halves.begins in
+    subst P (sym halves.right_is) (λ k le lt. all k (omega (arith, le, begins)) lt)
+
+-- ---- all states
+
+all_above : (x y : State) (ys : List State) → IsBelow x y → AllByRecursion (λ z. IsBelow y z) ys → AllByRecursion (λ z. IsBelow x z) ys
+all_above x y [] below all = tt
+all_above x y (z ∷ zs) below all = (total.trans x y z below all.0, all_above x y zs below all.1)
+
+-- where each is below the next, all rise
+rises_by_next : (states : List State) → ((k : ℕ) (x y : State) → slice_get states k ≡ Some x → slice_get states (k + 1) ≡ Some y → IsBelow x y) → IsRising states
+rises_by_next [] next = tt
+rises_by_next (x ∷ []) next = (tt, tt)
+rises_by_next (x ∷ y ∷ ys) next =
+    let below = next 0 x y refl refl in
+    let rest = rises_by_next (y ∷ ys) (λ k z w at there. next (k + 1) z w (ap (slice_get (x ∷ y ∷ ys)) (let e : k + 1 ≡ suc k = omega arith in e) ∙ at) (ap (slice_get (x ∷ y ∷ ys)) (let e : k + 1 + 1 ≡ suc (k + 1) = omega arith in e) ∙ there)) in
+    ((below, all_above x y ys below rest.0), rest)
+
+next_below : (states : List State) → RisesBetween states 1 (length states) → (k : ℕ) (x y : State) → slice_get states k ≡ Some x → slice_get states (k + 1) ≡ Some y → IsBelow x y
+next_below states all k x y at there =
+    let o = all (k + 1) (omega arith) (slice_get_within states (k + 1) y there) in
+    let e : k + 1 - 1 ≡ k = omega arith in
+    let left : o.first ≡ x = same_Some o.first x (sym o.first_at ∙ ap (slice_get states) e ∙ at) in
+    let right : o.second ≡ y = same_Some o.second y (sym o.second_at ∙ there) in
+    subst (λ u. IsBelow u y) left (subst (IsBelow o.first) right (sym o.order))
+
+above_last : (states : List State) → IsRising states → (k : ℕ) → 1 ≤ k → k < length states → IsOrderOf states (k - 1) k Less
+above_last states rising k some lt =
+    item_at states (k - 1) (omega (arith, some, lt)) (λ x at.
+    item_at states k lt (λ y there.
+    record { first = x; second = y; first_at = at; second_at = there; order = sym (rises states (k - 1) k x y rising (omega (arith, some)) at there) }))
+
+-- states rise where each but the first is above the one before
+pub rising_by_neighbours : (states : List State) (n : ℕ) (r : Bool) → n ≡ length states → (IsTrue r ↔ RisesBetween states 1 n) → IsTrue r ↔ IsRising states
+rising_by_neighbours states n r long found = (
+  λ e. rises_by_next states (next_below states (subst (RisesBetween states 1) long (found.0 e))),
+  λ rising. found.1 (λ k some lt. above_last states rising k some (omega (arith, lt, long))),
+)
+
+pub rising_told : {E : Type 0} (states : List State) (n : ℕ) (result : Result Bool E) → n ≡ length states → IfOk result (λ b. IsTrue b ↔ RisesBetween states 1 n) → IfOk result (λ b. IsTrue b ↔ IsRising states)
+rising_told states n (Ok b) long found = rising_by_neighbours states n b long found
+rising_told states n (Err e) long found = tt
+
+not_below : (x : State) → IsBelow x x → ⊥
+not_below x below = let tied = tied_itself total x in cc
+
+-- states that rise are all different
+pub rising_differ : (states : List State) → IsRising states → IsNumbered states
+rising_differ states rising i j x e f = elim (cases_lt i j) [
+  | inl less ↦ absurd (not_below x (rises states i j x x rising less e f))
+  | inr ge ↦ elim (cases_lt j i) [
+    | inl more ↦ absurd (not_below x (rises states j i x x rising more f e))
+    | inr le ↦ omega (arith, ge, le)
+  ]
+]
