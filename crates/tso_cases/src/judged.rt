@@ -1,7 +1,8 @@
 //! Records that are judged: their states and ends are told by texts.
 
 ghost use Rattle.std.specs.Prelude.{◌≡◌, ◌∷◌, [], IfOk};
-ghost use Rattle.tso_cert.specs.Lookup.{IsBelow, IsOrdered, IsRising};
+ghost use Rattle.tso_cert.specs.Lookup.{IsOrdered};
+ghost use Rattle.tso_state.specs.Rising.{IsBelow, IsRising};
 ghost use Rattle.tso_cert.specs.Trees.{tree_of};
 ghost use Rattle.tso_rec.specs.Records.{states_of};
 

@@ -84,7 +84,6 @@ fn put_record(
         checked,
         table,
         state,
-        &state.history,
         history_fits(checked, &state.history),
         end,
     )?;

@@ -1,45 +1,25 @@
 -- What a tree has: a search by halves in states that rise, and the right half of a fork.
 use Rattle.std.proofs.Common.{◌≡◌, ℕ, zero, suc, ◌+◌, ◌≤◌, ◌<◌, Bool, List, [], ◌∷◌, ◌++◌, length, get_or, Option, Some, None, option_map, slice_get, refl, ap, subst, ◌∙◌, arith, inl, inr}
 use Rattle.std.proofs.lemmas.Bool.{cases_lt}
-use Rattle.std.proofs.lemmas.Cmp.{tied_itself}
 use Rattle.std.proofs.lemmas.List.{map-append}
 use Rattle.std.proofs.lemmas.List.Elements.{Contains-append_left, Contains-append_right, Contains-append_cases}
 use Rattle.std.proofs.lemmas.Option.{get_or_from_slice_get, slice_get-get_or, slice_get_within}
-use Rattle.std.specs.Cmp.{IsTotalOrder}
 use Rattle.std.specs.List.{AllByRecursion}
 use Rattle.std.specs.Prelude.{◌↔◌, IsTrue, Contains}
 use Rattle.std.specs.declared.cmp.Ordering.{Ordering}
 use Rattle.std.specs.declared.cmp.Ordering.TheVariants.{Less, Greater}
 use Rattle.tso_rec.specs.Records.{states_of}
 use Rattle.tso_rec.specs.declared.record.Record.{Record}
-use Rattle.tso_state.proofs.OrderLemmas.{state_alike}
+use Rattle.tso_state.proofs.RisingLemmas.{not_itself, one_of, rises, total}
 use Rattle.tso_state.specs.Order.{state_cmp}
-use Rattle.tso_state.specs.contracts.state.StateOrd.TheImpl as state_order
-use Rattle.tso_state.specs.contracts.state.StateOrd.TheImpl.Laws as laws
 use Rattle.tso_state.specs.declared.state.State.{State}
-use Rattle.tso_cert.specs.Lookup.{IsBelow, IsAtMost, IsOrdered, IsRising}
+use Rattle.tso_cert.specs.Lookup.{IsOrdered}
+use Rattle.tso_state.specs.Rising.{IsBelow, IsAtMost, IsRising}
 use Rattle.tso_cert.specs.Search.{IsSearchable, IsSplit}
 use Rattle.tso_cert.specs.Trees.{Tree, leaf, fork, records_of}
 
-pub total : IsTotalOrder state_cmp
-total = let f : state_order.cmp-value.it ≡ state_cmp = λ i x y. state_alike x y i in subst (λ (R : State → State → Ordering). IsTotalOrder R) f laws.total-law
-
-one_of : {X : Type 0} (P : X → Type 0) (xs : List X) (k : ℕ) (x : X) → AllByRecursion P xs → slice_get xs k ≡ Some x → P x
-one_of P [] k x all e = absurd cc
-one_of P (y ∷ ys) zero x all e = let is : y ≡ x = cc in subst P is all.0
-one_of P (y ∷ ys) (suc k) x all e = one_of P ys k x all.1 e
-
-pub rises : (xs : List State) (i j : ℕ) (x y : State) → IsRising xs → i < j → slice_get xs i ≡ Some x → slice_get xs j ≡ Some y → IsBelow x y
-rises [] i j x y rising lt e f = absurd cc
-rises (z ∷ zs) i zero x y rising lt e f = absurd (omega arith)
-rises (z ∷ zs) zero (suc j) x y rising lt e f = let is : z ≡ x = cc in subst (λ (w : State). IsBelow w y) is (one_of (λ w. IsBelow z w) zs j y rising.0 f)
-rises (z ∷ zs) (suc i) (suc j) x y rising lt e f = rises zs i j x y rising.1 (omega arith) e f
-
 same_item : (xs : List State) (i j : ℕ) (x y : State) → i ≡ j → slice_get xs i ≡ Some x → slice_get xs j ≡ Some y → x ≡ y
 same_item xs i j x y same e f = let g : slice_get xs i ≡ slice_get xs j = ap (slice_get xs) same in cc
-
-not_itself : (x : State) → IsBelow x x → ⊥
-not_itself x below = let tied = tied_itself total x in cc
 
 -- the state at a place, and how it is ordered
 pub ordered_at : (xs : List State) (s : State) (k : ℕ) (o : Ordering) → option_map (λ x. state_cmp x s) (slice_get xs k) ≡ Some o → (m : State) × (slice_get xs k ≡ Some m) × (state_cmp m s ≡ o)
@@ -96,9 +76,7 @@ is_nowhere xs s low high split met (k, inside, is) =
 
 -- what holds of each element holds of one that the list contains
 of_one : {X : Type 0} (P : X → Type 0) (xs : List X) (x : X) → AllByRecursion P xs → (k : ℕ) → k < length xs → get_or xs k x ≡ x → P x
-of_one P [] x all k lt e = absurd (omega arith)
-of_one P (y ∷ ys) x all zero lt e = subst P e all.0
-of_one P (y ∷ ys) x all (suc k) lt e = of_one P ys x all.1 k (omega arith) e
+of_one P xs x all k lt e = one_of P xs k x all (slice_get-get_or xs k x lt ∙ ap Some e)
 
 pub left_only : (left right : List Record) (s m : State) (r : Bool) → IsBelow s m → AllByRecursion (λ x. IsAtMost m x) (states_of right) → IsTrue r ↔ Contains (states_of left) s
     → IsTrue r ↔ Contains (states_of (left ++ right)) s

@@ -3,7 +3,8 @@ use Rattle.std.specs.Prelude.{◌≡◌, ℕ, ◌≤◌, ◌<◌, List, length, 
 use Rattle.std.specs.List.{AllByRecursion}
 use Rattle.tso_rec.specs.Records.{states_of}
 use Rattle.tso_state.specs.declared.state.State.{State}
-use Rattle.tso_cert.specs.Lookup.{IsAtMost, IsBelow, IsRising, tree_states}
+use Rattle.tso_cert.specs.Lookup.{tree_states}
+use Rattle.tso_state.specs.Rising.{IsAtMost, IsBelow, IsRising}
 use Rattle.tso_cert.specs.Trees.{Tree, leaf, fork}
 
 -- the states before low are below s, and those from high on are above it

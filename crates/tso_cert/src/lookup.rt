@@ -1,6 +1,7 @@
 //! How many records a tree has, and which states.
 ghost use Rattle.std.specs.Prelude.{◌≡◌, ◌≤◌, ◌↔◌, Contains, IsTrue};
-ghost use Rattle.tso_cert.specs.Lookup.{IsBelow, IsOrdered, IsRising, tree_states};
+ghost use Rattle.tso_cert.specs.Lookup.{IsOrdered, tree_states};
+ghost use Rattle.tso_state.specs.Rising.{IsBelow, IsRising};
 ghost use Rattle.tso_cert.specs.Search.{IsSearchable};
 ghost use Rattle.tso_cert.specs.Trees.{record_count, tree_of};
 ghost use Rattle.tso_rec.specs.Records.{states_of};

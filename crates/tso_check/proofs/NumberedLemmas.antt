@@ -2,8 +2,6 @@
 use Rattle.std.proofs.Common.{◌≡◌, ◌∙◌, ℕ, zero, suc, ◌<◌, List, [], ◌∷◌, length, Option, Some, None, slice_get, refl, sym, ap, subst, arith}
 use Rattle.std.specs.Prelude.{Contains, is_some}
 use Rattle.std.proofs.lemmas.Option.{same_Some, slice_get_within}
-use Rattle.tso_cert.proofs.LookupLemmas.{rises}
-use Rattle.tso_cert.specs.Lookup.{IsRising}
 use Rattle.tso_check.proofs.VerdictLemmas.{initial_there}
 use Rattle.tso_check.specs.Numbered.{AreKeptFrom, IsJudgedAt, IsKeptFrom}
 use Rattle.tso_compact.specs.Laws.{initial_of}
@@ -22,7 +20,6 @@ use Rattle.tso_rec.specs.declared.record.End.TheVariants.{Choices, Order}
 use Rattle.tso_state.specs.Views.{state_of}
 use Rattle.tso_state.specs.declared.actor.Actor.{Actor}
 use Rattle.tso_state.specs.declared.state.State.{State}
-use Rattle.tso_store.specs.Rising.{AreRising}
 use Rattle.tso_parts.specs.Numbers.{IsNowhere}
 use Rattle.tso_store.specs.Sheets.{CanStep, IsSuccessorNowhere}
 
@@ -41,10 +38,6 @@ contains_at : {X : Type 0} (xs : List X) (x : X) → Contains xs x → (k : ℕ)
 contains_at [] x (k, lt, e) = absurd (omega (arith, lt))
 contains_at (y ∷ xs) x (zero, lt, e) = (0, ap Some e)
 contains_at (y ∷ xs) x (suc k, lt, e) = let (n, at) = contains_at xs x (k, omega (arith, lt), e) in (suc n, at)
-
--- of states that rise each is less than those with greater numbers
-pub rising_pairs : (states : List State) → IsRising states → AreRising states
-rising_pairs states rising n m s t lt at there = rises states n m s t rising lt at there
 
 -- ---- the initial state
 

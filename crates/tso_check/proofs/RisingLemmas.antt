@@ -5,10 +5,10 @@ use Rattle.std.proofs.Math.Seq.{take-suc}
 use Rattle.std.proofs.lemmas.List.{append-nil, length-append, map-append, take_all}
 use Rattle.std.proofs.lemmas.Option.{get_or_from_slice_get, same_Some, slice_get_within, slice_get-get_or}
 use Rattle.std.specs.List.{AllByRecursion}
-use Rattle.std.specs.Ordering.{ordering_reverse}
-use Rattle.std.specs.declared.cmp.Ordering.TheVariants.{Greater, Less}
-use Rattle.tso_cert.proofs.LookupLemmas.{left_rises, right_rises, rises, total}
-use Rattle.tso_cert.specs.Lookup.{ForksSplit, IsAtMost, IsBelow, IsRising, tree_states}
+use Rattle.tso_cert.proofs.LookupLemmas.{left_rises, right_rises}
+use Rattle.tso_state.proofs.RisingLemmas.{not_itself, one_of, rises, total}
+use Rattle.tso_cert.specs.Lookup.{ForksSplit, tree_states}
+use Rattle.tso_state.specs.Rising.{IsAtMost, IsBelow, IsRising}
 use Rattle.tso_cert.specs.Trees.{Tree, leaf, fork, records_of}
 use Rattle.tso_check.specs.Risen.{AreFound, AreRisen, BeginsAbove, EndsBelow, ForksLook, GoesOn, GoesOnTo, IsFirstAtLeast, IsLast, IsLastBelow}
 use Rattle.tso_check.specs.declared.rising.Risen.{Risen}
@@ -126,11 +126,6 @@ all_by : (P : State → Type 0) (xs : List State) → ((k : ℕ) (x : State) →
 all_by P [] each = tt
 all_by P (x ∷ xs) each = (each 0 x refl, all_by P xs (λ k y at. each (suc k) y at))
 
-one_by : (P : State → Type 0) (xs : List State) (k : ℕ) (x : State) → AllByRecursion P xs → slice_get xs k ≡ Some x → P x
-one_by P [] k x all e = absurd (let lt = slice_get_within [] k x e in omega (arith, lt))
-one_by P (y ∷ ys) zero x all e = subst P (same_Some y x e) all.0
-one_by P (y ∷ ys) (suc k) x all e = one_by P ys k x all.1 e
-
 -- in states that rise all are below one where the last is
 below_by_last : (xs : List State) (s : State) → IsRising xs → IsLastBelow xs s → AllByRecursion (λ x. IsBelow x s) xs
 below_by_last xs s rising last = all_by (λ x. IsBelow x s) xs (λ k x at. go k x at (cases_lt (k + 1) (length xs)))
@@ -171,11 +166,11 @@ begins_above (fork l m r) s rising e =
     both_parts (λ x. IsAtMost s x) (records_of l) (records_of r) (begins_above l s (left_rises (records_of l) (records_of r) rising) e.0) (begins_above r s (right_rises (records_of l) (records_of r) rising) e.1)
 
 below_ends : (t : Tree) (s : State) → AllByRecursion (λ x. IsBelow x s) (tree_states t) → EndsBelow t s
-below_ends (leaf rs) s all = λ k x count at. one_by (λ x. IsBelow x s) (states_of rs) k x all at
+below_ends (leaf rs) s all = λ k x count at. one_of (λ x. IsBelow x s) (states_of rs) k x all at
 below_ends (fork l m r) s all = let (a, b) = parts_of (λ x. IsBelow x s) (records_of l) (records_of r) all in (below_ends l s a, below_ends r s b)
 
 above_begins : (t : Tree) (s : State) → AllByRecursion (λ x. IsAtMost s x) (tree_states t) → BeginsAbove t s
-above_begins (leaf rs) s all = λ x at. one_by (λ x. IsAtMost s x) (states_of rs) 0 x all at
+above_begins (leaf rs) s all = λ x at. one_of (λ x. IsAtMost s x) (states_of rs) 0 x all at
 above_begins (fork l m r) s all = let (a, b) = parts_of (λ x. IsAtMost s x) (records_of l) (records_of r) all in (above_begins l s a, above_begins r s b)
 
 -- where the states rise, it is enough to look at the ends of leaves
@@ -190,9 +185,6 @@ pub split_look : (t : Tree) → ForksSplit t → ForksLook t
 split_look (leaf rs) split = tt
 split_look (fork l m r) (a, b, c, d) = (split_look l a, split_look r b, below_ends l m c, above_begins r m d)
 
-never_below_itself : (s : State) → IsBelow s s → ⊥
-never_below_itself s e = let clash : Less ≡ Greater = sym e ∙ total.antisymm s s ∙ ap ordering_reverse e in cc
-
 -- where the states rise, it is enough that each fork's state is the first of its right half
 pub begins_split : (t : Tree) → IsRising (tree_states t) → ForksBegin t → ForksSplit t
 begins_split (leaf rs) rising begins = tt
@@ -204,5 +196,5 @@ begins_split (fork l m r) rising (a, b, first) =
       begins_split l left a,
       begins_split r right b,
       all_by (λ x. IsBelow x m) (tree_states l) (λ k x at. let lt = slice_get_within (tree_states l) k x at in rises (tree_states l ++ tree_states r) k (length (tree_states l) + 0) x m all (omega (arith, lt)) (got_left (tree_states l) (tree_states r) k x at) there),
-      at_most_by_first (tree_states r) m right (λ x at below. never_below_itself m (subst (λ y. IsBelow y m) (same_Some x m (sym at ∙ first)) below)),
+      at_most_by_first (tree_states r) m right (λ x at below. not_itself m (subst (λ y. IsBelow y m) (same_Some x m (sym at ∙ first)) below)),
     )

@@ -4,7 +4,8 @@ use Rattle.std.proofs.lemmas.Bool.{cases_lt}
 use Rattle.std.proofs.lemmas.List.{length-map}
 use Rattle.std.proofs.lemmas.Option.{same_Some, slice_get_within}
 use Rattle.tso_cert.proofs.TreeCode.{certificate_take}
-use Rattle.tso_cert.specs.Lookup.{IsOrdered, IsRising}
+use Rattle.tso_cert.specs.Lookup.{IsOrdered}
+use Rattle.tso_state.specs.Rising.{IsRising}
 use Rattle.tso_cert.specs.Trees.{Tree, leaf, fork, record_count, records_of}
 use Rattle.tso_check.proofs.NumberedLemmas.{at_place}
 use Rattle.tso_check.proofs.RisingLemmas.{begins_split}

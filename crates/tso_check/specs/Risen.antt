@@ -1,6 +1,6 @@
 -- How the order of a tree's states is tested, from left to right. Nothing here need be believed: the test is exact.
 use Rattle.std.specs.Prelude.{◌≡◌, ◌+◌, ◌++◌, ℕ, List, [], length, None, Option, Some, slice_get}
-use Rattle.tso_cert.specs.Lookup.{IsAtMost, IsBelow, IsRising}
+use Rattle.tso_state.specs.Rising.{IsAtMost, IsBelow, IsRising}
 use Rattle.tso_cert.specs.Trees.{Tree, leaf, fork}
 use Rattle.tso_check.specs.declared.rising.Risen.{Risen}
 use Rattle.tso_check.specs.declared.rising.Risen.TheVariants.{To, Not}

@@ -1,6 +1,7 @@
 -- Records of a certificate that are judged by their numbers. Nothing here need be believed: it serves the code.
 use Rattle.std.specs.Prelude.{◌≡◌, ◌<◌, ◌≤◌, ℕ, List, [], ◌∷◌, length, None, Option, Some, slice_get}
-use Rattle.tso_cert.specs.Lookup.{IsOrdered, IsRising, tree_states}
+use Rattle.tso_cert.specs.Lookup.{IsOrdered, tree_states}
+use Rattle.tso_state.specs.Rising.{IsRising}
 use Rattle.tso_cert.specs.Trees.{Tree, record_count, records_of}
 use Rattle.tso_check.specs.Verdicts.{IsTreeFault, IsTreeVerdict}
 use Rattle.tso_check.specs.declared.judging.Bad.{Bad}

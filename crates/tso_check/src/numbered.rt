@@ -6,8 +6,8 @@ ghost use Rattle.tso_choose.specs.declared.choice.Choice.{Choice as AChoice};
 ghost use Rattle.tso_judge.specs.Judging.{IsJudgedAlone};
 ghost use Rattle.tso_judge.specs.Valid.{HasInitial};
 ghost use Rattle.tso_state.specs.Fitting.{HistoryFits};
+ghost use Rattle.tso_state.specs.Rising.{IsRising};
 ghost use Rattle.tso_store.specs.Forms.{AreForms};
-ghost use Rattle.tso_store.specs.Rising.{AreRising};
 
 use crate::trail::Trail;
 use std::alloc::{AllocError, Global};
@@ -16,7 +16,7 @@ use tso_flow::Checked;
 use tso_foot::{Table, is_within};
 use tso_judge::{Code, judge_alone};
 use tso_rec::End;
-use tso_state::{Actor, Viewed, initial_state};
+use tso_state::{Actor, initial_state};
 use tso_store::{Forms, Found, Store, View};
 
 /// Whether the initial state is kept.
@@ -34,7 +34,7 @@ pub fn has_initial(alloc: Global, checked: &Checked, store: &Store<'_>) -> Resul
 
 // Whether the state after the actor's step is kept, which is looked for first where the trail goes on.
 fn is_kept_from(store: &Store<'_>, number: u32, actor: Actor, trail: &mut Trail) -> bool
-    requires { AreRising store.now.states }
+    requires { IsRising store.now.states }
     ensures { IsTrue result ↔ IsKeptFrom store.now.client store.now.states number actor }
 {
     match store.find_risen_successor(number, actor, trail.near(actor)) {
@@ -49,7 +49,7 @@ fn is_kept_from(store: &Store<'_>, number: u32, actor: Actor, trail: &mut Trail)
 
 // Whether the states after the steps of all chosen actors are kept.
 fn are_kept_from(store: &Store<'_>, number: u32, choices: &[Choice], trail: &mut Trail) -> bool
-    requires { AreRising store.now.states }
+    requires { IsRising store.now.states }
     ensures { IsTrue result ↔ All (λ (x : AChoice). IsKeptFrom store.now.client store.now.states number x.actor) choices.now }
 {
     for choice in choices {
@@ -62,7 +62,7 @@ fn are_kept_from(store: &Store<'_>, number: u32, choices: &[Choice], trail: &mut
 
 // The same, where there are chosen actors.
 fn are_successors_kept(store: &Store<'_>, number: u32, end: &End, trail: &mut Trail) -> bool
-    requires { AreRising store.now.states }
+    requires { IsRising store.now.states }
     ensures { IsTrue result ↔ AreKeptFrom store.now.client store.now.states number end.now }
 {
     match end {
@@ -83,7 +83,7 @@ fn judge_view(
     requires { IsTrue fits ↔ HistoryFits checked.now.client view.now.history }
     ensures { IfOk result (IsJudgedAlone checked.now.client table.now view.now end.now) }
 {
-    judge_alone(alloc, checked, table, view, view.history(), fits, end)
+    judge_alone(alloc, checked, table, view, fits, end)
 }
 
 // Where a kept state meets those conditions, K08 and K12 are left.
@@ -95,7 +95,7 @@ fn judge_rest(
     end: &End,
     trail: &mut Trail,
 ) -> Option<Code>
-    requires rising { AreRising store.now.states }
+    requires rising { IsRising store.now.states }
     requires state { slice_get store.now.states number ≡ Some view.now }
     requires alone { IsJudgedAlone store.now.client table.now view.now end.now None }
     ensures { IsJudgedAt store.now.client table.now store.now.states number end.now result }
@@ -123,7 +123,7 @@ pub fn judge_number(
     end: &End,
     trail: &mut Trail,
 ) -> Result<Option<Code>, AllocError>
-    requires rising { AreRising store.now.states }
+    requires rising { IsRising store.now.states }
     requires client { store.now.client ≡ checked.now.client }
     requires forms { AreForms checked.now.client store.now.states forms.now }
     ensures { IfOk result (IsJudgedAt checked.now.client table.now store.now.states number end.now) }

@@ -1,17 +1,16 @@
 //! Whether the states of a tree rise, and its forks tell where.
 
-ghost use Rattle.std.specs.Prelude.{◌≡◌, ◌↔◌, IfOk, IsTrue};
-ghost use Rattle.std.specs.declared.cmp.Ordering.TheVariants.{Less};
-ghost use Rattle.tso_cert.specs.Lookup.{IsOrdered, IsRising, tree_states};
+ghost use Rattle.std.specs.Prelude.{◌↔◌, IfOk, IsTrue};
+ghost use Rattle.tso_cert.specs.Lookup.{IsOrdered, tree_states};
+ghost use Rattle.tso_state.specs.Rising.{IsRising};
 ghost use Rattle.tso_cert.specs.Trees.{tree_of};
 ghost use Rattle.tso_check.specs.Risen.{BeginsAbove, EndsBelow, ForksLook, GoesOn, GoesOnTo, IsFirstAtLeast, IsLastBelow};
 ghost use Rattle.tso_rec.specs.Records.{states_of};
 
 use std::alloc::AllocError;
-use std::cmp::Ordering;
 use tso_cert::Cert;
 use tso_rec::Packed;
-use tso_state::{State, compare};
+use tso_state::{State, compare, is_less};
 
 /// What is found of states from left to right.
 #[derive(Drop)]
@@ -20,13 +19,6 @@ pub enum Risen {
     To(Option<State>),
     /// One is not below the next.
     Not,
-}
-
-/// Whether this says that the first of two is below the second.
-pub fn is_less(order: Ordering) -> bool
-    ensures { IsTrue result ↔ (order ≡ Less) }
-{
-    matches!(order, Ordering::Less)
 }
 
 // Whether the state may stand behind the last one.

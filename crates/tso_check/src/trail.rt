@@ -15,7 +15,9 @@ pub struct Trail {
 
 impl Trail {
     /// Where nothing was found yet.
-    pub fn new() -> Self {
+    pub fn new() -> Self
+        ensures { (actor : Actor) → next_of result actor ≡ 0 }
+    {
         Trail {
             cores: [0; 5],
             buffers: [0; 5],

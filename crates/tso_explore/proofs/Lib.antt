@@ -1,11 +1,3 @@
-pub mod CuttingLemmas
-pub mod ExistingLemmas
+pub mod AskedLemmas
 pub mod FirstLemmas
-pub mod LoneEnds
 pub mod MergingLemmas
-pub mod OrderingLemmas
-pub mod Sorting
-pub mod SpellerLemmas
-pub mod SpellingLemmas
-pub mod TaskLemmas
-pub mod WritingLemmas

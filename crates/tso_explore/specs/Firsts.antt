@@ -2,7 +2,7 @@
 use Rattle.std.specs.Prelude.{◌≡◌, ◌<◌, ◌≤◌, ℕ, Bool, List, length}
 use Rattle.tso_search.specs.Goodness.{AllGood}
 use Rattle.tso_explore.specs.Outcomes.{IsStopped}
-use Rattle.tso_explore.specs.Worked.{IsFinding}
+use Rattle.tso_explore.specs.Findings.{IsFinding}
 use Rattle.tso_regions.specs.Regions.{AreSound}
 use Rattle.tso_search.specs.Searched.{AreDone, IsDone, IsSearched}
 use Rattle.tso_explore.specs.declared.first.First.{First}

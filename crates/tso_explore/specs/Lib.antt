@@ -1,9 +1,4 @@
-pub mod Cutting
-pub mod Ordering
-pub mod Outcomes
-pub mod Spelled
-pub mod Spelling
-pub mod Tasks
+pub mod Asked
+pub mod Findings
 pub mod Firsts
-pub mod Unspelled
-pub mod Worked
+pub mod Outcomes

@@ -110,7 +110,7 @@ struct Asked<'a> {
 
 impl<'a> Task for Asked<'a> {
     ghost use Rattle.std.specs.Prelude.{◌≡◌, true};
-    ghost use Rattle.tso_explore.specs.Tasks.{AreHalvesAsked, AreWorkedIn, CanBeAsked, asked};
+    ghost use Rattle.tso_explore.specs.Asked.{AreHalvesAsked, AreWorkedIn, CanBeAsked, asked};
 
     type Output = bool;
 

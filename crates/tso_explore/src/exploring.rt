@@ -3,31 +3,28 @@
 ghost use Rattle.std.specs.Prelude.{◌≡◌, ◌≤◌, ◌⊎◌, [], IfOk, IfSome, MatchBool, Some, length, true};
 ghost use Rattle.tso_explore.specs.Firsts.{IsBegunAlone, IsFirstAlone, IsFirstOf, IsFound, IsPaused, IsSoon};
 ghost use Rattle.tso_search.specs.Goodness.{AllGood};
-ghost use Rattle.tso_cert.specs.Trees as trees;
 ghost use Rattle.tso_explore.specs.Outcomes.{IsOutcome, IsStopped};
-ghost use Rattle.tso_explore.specs.Worked.{AreWorkedOut, IsEnded, IsFinding, IsTreeOf};
+ghost use Rattle.tso_explore.specs.Findings.{IsEnded, IsFinding};
 ghost use Rattle.tso_search.specs.Reached.{IsBadAt};
 ghost use Rattle.tso_search.specs.Searched.{AreSearched, HasBegun, HasMore, IsBegun, IsStarted, IsStop};
 ghost use Rattle.tso_search.specs.Shortening.{IsTraceOf};
 ghost use Rattle.tso_foot.specs.Closed.{IsClosed, IsLeastClosed};
 ghost use Rattle.tso_table.specs.Leading.{IsKept};
+ghost use Rattle.tso_write.specs.Worked.{AreWorkedOut};
 
 use crate::closing::are_worked;
-use crate::cutting::cut_by;
 use crate::ended::{Ended, Stopped};
+use crate::finding::Finding;
 use crate::first::{First, Soon};
 use crate::merging::{add_met, merged};
-use crate::ordering::rising_by;
 use crate::outcome::Outcome;
 use crate::showing::{trace_along, walked};
-use crate::worked::{Finding, Worked};
 use std::alloc::{AllocError, Global};
 use std::sync::Wait;
 use std::thread::Threads;
-use tso_cert::{Cert, NoWatch, Watch, Workers};
+use tso_cert::{NoWatch, Watch, Workers};
 use tso_flow::Checked;
 use tso_foot::{Table, build};
-use tso_judge::certificates_fit;
 use tso_machine::thread_count;
 use tso_pool::{Ending, search as search_together};
 use tso_regions::by_regions;
@@ -36,6 +33,7 @@ use tso_state::initial_state;
 use tso_store::{AddError, Store};
 use tso_table::Kept;
 use tso_trace::Trace;
+use tso_write::{Worked, tree_for};
 
 /// How many states a search meets before it pauses for hunts.
 const FIRST: u32 = 65_536;
@@ -818,34 +816,6 @@ pub fn find<'c, R: Threads + Wait + Sync, W: Watch + Sync>(
         Ok(finding) => finding,
         Err(_) => Finding::NoMemory,
     }
-}
-
-/// The records of worked states as a tree, cut by so many workers.
-///
-/// Errors: where a growth was refused.
-pub fn tree_for<R: Threads + Sync>(
-    rt: &R,
-    alloc: Global,
-    checked: &Checked,
-    worked: &Worked<'_>,
-    workers: Workers,
-) -> Result<Cert, AllocError>
-    requires worked { AreWorkedOut checked.now.client worked.now }
-    ensures { IfOk result (λ cert. IsTreeOf checked.now.client worked.now (trees.tree_of cert)) }
-{
-    worked.store.states_differ();
-    certificates_fit(checked);
-    let numbers = rising_by(rt, alloc, &worked.store, workers.count())?;
-    let cert = cut_by(
-        rt,
-        alloc,
-        checked,
-        &worked.table,
-        &worked.store,
-        numbers.as_slice(),
-        workers.count(),
-    )?;
-    Ok(cert)
 }
 
 // The certificate of worked states.

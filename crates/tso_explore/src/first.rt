@@ -1,7 +1,7 @@
 //! What the first states tell.
 
 use crate::ended::Stopped;
-use crate::worked::Finding;
+use crate::finding::Finding;
 
 /// What the first states of a search tell, and hunts where it is not over then.
 #[derive(Drop)]

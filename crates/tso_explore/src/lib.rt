@@ -2,28 +2,14 @@
 #![tactic(auto)]
 
 mod closing;
-mod cutting;
-mod enclosing;
 mod ended;
-mod ends;
 mod exploring;
+mod finding;
 mod first;
-mod laws;
-mod lone;
-mod meanwhile;
 mod merging;
-mod ordering;
 mod outcome;
-mod recorder;
 mod showing;
-mod speller;
-mod spelling;
-mod worked;
-mod writing;
 
-pub use enclosing::intervals_for;
-pub use exploring::{explore, find, tree_for};
-pub use laws::has_tree;
+pub use exploring::{explore, find};
+pub use finding::Finding;
 pub use outcome::Outcome;
-pub use worked::{Finding, Worked};
-pub use writing::write;

@@ -20,7 +20,6 @@ use tso_choose::Choices;
 use tso_fifo::{Order, is_linearization};
 use tso_flow::Checked;
 use tso_foot::{Table, is_within};
-use tso_hist::History;
 use tso_rec::{End, Record};
 use tso_state::{State, Viewed, history_fits, is_well_formed_given};
 
@@ -50,11 +49,9 @@ fn judge_order<S: Viewed>(
     checked: &Checked,
     table: &Table,
     state: &S,
-    history: &History,
     order: &Order,
 ) -> Option<Code>
-    requires well_formed { IsWellFormed checked.now.client (S.state state.now) }
-    requires history { (S.state state.now).history ≡ history.now }
+    requires { IsWellFormed checked.now.client (S.state state.now) }
     ensures { IsJudgedAlone checked.now.client table.now (S.state state.now) (ends.Order order.now) result }
 {
     if !is_over(checked, state) {
@@ -64,14 +61,19 @@ fn judge_order<S: Viewed>(
         return Some(Code::K10);
     }
     let client = &checked.client;
-    if !is_linearization(history, client.mode, client.capacity as usize, order) {
+    if !is_linearization(
+        state.history(),
+        client.mode,
+        client.capacity as usize,
+        order,
+    ) {
         return Some(Code::K11);
     }
     None
 }
 
 /// The code of the first condition that a record fails, of those that come before K12 and need no other record: K05 to K07, K10
-/// and K11. `history` is that of the state, and `fits` says whether it fits the client (`history_fits`).
+/// and K11. `fits` says whether the history fits the client (`history_fits`).
 ///
 /// Errors: where a growth was refused.
 pub fn judge_alone<S: Viewed>(
@@ -79,12 +81,10 @@ pub fn judge_alone<S: Viewed>(
     checked: &Checked,
     table: &Table,
     state: &S,
-    history: &History,
     fits: bool,
     end: &End,
 ) -> Result<Option<Code>, AllocError>
-    requires history { (S.state state.now).history ≡ history.now }
-    requires fits { IsTrue fits ↔ HistoryFits checked.now.client (S.state state.now).history }
+    requires { IsTrue fits ↔ HistoryFits checked.now.client (S.state state.now).history }
     ensures { IfOk result (IsJudgedAlone checked.now.client table.now (S.state state.now) end.now) }
 {
     if !is_well_formed_given(checked, state, fits) {
@@ -92,7 +92,7 @@ pub fn judge_alone<S: Viewed>(
     }
     match end {
         End::Choices(choices) => judge_choices(alloc, checked, table, state, choices),
-        End::Order(order) => Ok(judge_order(checked, table, state, history, order)),
+        End::Order(order) => Ok(judge_order(checked, table, state, order)),
     }
 }
 
@@ -150,9 +150,8 @@ pub fn judge_state(
     requires { IsOrdered (tree_of cert.now) }
     ensures { IfOk result (IsJudgedAmong checked.now.client table.now (tree_states (tree_of cert.now)) state.now end.now) }
 {
-    let history = &state.history;
-    let fits = history_fits(checked, history);
-    match judge_alone(alloc, checked, table, state, history, fits, end)? {
+    let fits = history_fits(checked, &state.history);
+    match judge_alone(alloc, checked, table, state, fits, end)? {
         Some(code) => Ok(Some(code)),
         None => judge_rest(alloc, checked, table, cert, state, end),
     }

@@ -4,7 +4,8 @@ use Rattle.std.proofs.lemmas.List.{length-append, length-drop, map-append, nil_f
 use Rattle.tso_cert.proofs.Opening.{opens_fork}
 use Rattle.tso_cert.proofs.TreeCode.{tree_again, tree_take}
 use Rattle.tso_cert.specs.Certificates.{fork_at, tree_at}
-use Rattle.tso_cert.specs.Lookup.{IsRising, tree_states}
+use Rattle.tso_cert.specs.Lookup.{tree_states}
+use Rattle.tso_state.specs.Rising.{IsRising}
 use Rattle.tso_cert.specs.Trees.{Tree, fork, record_count, records_of, spelling_of}
 use Rattle.tso_code.proofs.StateCodes.{state_code}
 use Rattle.tso_code.specs.States.{state, state_at}

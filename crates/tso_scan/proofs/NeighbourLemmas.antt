@@ -2,13 +2,12 @@
 use Rattle.std.proofs.Common.{◌≡◌, ◌∙◌, ℕ, zero, suc, ◌+◌, ◌-◌, ◌<◌, ◌≤◌, Bool, List, [], ◌∷◌, length, inl, inr, Some, refl, slice_get, sym, ap, subst, arith}
 use Rattle.std.specs.Prelude.{◌↔◌, Err, IfOk, IsTrue, Ok, Result}
 use Rattle.std.proofs.lemmas.Bool.{cases_lt}
-use Rattle.std.proofs.lemmas.Cmp.{tied_itself}
 use Rattle.std.proofs.lemmas.Option.{same_Some, slice_get_within}
 use Rattle.std.specs.List.{AllByRecursion}
 use Rattle.std.specs.declared.cmp.Ordering.{Ordering}
 use Rattle.std.specs.declared.cmp.Ordering.TheVariants.{Less}
-use Rattle.tso_cert.proofs.LookupLemmas.{rises, total}
-use Rattle.tso_cert.specs.Lookup.{IsBelow, IsRising}
+use Rattle.tso_state.proofs.RisingLemmas.{not_itself, rises, total}
+use Rattle.tso_state.specs.Rising.{IsBelow, IsRising}
 use Rattle.tso_parts.proofs.Marked.{item_at}
 use Rattle.tso_parts.specs.Numbers.{IsNumbered}
 use Rattle.tso_scan.specs.Neighbours.{AreHalved, RisesBetween, Stairs}
@@ -97,15 +96,12 @@ pub rising_told : {E : Type 0} (states : List State) (n : ℕ) (result : Result 
 rising_told states n (Ok b) long found = rising_by_neighbours states n b long found
 rising_told states n (Err e) long found = tt
 
-not_below : (x : State) → IsBelow x x → ⊥
-not_below x below = let tied = tied_itself total x in cc
-
 -- states that rise are all different
 pub rising_differ : (states : List State) → IsRising states → IsNumbered states
 rising_differ states rising i j x e f = elim (cases_lt i j) [
-  | inl less ↦ absurd (not_below x (rises states i j x x rising less e f))
+  | inl less ↦ absurd (not_itself x (rises states i j x x rising less e f))
   | inr ge ↦ elim (cases_lt j i) [
-    | inl more ↦ absurd (not_below x (rises states j i x x rising more f e))
+    | inl more ↦ absurd (not_itself x (rises states j i x x rising more f e))
     | inr le ↦ omega (arith, ge, le)
   ]
 ]

@@ -1,7 +1,8 @@
 -- Trees that are read by themselves and put together. Nothing here need be believed: it serves the code.
 use Rattle.std.specs.Prelude.{◌≡◌, ◌+◌, ◌-◌, ◌≤◌, ◌++◌, ℕ, List, drop, get_or, length, Ok, Some, slice_get, take}
 use Rattle.tso_cert.specs.Certificates.{tree_at}
-use Rattle.tso_cert.specs.Lookup.{IsRising, tree_states}
+use Rattle.tso_cert.specs.Lookup.{tree_states}
+use Rattle.tso_state.specs.Rising.{IsRising}
 use Rattle.tso_cert.specs.Trees.{Tree, fork, records_of}
 use Rattle.tso_code.specs.States.{state_at}
 use Rattle.tso_foot.specs.declared.table.Table.{Table}

@@ -1,7 +1,8 @@
 -- A certificate that is read straight into a store. Nothing here need be believed: it serves the code.
 use Rattle.std.specs.Prelude.{◌≡◌, ◌+◌, ◌<◌, ◌^◌, ◌++◌, ◌∷◌, ℕ, List, [], length, Ok, Some, slice_get}
 use Rattle.tso_cert.specs.Certificates.{Branch, certificate_at, tree_at}
-use Rattle.tso_cert.specs.Lookup.{IsRising, tree_states}
+use Rattle.tso_cert.specs.Lookup.{tree_states}
+use Rattle.tso_state.specs.Rising.{IsRising}
 use Rattle.tso_cert.specs.Trees.{Tree, fork, leaf, records_of}
 use Rattle.tso_code.specs.Fields.{items_at}
 use Rattle.tso_code.specs.States.{state_at}

@@ -2,22 +2,15 @@
 
 ghost use Rattle.std.specs.Prelude.{◌≡◌, ◌↔◌, ◌-◌, IfOk, IsTrue};
 ghost use Rattle.std.specs.declared.cmp.Ordering.TheVariants.{Less};
-ghost use Rattle.tso_cert.specs.Lookup.{IsRising};
+ghost use Rattle.tso_state.specs.Rising.{IsRising};
 ghost use Rattle.tso_scan.specs.Neighbours.{RisesBetween};
 ghost use Rattle.tso_store.specs.Orders.{IsOrderOf};
 
 use std::alloc::AllocError;
-use std::cmp::Ordering;
 use std::thread::Threads;
 use tso_cert::{ALONE, Task, run_by};
+use tso_state::is_less;
 use tso_store::Gathered;
-
-// Whether the order is that of a lesser value and a greater one.
-fn is_less(order: Ordering) -> bool
-    ensures { IsTrue result ↔ (order ≡ Less) }
-{
-    matches!(order, Ordering::Less)
-}
 
 // Whether a state is above the one before.
 fn is_above(states: &Gathered<'_>, number: usize) -> bool

@@ -1,6 +1,6 @@
 //! Trees that were read, with their states in a store.
 ghost use Rattle.std.specs.Prelude.{◌↔◌, IfOk, IfSome, IsTrue};
-ghost use Rattle.tso_cert.specs.Lookup.{IsRising};
+ghost use Rattle.tso_state.specs.Rising.{IsRising};
 ghost use Rattle.tso_scan.specs.Halves.{IsStored};
 
 use crate::halves::{Half, RECORDS, Records};

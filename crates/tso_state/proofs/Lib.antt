@@ -5,4 +5,5 @@ pub mod ClientLemmas
 pub mod FitLemmas
 pub mod InitialLemmas
 pub mod OrderLemmas
+pub mod RisingLemmas
 pub mod ViewLemmas

@@ -7,5 +7,6 @@ pub mod Hashes
 pub mod Initial
 pub mod Laws
 pub mod Order
+pub mod Rising
 pub mod Views
 pub mod WellFormed

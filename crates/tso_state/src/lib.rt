@@ -15,7 +15,7 @@ pub use initial::initial_state;
 pub use laws::{well_formed_is_sound, well_formed_is_the_models};
 pub use order::{
     actors_are_ordered_by_number, compare, compare_actors, copy_of, equal_states_hash_alike,
-    is_same,
+    is_less, is_same,
 };
 pub use state::{Core, State, Thread};
 pub use viewed::{Viewed, begun_calls, running_procedure};

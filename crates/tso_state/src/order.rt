@@ -1,6 +1,7 @@
 //! How states and actors are ordered, when they are the same, and that a copy is its source.
 ghost use Rattle.std.specs.Prelude.{◌≡◌, ◌↔◌, IfOk, IsTrue};
 ghost use Rattle.std.specs.Ordering.{is_eq, nat_cmp};
+ghost use Rattle.std.specs.declared.cmp.Ordering.TheVariants.{Less};
 ghost use Rattle.tso_state.specs.ActorOrder.{ActorsAreOrderedByNumber};
 ghost use Rattle.tso_state.specs.Actors.{number_of};
 ghost use Rattle.tso_state.specs.Hashes.{EqualStatesHashAlike};
@@ -17,6 +18,13 @@ pub fn compare(a: &State, b: &State) -> Ordering
     ensures same { IsTrue (is_eq result) ↔ (a.now ≡ b.now) }
 {
     tso_list::compare(a, b)
+}
+
+/// Whether this is the order of a lesser value and a greater one.
+pub fn is_less(order: Ordering) -> bool
+    ensures { IsTrue result ↔ (order ≡ Less) }
+{
+    matches!(order, Ordering::Less)
 }
 
 /// Whether two states are the same, which is what `==` says.

@@ -2,31 +2,26 @@
 use Rattle.std.proofs.Common.{◌≡◌, ◌∙◌, ℕ, ◌+◌, ◌<◌, ◌≤◌, inl, inr, List, length, Some, ap, arith, slice_get, subst, sym}
 use Rattle.std.proofs.lemmas.Bool.{cases_lt}
 use Rattle.std.proofs.lemmas.Option.{same_Some, slice_get_within}
-use Rattle.std.specs.Cmp.{IsTotalOrder}
-use Rattle.std.specs.declared.cmp.Ordering.{Ordering}
-use Rattle.std.specs.declared.cmp.Ordering.TheVariants.{Less, Greater}
 use Rattle.tso_parts.proofs.Marked.{item_at}
 use Rattle.tso_parts.specs.Numbers.{IsNowhere}
-use Rattle.tso_state.proofs.OrderLemmas.{state_alike}
-use Rattle.tso_state.specs.Order.{state_cmp}
-use Rattle.tso_state.specs.contracts.state.StateOrd.TheImpl as state_order
-use Rattle.tso_state.specs.contracts.state.StateOrd.TheImpl.Laws as laws
+use Rattle.tso_state.proofs.RisingLemmas.{not_itself, rises, total}
+use Rattle.tso_state.specs.Rising.{IsBelow, IsRising}
 use Rattle.tso_state.specs.declared.state.State.{State}
 use Rattle.tso_store.specs.Keys.{state_at, states_at}
-use Rattle.tso_store.specs.Rising.{AreRising, IsLessAt, IsOnlyBetween}
+use Rattle.tso_store.specs.Orders.{IsLessAt}
 use Rattle.tso_store.specs.declared.key.Key.{Key}
 use Rattle.tso_store.specs.declared.parts.Parts.{Parts}
 use Rattle.tso_store.proofs.Sheeted.{state_got}
 
-total : IsTotalOrder state_cmp
-total = let f : state_order.cmp-value.it ≡ state_cmp = λ i x y. state_alike x y i in subst (λ (R : State → State → Ordering). IsTotalOrder R) f laws.total-law
+-- the key has no number below the first one, and none from the other on
+pub record IsOnlyBetween (ks : List Key) (key : Key) (low high : ℕ) : Type 0 where
+  pub below : (k : ℕ) → k < low → slice_get ks k ≡ Some key → ⊥
+  pub above : (k : ℕ) → high ≤ k → slice_get ks k ≡ Some key → ⊥
+  pub bound : high ≤ length ks
 
 -- no two states are each less than the other
-never_both : (s t : State) → state_cmp s t ≡ Less → state_cmp t s ≡ Less → ⊥
-never_both s t less other =
-    let flipped = total.antisymm s t in
-    let greater : state_cmp s t ≡ Greater = rw other at flipped in
-    absurd (let h : Less ≡ Greater = sym less ∙ greater in cc)
+never_both : (s t : State) → IsBelow s t → IsBelow t s → ⊥
+never_both s t less other = not_itself s (total.trans s t s less other)
 
 pub only_begins : (ks : List Key) (key : Key) (n : ℕ) → n ≡ length ks → IsOnlyBetween ks key 0 n
 only_begins ks key n long = record {
@@ -41,17 +36,16 @@ only_nowhere ks key low high only met k at = elim (cases_lt k low) [
   | inr over ↦ only.above k (omega (arith, over, met)) at
 ]
 
-module _ (p : Parts) (ks : List Key) (key : Key) (rising : AreRising (states_at p ks)) where
+module _ (p : Parts) (ks : List Key) (key : Key) (rising : IsRising (states_at p ks)) where
   -- the middle is less
   pub only_right : (low high middle : ℕ) → IsOnlyBetween ks key low high → IsLessAt p ks middle key → IsOnlyBetween ks key (middle + 1) high
   only_right low high middle only less = record {
     below = λ k under at. elim (cases_lt k middle) [
-      | inl before ↦ never_both (state_at p less.found) (state_at p key) less.less (rising k middle (state_at p key) (state_at p less.found) before (state_got p ks k key at) (state_got p ks middle less.found less.at))
+      | inl before ↦ never_both (state_at p less.found) (state_at p key) less.less (rises (states_at p ks) k middle (state_at p key) (state_at p less.found) rising before (state_got p ks k key at) (state_got p ks middle less.found less.at))
       | inr behind ↦
           let same : k ≡ middle = omega (arith, under, behind) in
           let is : key ≡ less.found = same_Some key less.found (sym at ∙ ap (slice_get ks) same ∙ less.at) in
-          let itself : state_cmp (state_at p key) (state_at p key) ≡ Less = subst (λ (k : Key). state_cmp (state_at p k) (state_at p key) ≡ Less) (sym is) less.less in
-          never_both (state_at p key) (state_at p key) itself itself
+          not_itself (state_at p key) (subst (λ (k : Key). IsBelow (state_at p k) (state_at p key)) (sym is) less.less)
     ];
     above = only.above;
     bound = only.bound;
@@ -63,7 +57,7 @@ module _ (p : Parts) (ks : List Key) (key : Key) (rising : AreRising (states_at 
     below = only.below;
     above = λ k over at. elim (cases_lt middle k) [
       | inl behind ↦ item_at ks middle (omega (arith, lt, only.bound)) (λ found here.
-          least (record { found = found; at = here; less = rising middle k (state_at p found) (state_at p key) behind (state_got p ks middle found here) (state_got p ks k key at) }))
+          least (record { found = found; at = here; less = rises (states_at p ks) middle k (state_at p found) (state_at p key) rising behind (state_got p ks middle found here) (state_got p ks k key at) }))
       | inr before ↦ let same : k ≡ middle = omega (arith, over, before) in other (ap (slice_get ks) (sym same) ∙ at)
     ];
     bound = omega (arith, lt, only.bound);

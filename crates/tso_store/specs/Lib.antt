@@ -7,7 +7,6 @@ pub mod Sheets
 pub mod Stepping
 pub mod Seeking
 pub mod Orders
-pub mod Rising
 pub mod Listing
 pub mod Likes
 pub mod Lone

@@ -5,12 +5,14 @@ use Rattle.std.specs.Option.{option_cmp}
 use Rattle.std.specs.Ordering.{is_lt, nat_cmp}
 use Rattle.std.specs.Cmp.Lexicographic.{slice_cmp}
 use Rattle.std.specs.declared.cmp.Ordering.{Ordering}
+use Rattle.std.specs.declared.cmp.Ordering.TheVariants.{Less}
 use Rattle.tso_state.specs.Order.{state_cmp}
 use Rattle.tso_state.specs.declared.state.State.{State}
 use Rattle.tso_hist.specs.contracts.call.CallOrd.TheImpl as call_impl
 use Rattle.tso_hist.specs.declared.call.Call.{Call}
 use Rattle.tso_state.specs.contracts.state.ThreadOrd.TheImpl as thread_impl
 use Rattle.tso_store.specs.contracts.rank_rows.RowOrd.TheImpl as row_impl
+use Rattle.tso_store.specs.Keys.{state_at}
 use Rattle.tso_store.specs.Numbers.{AreNumbersOf}
 use Rattle.tso_store.specs.declared.key.Key.{Key}
 use Rattle.tso_store.specs.declared.parts.Parts.{Parts}
@@ -45,6 +47,12 @@ pub record IsOrderOf (states : List State) (n m : ℕ) (o : Ordering) : Type 0 w
 abbrev pub IsCompared : List State → ℕ → ℕ → Option Ordering → Type 0
 IsCompared states n m None = (s t : State) → slice_get states n ≡ Some s → slice_get states m ≡ Some t → ⊥
 IsCompared states n m (Some o) = IsOrderOf states n m o
+
+-- the state with this number is less than that of a key
+pub record IsLessAt (p : Parts) (ks : List Key) (n : ℕ) (key : Key) : Type 0 where
+  pub found : Key
+  pub at : slice_get ks n ≡ Some found
+  pub less : state_cmp (state_at p found) (state_at p key) ≡ Less
 
 -- 0, 1, and so on, so many
 abbrev pub numbers_below : ℕ → List ℕ

@@ -207,19 +207,6 @@ impl<'a> Gathered<'a> {
         }
     }
 
-    /// The parts of the states, and for each state, in their order, the numbers of its parts.
-    pub fn into_parts(self) -> (Parts, Vec<Key>)
-        ensures states { states_at result.0 result.1.items ≡ self.entry.states }
-        ensures kept { AreKept self.entry.client result.0 result.1.items }
-    {
-        let Gathered {
-            checked: _checked,
-            parts,
-            keys,
-        } = self;
-        (parts, keys)
-    }
-
     /// One store of these states, in this order. No state is compared, hashed or copied, and the store has no index of them, so
     /// that to look for a state, or to add one, goes over all of them: it is for states that are read by their numbers from
     /// then on.

@@ -2,16 +2,17 @@
 ghost use Rattle.std.specs.Prelude.{◌≡◌, ◌↔◌, IsTrue, MatchOption, Some, slice_get};
 ghost use Rattle.tso_parts.specs.Numbers.{IsNowhere};
 ghost use Rattle.tso_prog.specs.declared.client.Client.{Client};
+ghost use Rattle.tso_state.specs.Rising.{IsRising};
 ghost use Rattle.tso_store.specs.Keys.{AreKept, IsKept, states_at};
-ghost use Rattle.tso_store.specs.Rising.{AreRising, IsLessAt};
+ghost use Rattle.tso_store.specs.Orders.{IsLessAt};
 
 use crate::key::Key;
 use crate::orders::compare_keys;
 use crate::parts::Parts;
 use crate::ranking::key_at;
-use std::cmp::Ordering;
 use tso_list::is_same;
 use tso_parts::Pool;
+use tso_state::is_less;
 
 // At so many numbers a key is looked for before all others.
 const NEAR: u32 = 16;
@@ -32,7 +33,7 @@ fn is_less_at(parts: &Parts, keys: &Pool<Key>, number: u32, key: &Key) -> bool
     ensures { IsTrue result ↔ IsLessAt parts.now keys.now number key.now }
 {
     match key_at(keys, number) {
-        Some(found) => matches!(compare_keys(parts, &found, key), Ordering::Less),
+        Some(found) => is_less(compare_keys(parts, &found, key)),
         None => false,
     }
 }
@@ -40,7 +41,7 @@ fn is_less_at(parts: &Parts, keys: &Pool<Key>, number: u32, key: &Key) -> bool
 // The number of a key, if it is one of these, whose states rise: it is found by halves.
 fn number_by_halves(parts: &Parts, keys: &Pool<Key>, key: &Key) -> Option<u32>
     requires kept { (c : Client) × AreKept c parts.now keys.now × IsKept c parts.now key.now }
-    requires rising { AreRising (states_at parts.now keys.now) }
+    requires rising { IsRising (states_at parts.now keys.now) }
     ensures { MatchOption result (IsNowhere keys.now key.now) (λ n. slice_get keys.now n ≡ Some key.now) }
 {
     let mut low = 0;
@@ -63,7 +64,7 @@ fn number_by_halves(parts: &Parts, keys: &Pool<Key>, key: &Key) -> Option<u32>
 /// need not be those of keys, and then by halves.
 pub fn number_risen(parts: &Parts, keys: &Pool<Key>, near: u32, key: &Key) -> Option<u32>
     requires kept { (c : Client) × AreKept c parts.now keys.now × IsKept c parts.now key.now }
-    requires rising { AreRising (states_at parts.now keys.now) }
+    requires rising { IsRising (states_at parts.now keys.now) }
     ensures { MatchOption result (IsNowhere keys.now key.now) (λ n. slice_get keys.now n ≡ Some key.now) }
 {
     for number in near..near.saturating_add(NEAR) {

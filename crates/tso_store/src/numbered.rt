@@ -2,11 +2,11 @@
 ghost use Rattle.std.specs.Prelude.{◌≡◌, ◌↔◌, ◌+◌, ◌<◌, ◌≤◌, ◌^◌, List, [], length, Some, None, Err, IfOk, OnErr, OnOk, IfSome, MatchOption, slice_get};
 ghost use Rattle.tso_parts.specs.Numbers.{IsNumbered, IsNowhere};
 ghost use Rattle.tso_parts.specs.declared.refused.Refused.TheVariants as reasons;
+ghost use Rattle.tso_state.specs.Rising.{IsRising};
 ghost use Rattle.tso_store.specs.Forms.{AreForms};
 ghost use Rattle.tso_store.specs.Keys.{AreKept, FitsClient, part_count, states_at};
 ghost use Rattle.tso_store.specs.Lone.{HasNoLoneAt, IsLoneAt};
-ghost use Rattle.tso_store.specs.Orders.{AreRowsOf, IsCompared};
-ghost use Rattle.tso_store.specs.Rising.{AreRising};
+ghost use Rattle.tso_store.specs.Orders.{AreRowsOf};
 ghost use Rattle.tso_store.specs.Sheets.{CanStep, IsAdded, IsFound, IsSuccessorOrNone};
 ghost use Rattle.tso_store.specs.Unions.{IsUnion, IsWithinUnion};
 ghost use Rattle.tso_store.specs.declared.fault.AddError.TheVariants as errors;
@@ -21,7 +21,7 @@ use crate::listing::history_ranks;
 use crate::lone::{Lone, lone_at};
 use crate::moved::{add_keys, add_parts};
 use crate::parts::Parts;
-use crate::ranking::{compare_at, key_at, key_or_none};
+use crate::ranking::{key_at, key_or_none};
 use crate::ranks::ranks_of;
 use crate::running::{Running, learn_running};
 use crate::sought::{Found, Sought, find_from};
@@ -30,7 +30,6 @@ use crate::stepped::step_key;
 use crate::view::{View, copy_of};
 use crate::viewed_key::{find_view_key, key_of_view, view_fits_client};
 use std::alloc::{AllocError, Global};
-use std::cmp::Ordering;
 use std::marker::Model;
 use tso_flow::Checked;
 use tso_list::Seq;
@@ -77,7 +76,12 @@ impl<'a> Store<'a> {
     }
 
     /// The states of these keys, whose parts are those with their numbers.
-    pub fn of_parts(alloc: Global, checked: &'a Checked, parts: Parts, keys: Pool<Key>) -> Self
+    pub(crate) fn of_parts(
+        alloc: Global,
+        checked: &'a Checked,
+        parts: Parts,
+        keys: Pool<Key>,
+    ) -> Self
         requires { AreKept checked.now.client parts keys }
         ensures client { result.client ≡ checked.now.client }
         ensures states { result.states ≡ states_at parts keys }
@@ -322,7 +326,7 @@ impl<'a> Store<'a> {
     /// The same in a store whose states rise, which needs no index of them: the state is looked for first at the number `near` and
     /// the next ones, which need not be those of states, and then by halves.
     pub fn find_risen_successor(&self, number: u32, actor: Actor, near: u32) -> Found
-        requires rising { AreRising self.now.states }
+        requires rising { IsRising self.now.states }
         ensures { IsFound self.now.client self.now.states number actor result }
     {
         self.parts.threads.is_numbered();
@@ -344,14 +348,6 @@ impl<'a> Store<'a> {
                 None => Found::Absent,
             },
         }
-    }
-
-    /// How two states are ordered, if there are so many: memory, threads, history, each as lists are. Parts with one number are
-    /// equal, and only the first part that differs is read. It takes no memory.
-    pub fn compare(&self, a: u32, b: u32) -> Option<Ordering>
-        ensures { IsCompared self.now.states a b result }
-    {
-        compare_at(&self.parts, &self.keys, a, b)
     }
 
     /// The rows of ranks of all states, which are ordered as these. Each memory, thread and history is ranked among its kind, histories

@@ -10,9 +10,9 @@ use Rattle.tso_cert.specs.Certificates.{certificate}
 use Rattle.tso_check.proofs.Goodness.{each_run_is_good}
 use Rattle.tso_check.proofs.UpgradeLemmas.{new_spelled, new_tree}
 use Rattle.tso_client.specs.Headline.{DenotesChecked}
-use Rattle.tso_explore.specs.Outcomes.{IsCertificate}
-use Rattle.tso_explore.specs.Worked.{IsTreeOf}
-use Rattle.tso_explore.specs.declared.worked.Worked.{Worked}
+use Rattle.tso_write.specs.Worked.{IsCertificate}
+use Rattle.tso_write.specs.Worked.{IsTreeOf}
+use Rattle.tso_write.specs.declared.worked.Worked.{Worked}
 use Rattle.tso_foot.specs.Narrower.{IsNarrowerThanClosed}
 use Rattle.tso_foot.specs.declared.table.Table.{Table}
 use Rattle.tso_foot.specs.declared.table.Table.TheVariants as tables

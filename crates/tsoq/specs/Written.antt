@@ -3,9 +3,9 @@ use Rattle.std.specs.Prelude.{◌≡◌, ◌-◌, ◌^◌, ℕ, Bool, true, fals
 use Rattle.tso_cert.specs.Certificates.{Fits, certificate}
 use Rattle.tso_cert.specs.Trees.{IsWithinLimits, Tree, record_count}
 use Rattle.tso_client.specs.Headline.{DenotesChecked}
-use Rattle.tso_explore.specs.Outcomes.{IsCertificate}
-use Rattle.tso_explore.specs.Worked.{IsTreeOf}
-use Rattle.tso_explore.specs.declared.worked.Worked.{Worked}
+use Rattle.tso_write.specs.Worked.{IsCertificate}
+use Rattle.tso_write.specs.Worked.{IsTreeOf}
+use Rattle.tso_write.specs.declared.worked.Worked.{Worked}
 use Rattle.tso_foot.specs.declared.table.Table.{Table}
 use Rattle.tso_foot.specs.declared.table.Table.TheVariants as tables
 use Rattle.tso_front.specs.declared.failure.Failure.{Failure}

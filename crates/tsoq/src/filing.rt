@@ -4,7 +4,7 @@ ghost use Rattle.std.specs.Io.Buffered.{writer_buffer, writer_inner};
 ghost use Rattle.std.specs.Prelude.{◌≡◌, ◌++◌, IfOk};
 ghost use Rattle.tso_cert.specs.Certificates.{certificate};
 ghost use Rattle.tso_cert.specs.Trees.{tree_of};
-ghost use Rattle.tso_explore.specs.Worked.{AreWorkedOut};
+ghost use Rattle.tso_write.specs.Worked.{AreWorkedOut};
 ghost use Rattle.tso_trace.specs.Grammar.{trace_text};
 ghost use Rattle.tsoq.specs.Written.{IsSpelledOf};
 
@@ -14,12 +14,12 @@ use std::io;
 use std::io::{BufWriter, Write};
 use std::thread::Threads;
 use tso_cert::{Cert, Workers, WriteError};
-use tso_explore::Worked;
 use tso_flow::Checked;
 use tso_foot::Table;
 use tso_front::{Draft, Failure, Files, cannot_write};
 use tso_list::write_bytes;
 use tso_trace::Trace;
+use tso_write::Worked;
 
 // Writes out what waits before a writer, and says what the writer has taken.
 fn taken_by<W: Write + Drop>(mut out: BufWriter<Counted<W>>) -> io::Result<Taken>
@@ -74,7 +74,7 @@ fn put_worked_bytes<R: Threads + Sync, W: Write + Drop>(
     ensures { IfOk result (λ taken. IsSpelledOf checked.now.client worked.now table.now taken.which.numbers) }
 {
     let mut out = Counted::new(out);
-    tso_explore::write(rt, alloc, checked, worked, table, workers, &mut out)?;
+    tso_write::write(rt, alloc, checked, worked, table, workers, &mut out)?;
     match finished(out) {
         Ok(taken) => Ok(taken),
         Err(error) => Err(WriteError::Io(error)),

@@ -2,7 +2,7 @@
 
 ghost use Rattle.std.specs.Prelude.{◌≡◌, ◌≤◌, IfOk, None, OnOk, Some, is_some, length};
 ghost use Rattle.tso_cert.specs.Trees.{record_count, tree_of};
-ghost use Rattle.tso_explore.specs.Worked.{AreWorkedOut};
+ghost use Rattle.tso_write.specs.Worked.{AreWorkedOut};
 ghost use Rattle.tso_trace.specs.Grammar.{trace_text};
 ghost use Rattle.tso_trace.specs.Runs.{first_fault, violation_of};
 ghost use Rattle.tsoq.specs.Reports.{IsOfLabels, IsOfRecords, IsReport, IsTold};
@@ -21,12 +21,13 @@ use std::sync::Wait;
 use std::thread::Threads;
 use tso_cert::{Cert, Workers, build_intervals};
 use tso_client::checked_of;
-use tso_explore::{Finding, Worked, find, has_tree, intervals_for, tree_for};
+use tso_explore::{Finding, find};
 use tso_flow::Checked;
 use tso_foot::Table;
 use tso_front::{Failure, Files};
 use tso_trace::Trace;
 use tso_verdict::{Facts, told};
+use tso_write::{Worked, has_tree, intervals_for, tree_for};
 
 /// What a search found, and the trace of it, if it is one.
 #[derive(Drop)]

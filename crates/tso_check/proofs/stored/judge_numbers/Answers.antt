@@ -1,4 +1,3 @@
-use Rattle.tso_check.proofs.NumberedLemmas.{rising_pairs}
 use Rattle.tso_check.proofs.StoredLemmas.{none_left, none_valid, number_bad, number_valid, valid_up_to}
 use Rattle.tso_check.proofs.stored.judge_numbers.Goals as goal
 
@@ -20,4 +19,4 @@ pub returns : goal.returns
 returns g c = valid_up_to c.args.checked.now.client c.args.scanned.now c.requires.stored c.args.from c.args.to c.loop-number.number c.loop-number-test.false c.loop-number.invariant
 
 pub judge_number-requires : goal.judge_number-requires
-judge_number-requires g c = record { rising = rising_pairs c.args.scanned.now.store.states c.requires.stored.rising; client = c.requires.stored.client; forms = c.requires.forms }
+judge_number-requires g c = record { rising = c.requires.stored.rising; client = c.requires.stored.client; forms = c.requires.forms }

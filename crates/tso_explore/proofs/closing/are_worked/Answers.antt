@@ -1,6 +1,6 @@
 use Rattle.std.proofs.Common.{arith}
 use Rattle.tso_search.proofs.SearchLemmas.{ok_as}
-use Rattle.tso_explore.proofs.TaskLemmas.{all_worked}
+use Rattle.tso_explore.proofs.AskedLemmas.{all_worked}
 use Rattle.tso_explore.proofs.closing.are_worked.Goals as goal
 
 pub run_by-requires-clause-ready : goal.run_by-requires-clause-ready

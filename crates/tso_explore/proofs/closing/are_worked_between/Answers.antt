@@ -1,5 +1,5 @@
 use Rattle.std.proofs.Common.{arith}
-use Rattle.tso_explore.proofs.TaskLemmas.{one_more_worked}
+use Rattle.tso_explore.proofs.AskedLemmas.{one_more_worked}
 use Rattle.tso_explore.proofs.closing.are_worked_between.Goals as goal
 
 pub loop-number-preserved : goal.loop-number-preserved

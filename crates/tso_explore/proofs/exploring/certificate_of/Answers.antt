@@ -1,5 +1,5 @@
 use Rattle.tso_cert.specs.Trees as trees
-use Rattle.tso_explore.proofs.CuttingLemmas.{wider}
+use Rattle.tso_write.proofs.CuttingLemmas.{wider}
 use Rattle.tso_explore.proofs.exploring.certificate_of.Goals as goal
 
 pub returns-in-Ok : goal.returns-in-Ok

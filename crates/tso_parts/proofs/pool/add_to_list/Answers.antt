@@ -1,7 +1,6 @@
 use Rattle.std.proofs.Common.{None, Some}
-use Rattle.tso_parts.proofs.Adding.{numbered_more}
 use Rattle.tso_parts.proofs.Finding.{found_at}
-use Rattle.tso_parts.proofs.Marked.{put_extends, put_number}
+use Rattle.tso_parts.proofs.Marked.{numbered_more, put_extends, put_number}
 use Rattle.tso_parts.proofs.Outcomes.{on_err}
 use Rattle.tso_parts.proofs.pool.add_to_list.Goals as goal
 

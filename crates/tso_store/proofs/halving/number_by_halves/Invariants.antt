@@ -1,5 +1,5 @@
 use Rattle.std.proofs.Common.{◌-◌}
-use Rattle.tso_store.specs.Rising.{IsOnlyBetween}
+use Rattle.tso_store.proofs.Halves.{IsOnlyBetween}
 use Rattle.tso_store.proofs.halving.number_by_halves.Given as goal
 
 abbrev pub invariant-loop-low : goal.invariant-loop-low

@@ -1,5 +1,5 @@
 use Rattle.std.proofs.Common.{◌+◌, ◌-◌, ◌/◌, arith}
-use Rattle.tso_explore.proofs.TaskLemmas.{asked_in_two}
+use Rattle.tso_explore.proofs.AskedLemmas.{asked_in_two}
 use Rattle.tso_explore.proofs.closing.AskedTask.halves.Goals as goal
 
 pub returns : goal.returns

@@ -1,7 +1,7 @@
 use Rattle.std.proofs.Common.{◌∙◌, sym}
 use Rattle.std.proofs.lemmas.Bool.{false≢true}
-use Rattle.tso_explore.proofs.TaskLemmas.{both_worked}
-use Rattle.tso_explore.specs.Tasks.{asked}
+use Rattle.tso_explore.proofs.AskedLemmas.{both_worked}
+use Rattle.tso_explore.specs.Asked.{asked}
 use Rattle.tso_explore.proofs.closing.AskedTask.joined.Goals as goal
 
 pub returns-then-first : goal.returns-then-first

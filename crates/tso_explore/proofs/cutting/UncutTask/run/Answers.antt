@@ -1,4 +1,0 @@
-use Rattle.tso_explore.proofs.cutting.UncutTask.run.Goals as goal
-
-pub returns : goal.returns
-returns c = c.cut.ensures

@@ -1,6 +1,0 @@
-use Rattle.std.proofs.Common.{◌≡◌}
-use Rattle.tso_explore.specs.Cutting.{reasons_but}
-use Rattle.tso_explore.proofs.lone.reasons_but.Given as goal
-
-abbrev pub invariant-loop-other : goal.invariant-loop-other
-invariant-loop-other l = l.given ≡ reasons_but l.reason l.own l.other

@@ -1,5 +1,0 @@
-use Rattle.tso_explore.specs.Ordering.{AreGrouped}
-use Rattle.tso_explore.proofs.ordering.grouped.Given as goal
-
-abbrev pub invariant-loop-number : goal.invariant-loop-number
-invariant-loop-number l = AreGrouped l.standings l.number l.groups

@@ -1,7 +1,0 @@
-use Rattle.tso_explore.proofs.SpellingLemmas.{spelled_alone}
-use Rattle.tso_explore.specs.Tasks.{uncut}
-use Rattle.tso_explore.proofs.spelling.spelled.Goals as goal
-
-pub returns : goal.returns
-returns c =
-    spelled_alone (uncut c.args.checked.now.client c.args.table.now c.args.store.now.states c.args.numbers.now) _ _ c.in_ok-out.ensures.items c.in_ok-put_tree.ensures

@@ -1,4 +1,0 @@
-use Rattle.tso_explore.proofs.writing.+put_slabs.Given as goal
-
-abbrev pub decreases-put_slabs : goal.decreases-put_slabs
-decreases-put_slabs g l = l.halvings

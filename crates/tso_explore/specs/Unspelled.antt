@@ -1,6 +1,0 @@
--- States that are to be spelled, as the code has them.
-use Rattle.tso_explore.specs.Tasks.{Numbered, uncut}
-use Rattle.tso_explore.specs.declared.spelling.Unspelled.{Unspelled}
-
-abbrev pub numbers_of : Unspelled → Numbered
-numbers_of p = uncut p.checked.now.client p.table.now p.store.now.states p.numbers.now

@@ -1,0 +1,276 @@
+//! The spelling of worked states as the records of a tree, before there is one.
+
+ghost use Rattle.std.specs.List.{flat_map};
+ghost use Rattle.std.specs.Prelude.{◌≡◌, ◌<◌, ◌≤◌, ◌++◌, ◌∷◌, [], get_or, IfOk, IfSome, OnOk, length};
+ghost use Rattle.tso_write.specs.Spelling.{AreSpelledBehind, CanBeSpelled, IsRecordBehind, IsSpelledBehind, IsSpelledCut, IsStateBehind};
+ghost use Rattle.tso_write.specs.Cutting.{AreNumbers, AreRising};
+ghost use Rattle.tso_write.specs.Tasks.{AreHalvesCut, uncut};
+ghost use Rattle.tso_write.specs.Unspelled.{numbers_of};
+ghost use Rattle.tso_foot.specs.Closed.{IsClosed};
+ghost use Rattle.tso_search.specs.Searched.{AreSearched};
+
+use crate::cutting::{LEAF, end_at};
+use crate::speller::Speller;
+use std::alloc::{AllocError, Global};
+use std::thread::Threads;
+use tso_cert::{ALONE, Task};
+use tso_code::write_number;
+use tso_flow::Checked;
+use tso_foot::Table;
+use tso_store::Store;
+
+// Room for so many bytes is made for each record: most take some fewer.
+const RECORD: usize = 96;
+
+// Puts the record of a state at the end.
+fn put_record(
+    alloc: Global,
+    checked: &Checked,
+    table: &Table,
+    store: &Store<'_>,
+    speller: &Speller<'_>,
+    number: u32,
+    out: &mut Vec<u8>,
+) -> Result<(), AllocError>
+    requires client { store.now.client ≡ checked.now.client }
+    requires searched { AreSearched checked.now.client table.now store.now.states }
+    requires closed { IsClosed checked.now.client table.now }
+    requires same { speller.now ≡ store.now.states }
+    requires there { number < length store.now.states }
+    ensures { OnOk result (IsRecordBehind (uncut checked.now.client table.now store.now.states []) number out.old.items out.new.items) }
+{
+    let end = end_at(alloc, checked, table, store, number)?;
+    speller.put_record(number, &end, out)?;
+    Ok(())
+}
+
+// Puts the records of these states at the end, without their count.
+fn put_records(
+    alloc: Global,
+    checked: &Checked,
+    table: &Table,
+    store: &Store<'_>,
+    speller: &Speller<'_>,
+    numbers: &[u32],
+    out: &mut Vec<u8>,
+) -> Result<(), AllocError>
+    requires client { store.now.client ≡ checked.now.client }
+    requires searched { AreSearched checked.now.client table.now store.now.states }
+    requires closed { IsClosed checked.now.client table.now }
+    requires same { speller.now ≡ store.now.states }
+    requires numbers { AreNumbers store.now.states numbers.now }
+    ensures { OnOk result (AreSpelledBehind (uncut checked.now.client table.now store.now.states numbers.now) (length numbers.now) out.old.items out.new.items) }
+{
+    for number in numbers {
+        put_record(alloc, checked, table, store, speller, *number, out)?;
+    }
+    Ok(())
+}
+
+// Puts the leaf of these states at the end.
+fn put_leaf(
+    alloc: Global,
+    checked: &Checked,
+    table: &Table,
+    store: &Store<'_>,
+    speller: &Speller<'_>,
+    numbers: &[u32],
+    out: &mut Vec<u8>,
+) -> Result<(), AllocError>
+    requires client { store.now.client ≡ checked.now.client }
+    requires searched { AreSearched checked.now.client table.now store.now.states }
+    requires closed { IsClosed checked.now.client table.now }
+    requires same { speller.now ≡ store.now.states }
+    requires numbers { AreNumbers store.now.states numbers.now }
+    requires few { length numbers.now ≤ 64 }
+    ensures { OnOk result (IsSpelledBehind (uncut checked.now.client table.now store.now.states numbers.now) out.old.items out.new.items) }
+{
+    out.push(0)?;
+    write_number(numbers.len() as u64, out)?;
+    put_records(alloc, checked, table, store, speller, numbers, out)?;
+    Ok(())
+}
+
+// Puts the tree of these states at the end, cut as `cutting` cuts it.
+fn put_tree(
+    alloc: Global,
+    checked: &Checked,
+    table: &Table,
+    store: &Store<'_>,
+    speller: &Speller<'_>,
+    numbers: &[u32],
+    out: &mut Vec<u8>,
+) -> Result<(), AllocError>
+    requires client { store.now.client ≡ checked.now.client }
+    requires searched { AreSearched checked.now.client table.now store.now.states }
+    requires closed { IsClosed checked.now.client table.now }
+    requires same { speller.now ≡ store.now.states }
+    requires numbers { AreNumbers store.now.states numbers.now }
+    requires rising { AreRising store.now.states numbers.now }
+    ensures { OnOk result (IsSpelledBehind (uncut checked.now.client table.now store.now.states numbers.now) out.old.items out.new.items) }
+{
+    if numbers.len() <= LEAF {
+        put_leaf(alloc, checked, table, store, speller, numbers, out)?;
+        return Ok(());
+    }
+    let (low, high) = numbers.split_at(numbers.len() / 2);
+    out.push(1)?;
+    put_tree(alloc, checked, table, store, speller, low, out)?;
+    speller.put_state(high[0], out)?;
+    put_tree(alloc, checked, table, store, speller, high, out)?;
+    Ok(())
+}
+
+// The spelling of the tree of these states, by one thread.
+fn spelled(
+    alloc: Global,
+    checked: &Checked,
+    table: &Table,
+    store: &Store<'_>,
+    speller: &Speller<'_>,
+    numbers: &[u32],
+) -> Result<Vec<u8>, AllocError>
+    requires client { store.now.client ≡ checked.now.client }
+    requires searched { AreSearched checked.now.client table.now store.now.states }
+    requires closed { IsClosed checked.now.client table.now }
+    requires same { speller.now ≡ store.now.states }
+    requires numbers { AreNumbers store.now.states numbers.now }
+    requires rising { AreRising store.now.states numbers.now }
+    ensures { IfOk result (λ bytes. IsSpelledCut (uncut checked.now.client table.now store.now.states numbers.now) bytes.items) }
+{
+    let mut out = Vec::with_capacity(alloc, numbers.len().saturating_mul(RECORD))?;
+    put_tree(alloc, checked, table, store, speller, numbers, &mut out)?;
+    Ok(out)
+}
+
+// The spelling of a kept state.
+fn state_bytes(alloc: Global, speller: &Speller<'_>, number: u32) -> Result<Vec<u8>, AllocError>
+    requires { number < length speller.now }
+    ensures { IfOk result (λ bytes. IsStateBehind speller.now number [] bytes.items) }
+{
+    let mut bytes = Vec::new(alloc);
+    speller.put_state(number, &mut bytes)?;
+    Ok(bytes)
+}
+
+// The pieces of a fork, from those of its halves and the bytes of its state.
+fn fork_of(
+    alloc: Global,
+    left: Vec<Vec<u8>>,
+    middle: Vec<u8>,
+    right: Vec<Vec<u8>>,
+) -> Result<Vec<Vec<u8>>, AllocError>
+    ensures { IfOk result (λ pieces. flat_map (λ v. v.items) pieces.items ≡ 1 ∷ (flat_map (λ v. v.items) left.items ++ (middle.items ++ flat_map (λ v. v.items) right.items))) }
+{
+    let (mut low, mut high) = (left, right);
+    let mut pieces = Vec::new(alloc);
+    let front = Vec::from_slice(alloc, &[1])?;
+    pieces.push(front)?;
+    pieces.append(&mut low)?;
+    pieces.push(middle)?;
+    pieces.append(&mut high)?;
+    Ok(pieces)
+}
+
+/// States that are to be spelled.
+#[derive(Drop)]
+pub struct Unspelled<'a> {
+    pub alloc: Global,
+    pub checked: &'a Checked,
+    pub table: &'a Table,
+    pub store: &'a Store<'a>,
+    pub speller: &'a Speller<'a>,
+    pub numbers: &'a [u32],
+}
+
+impl<'a> Unspelled<'a> {
+    /// The halves of what is more than a leaf.
+    pub fn in_turn(&self) -> Option<(Self, Self)>
+        requires ready { CanBeSpelled (numbers_of self.now) self.now.store.now.client self.now.speller.now }
+        ensures { IfSome result (λ h. AreHalvesCut (numbers_of self.now) (numbers_of h.0) (numbers_of h.1) × CanBeSpelled (numbers_of h.0) h.0.store.now.client h.0.speller.now × CanBeSpelled (numbers_of h.1) h.1.store.now.client h.1.speller.now × (0 < length h.1.numbers.now)) }
+    {
+        let count = self.numbers.len();
+        if count <= LEAF {
+            return None;
+        }
+        let (low, high) = self.numbers.split_at(count / 2);
+        let left = Unspelled {
+            alloc: self.alloc,
+            checked: self.checked,
+            table: self.table,
+            store: self.store,
+            speller: self.speller,
+            numbers: low,
+        };
+        let right = Unspelled {
+            alloc: self.alloc,
+            checked: self.checked,
+            table: self.table,
+            store: self.store,
+            speller: self.speller,
+            numbers: high,
+        };
+        Some((left, right))
+    }
+
+    /// The spelling of the first of these states.
+    ///
+    /// Errors: where a growth was refused.
+    pub fn first(&self) -> Result<Vec<u8>, AllocError>
+        requires ready { CanBeSpelled (numbers_of self.now) self.now.store.now.client self.now.speller.now }
+        requires some { 0 < length self.now.numbers.now }
+        ensures { IfOk result (λ bytes. IsStateBehind self.now.store.now.states (get_or self.now.numbers.now 0 0) [] bytes.items) }
+    {
+        let bytes = state_bytes(self.alloc, self.speller, self.numbers[0])?;
+        Ok(bytes)
+    }
+}
+
+impl<'a> Task for Unspelled<'a> {
+    ghost use Rattle.std.specs.List.{flat_map};
+    ghost use Rattle.tso_write.specs.Spelling.{CanBeSpelled, IsSpelledCut};
+    ghost use Rattle.tso_write.specs.Tasks.{AreHalvesCut};
+    ghost use Rattle.tso_write.specs.Unspelled.{numbers_of};
+
+    type Output = Vec<Vec<u8>>;
+
+    ghost is_ready = { λ p. CanBeSpelled (numbers_of p) p.store.now.client p.speller.now };
+
+    ghost is_output = { λ p pieces. IsSpelledCut (numbers_of p) (flat_map (λ v. v.items) pieces.items) };
+
+    ghost are_halves = { λ p left right. AreHalvesCut (numbers_of p) (numbers_of left) (numbers_of right) };
+
+    fn run(&self) -> Result<Vec<Vec<u8>>, AllocError> {
+        let mut pieces = Vec::new(self.alloc);
+        let bytes = spelled(
+            self.alloc,
+            self.checked,
+            self.table,
+            self.store,
+            self.speller,
+            self.numbers,
+        )?;
+        pieces.push(bytes)?;
+        Ok(pieces)
+    }
+
+    fn halves(&self) -> Option<(Self, Self)> {
+        if self.numbers.len() <= ALONE {
+            return None;
+        }
+        let (left, right) = self.in_turn()?;
+        Some((left, right))
+    }
+
+    fn joined(
+        &self,
+        _left: &Self,
+        right: &Self,
+        first: Vec<Vec<u8>>,
+        second: Vec<Vec<u8>>,
+    ) -> Result<Vec<Vec<u8>>, AllocError> {
+        let middle = state_bytes(self.alloc, self.speller, right.numbers[0])?;
+        let pieces = fork_of(self.alloc, first, middle, second)?;
+        Ok(pieces)
+    }
+}
