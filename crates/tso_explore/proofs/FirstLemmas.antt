@@ -1,12 +1,12 @@
 -- What the first states of a search tell.
 use Rattle.std.proofs.Common.{◌≡◌, ◌∙◌, ℕ, zero, suc, ◌<◌, ◌≤◌, ◌⊎◌, inl, inr, Bool, true, false, List, [], ◌∷◌, length, get_or, Some, slice_get, refl, sym, ap, subst, arith}
 use Rattle.std.specs.Prelude.{Err, IfOk, MatchBool, Ok, Result}
-use Rattle.std.proofs.lemmas.Option.{none-some, same_Some, slice_get-get_or}
-use Rattle.tso_search.proofs.SearchLemmas.{all_searched, begun_first, done_none, longer, searched_stays}
+use Rattle.std.proofs.lemmas.Option.{none-some, same_Some, slice_get-get_or, slice_get_within}
+use Rattle.tso_search.proofs.SearchLemmas.{all_searched, begun_first, done_none, has_begun, longer, searched_stays}
 use Rattle.tso_explore.specs.Firsts.{IsBegunAlone, IsFirstAlone, IsFirstOf, IsFound, IsPaused}
 use Rattle.tso_search.specs.Goodness.{AllGood, IsGood}
 use Rattle.tso_search.specs.Reached.{IsBad, IsBadAt}
-use Rattle.tso_search.specs.Searched.{AreSearched, IsBegun, IsHunting, IsSearched, IsStarted}
+use Rattle.tso_search.specs.Searched.{AreSearched, IsBegun, IsHunting, IsSearched, IsStarted, IsWorked}
 use Rattle.tso_search.specs.Shortening.{IsShorter, IsTraceOf}
 use Rattle.tso_explore.specs.declared.first.First.{First}
 use Rattle.tso_explore.specs.declared.first.First.TheVariants as firsts
@@ -97,15 +97,28 @@ worked_without_pause c t limit states origins number searched low over few small
 ]
 
 -- states that are searched so far, from which several workers go on
-pub begun_alone : (c : Client) (t : Table) (store : Sheet) (origins : List Origin) (number : ℕ) → store.client ≡ c → IsSearched c t store.states origins number → AllGood c store.states → number ≤ length store.states
-    → IsBegunAlone c t store number
-begun_alone c t store origins number client searched good low = record {
+pub begun_alone : (c : Client) (limit : ℕ) (t : Table) (store : Sheet) (origins : List Origin) (number : ℕ) → store.client ≡ c → IsSearched c t store.states origins number → AllGood c store.states → number ≤ length store.states
+    → length store.states ≤ limit → IsBegunAlone c limit t store number
+begun_alone c limit t store origins number client searched good low few = record {
   client = client;
+  begun = has_begun c store.states origins searched.begun;
+  few = few;
   sound = record { met = searched.begun.met; good = good };
   worked = λ n lt.
       let s : State = get_or store.states n searched.begun.initial in
       let at : slice_get store.states n ≡ Some s = slice_get-get_or store.states n searched.begun.initial (omega (arith, lt, low)) in
       record { state = s; at = at; worked = searched.worked n s lt at };
+}
+
+-- where they are all that there are, all are worked
+pub all_alone : (c : Client) (limit : ℕ) (t : Table) (store : Sheet) (number : ℕ) → IsBegunAlone c limit t store number → length store.states ≤ number → AreSearched c t store.states
+all_alone c limit t store number begun all = record {
+  begun = begun.begun;
+  worked = λ n s at.
+      let inside = slice_get_within store.states n s at in
+      let done = begun.worked n (omega (arith, inside, all)) in
+      let same : done.state ≡ s = same_Some done.state s (sym done.at ∙ at) in
+      subst (IsWorked c t store.states) same done.worked;
 }
 
 -- where it stopped

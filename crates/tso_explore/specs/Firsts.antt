@@ -4,7 +4,7 @@ use Rattle.tso_search.specs.Goodness.{AllGood}
 use Rattle.tso_explore.specs.Outcomes.{IsStopped}
 use Rattle.tso_explore.specs.Findings.{IsFinding}
 use Rattle.tso_regions.specs.Regions.{AreSound}
-use Rattle.tso_search.specs.Searched.{AreDone, IsDone, IsSearched}
+use Rattle.tso_search.specs.Searched.{AreDone, HasBegun, IsDone, IsSearched}
 use Rattle.tso_explore.specs.declared.first.First.{First}
 use Rattle.tso_explore.specs.declared.first.First.TheVariants as firsts
 use Rattle.tso_explore.specs.declared.first.Soon.{Soon}
@@ -34,16 +34,18 @@ abbrev pub IsFound : Client → ℕ → First → Type 0
 IsFound c limit (firsts.Stopped why) = IsStopped c limit why
 IsFound c limit (firsts.GoesOn number) = ⊥
 
--- states that one worker has searched up to this number, all of them good
-pub record IsBegunAlone (c : Client) (t : Table) (store : Sheet) (number : ℕ) : Type 0 where
+-- states that one worker has searched up to this number, all of them good, and no more than the limit
+pub record IsBegunAlone (c : Client) (limit : ℕ) (t : Table) (store : Sheet) (number : ℕ) : Type 0 where
   pub client : store.client ≡ c
+  pub begun : HasBegun c store.states
+  pub few : length store.states ≤ limit
   pub sound : AreSound c store.states
   pub worked : (n : ℕ) → n < number → IsDone c t store.states n
 
 -- why the search of the first states stopped, or how far it has come
 abbrev pub IsFirstAlone : Client → ℕ → Table → Sheet → First → Type 0
 IsFirstAlone c limit t store (firsts.Stopped why) = IsStopped c limit why
-IsFirstAlone c limit t store (firsts.GoesOn number) = IsBegunAlone c t store number
+IsFirstAlone c limit t store (firsts.GoesOn number) = IsBegunAlone c limit t store number
 
 -- what is found soon, if something is
 abbrev pub IsSoon : Client → ℕ → Soon → Type 0

@@ -39,7 +39,10 @@ use tso_write::{Worked, tree_for};
 const FIRST: u32 = 65_536;
 
 /// How many states the caller meets alone before several workers go on by regions.
-const ALONE: u32 = 4_096;
+const ALONE: u32 = 8_192;
+
+/// Where there are so many states, and the caller has searched all of them alone, no worker searches them once more.
+const SHARED: usize = 512;
 
 /// A store with the initial state.
 ///
@@ -492,6 +495,31 @@ fn finding_of<'c>(
     }
 }
 
+// What is found where the caller has searched all states alone: these, unless they are so few that all workers search them.
+fn found_alone<'c, W: Watch>(
+    checked: &Checked,
+    table: Table,
+    store: Store<'c>,
+    number: u32,
+    limit: u32,
+    watch: &W,
+) -> Soon<'c>
+    requires limit { limit ≤ 4194304 }
+    requires closed { IsClosed checked.now.client table }
+    requires least { IsLeastClosed checked.now.client table }
+    requires begun { IsBegunAlone checked.now.client limit table store number }
+    requires all { length store.states ≤ number }
+    ensures { IsSoon checked.now.client limit result }
+{
+    if store.len() < SHARED {
+        drop(store);
+        drop(table);
+        return Soon::Few;
+    }
+    watch.met(store.len() as u64, 0);
+    Soon::Found(worked_out(checked, table, store, limit))
+}
+
 // What several workers find by regions, from the first states on that one has searched up to state `number`.
 fn found_by_regions<'c, R: Threads + Wait + Sync, W: Watch + Sync>(
     rt: &R,
@@ -508,13 +536,11 @@ fn found_by_regions<'c, R: Threads + Wait + Sync, W: Watch + Sync>(
     requires limit { limit ≤ 4194304 }
     requires closed { IsClosed checked.now.client table }
     requires least { IsLeastClosed checked.now.client table }
-    requires begun { IsBegunAlone checked.now.client table store number }
+    requires begun { IsBegunAlone checked.now.client limit table store number }
     ensures { IfOk result (IsSoon checked.now.client limit) }
 {
     if number as usize >= store.len() {
-        drop(store);
-        drop(table);
-        return Ok(Soon::Few);
+        return Ok(found_alone(checked, table, store, number, limit, watch));
     }
     match by_regions(
         rt, alloc, checked, &table, store, number, workers, limit, watch,
@@ -798,9 +824,10 @@ fn explored_by<'c, R: Threads + Wait + Sync, W: Watch + Sync>(
 /// depth, which come to states that lie deep sooner, and then by breadth again. A violation among the first states, or of a hunt by
 /// breadth, is hunted once more by depth, and the shorter trace is handed out, with those labels left out that it does without.
 ///
-/// Several workers go on by regions where the caller, alone, has met 4,096 states and has found nothing. A client of fewer states is
-/// searched by all of them in shards; the watch is then told of theirs. Where several end without an answer, as where a run is met
-/// that is not good, one searches anew.
+/// Several workers go on by regions where the caller, alone, has met 8,192 states and has found nothing. Of fewer, but 512 or more,
+/// it hands out its own search, and tells the watch how many they are. A client of fewer than 512 states is searched by all workers in
+/// shards; the watch is then told of theirs. Where several end without an answer, as where a run is met that is not good, one searches
+/// anew.
 pub fn find<'c, R: Threads + Wait + Sync, W: Watch + Sync>(
     rt: &R,
     alloc: Global,

@@ -387,7 +387,8 @@ fn end_whole<R: Threads + Wait + Sync, D: Finder, S: Session>(
     }
 }
 
-// Writes the lines of a survey into its folder, if it has one.
+// Writes the lines of a survey into its folder, if it has one. Of lists of clients there may be many surveys at once that write into one
+// folder, so those write none.
 fn write_index<S: Session>(
     session: &mut S,
     tally: &Tally,
@@ -397,9 +398,10 @@ fn write_index<S: Session>(
     let Some(folder) = asking.out else {
         return Ok(());
     };
-    let path = match asking.part {
-        None => format!(in alloc; "{folder}/index")?,
-        Some(part) => format!(in alloc; "{folder}/index-{part}")?,
+    let path = match (asking.part, asking.clients) {
+        (Some(part), _) => format!(in alloc; "{folder}/index-{part}")?,
+        (None, None) => format!(in alloc; "{folder}/index")?,
+        (None, Some(_)) => return Ok(()),
     };
     session.write(path.as_str(), &tally.lines)
 }

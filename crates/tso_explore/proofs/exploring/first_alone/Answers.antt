@@ -18,7 +18,7 @@ search-requires-clause-done g c = done_none c.args.checked.now.client c.args.tab
 pub returns-in-Ok : goal.returns-in-Ok
 returns-in-Ok g c =
     let after = c.in-Ok.ensures in
-    begun_alone c.args.checked.now.client c.args.table.now c.search.new.store c.search.new.origins.items c.in-Ok.number (c.search.ensures.client ∙ c.requires.client) after.searched after.good after.low
+    begun_alone c.args.checked.now.client c.args.limit c.args.table.now c.search.new.store c.search.new.origins.items c.in-Ok.number (c.search.ensures.client ∙ c.requires.client) after.searched after.good after.low after.few
 
 pub returns : goal.returns
 returns g c = first_alone_as c.args.checked.now.client c.args.limit c.args.table.now c.search.new.store c.stopped_first.result c.stopped_first.ensures
