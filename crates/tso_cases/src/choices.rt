@@ -1,10 +1,8 @@
 //! Footprints, reasons and choices.
 
-use crate::actors::{actor_of, actors_of, state_after};
-use crate::failure::Failure;
 use crate::followed::put_followed;
-use crate::input::{before, behind, index_at, word};
 use std::alloc::{AllocError, Global};
+use tso_calls::{Failure, actor_of, actors_of, before, behind, index_at, state_after, word};
 use tso_cells::{Hull, widened};
 use tso_choose::{Choice, choose, chosen};
 use tso_flow::Checked;

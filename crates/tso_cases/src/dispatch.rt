@@ -1,32 +1,19 @@
 //! Which call a case is.
 
-use crate::failure::Failure;
-use crate::input::{client_of, file_at, number_at, word};
-use crate::{
-    actors, arithmetic, choices, cursors, events, judged, leaf, machine, meetings, plain, runs,
-    states, ticket,
-};
+use crate::{choices, judged, leaf, meetings, runs, ticket};
 use std::alloc::Global;
 use std::rt::Files;
 use std::sync::Wait;
 use std::thread::Threads;
+use tso_calls::{Failure, client_of, file_at, number_at, word};
 use tso_flow::Checked;
 
 // Makes a call that needs no file and no thread. Whether the case is one.
 fn answer_alone(alloc: Global, call: &str, out: &mut String) -> Result<bool, Failure> {
-    if arithmetic::answer(call, out)? {
-        return Ok(true);
-    }
-    if events::answer(alloc, call, out)? {
-        return Ok(true);
-    }
-    if states::answer(alloc, call, out)? {
-        return Ok(true);
-    }
     if ticket::answer(alloc, call, out)? {
         return Ok(true);
     }
-    plain::answer(alloc, call, out)
+    tso_calls::answer(alloc, call, out)
 }
 
 // Makes a call on a client alone. Whether the case is one.
@@ -36,19 +23,10 @@ fn answer_of_client(
     call: &str,
     out: &mut String,
 ) -> Result<bool, Failure> {
-    if machine::answer(alloc, checked, call, out)? {
-        return Ok(true);
-    }
-    if states::answer_of_client(alloc, checked, call, out)? {
-        return Ok(true);
-    }
-    if actors::answer(alloc, checked, call, out)? {
+    if tso_calls::answer_of_client(alloc, checked, call, out)? {
         return Ok(true);
     }
     if choices::answer(alloc, checked, call, out)? {
-        return Ok(true);
-    }
-    if cursors::answer(alloc, checked, call, out)? {
         return Ok(true);
     }
     judged::answer(alloc, checked, call, out)

@@ -1,12 +1,13 @@
 //! How many states the chosen actors lead to.
 
-use crate::failure::Failure;
 use std::alloc::Global;
+use tso_calls::Failure;
 use tso_choose::chosen;
 use tso_flow::Checked;
 use tso_foot::Table;
+use tso_keys::View;
 use tso_state::{Actor, initial_state, is_well_formed};
-use tso_store::{Store, View};
+use tso_store::Store;
 
 /// So many actors a client has at most: the cores and the buffers of five threads.
 const ACTORS: u16 = 10;

@@ -6,13 +6,9 @@ ghost use Rattle.tso_state.specs.Rising.{IsBelow, IsRising};
 ghost use Rattle.tso_cert.specs.Trees.{tree_of};
 ghost use Rattle.tso_rec.specs.Records.{states_of};
 
-use crate::actors::{actor_of, state_after};
-use crate::events::order_of;
-use crate::failure::Failure;
-use crate::input::{before, behind, word};
-use crate::sketch::state_of;
 use std::alloc::{AllocError, Global};
 use std::cmp::Ordering;
+use tso_calls::{Failure, actor_of, before, behind, order_of, state_after, state_of, word};
 use tso_cert::Cert;
 use tso_choose::{Choice, Choices};
 use tso_flow::Checked;

@@ -4,10 +4,9 @@ ghost use Rattle.std.specs.Prelude.{◌≡◌, ◌<◌, ◌≤◌, length};
 ghost use Rattle.tso_cert.specs.Lookup.{IsOrdered};
 ghost use Rattle.tso_cert.specs.Trees.{record_count, tree_of};
 
-use crate::failure::{Failure, ensure};
-use crate::input::{behind, client_of};
 use crate::packed::{has_state, put_numbers};
 use std::alloc::{AllocError, Global};
+use tso_calls::{Failure, behind, client_of, ensure};
 use tso_cert::{Cert, DecodeError, decode, encode};
 use tso_flow::Checked;
 use tso_foot::Table;

@@ -4,38 +4,24 @@
 //! status says whether all is as the files say.
 #![tactic(auto)]
 
-mod actors;
-mod all_runs;
-mod arithmetic;
 mod choices;
-mod cursors;
 mod dispatch;
-mod events;
-mod failure;
 mod followed;
-mod input;
 mod judged;
-mod label_kinds;
-mod labels;
 mod leaf;
-mod machine;
 mod meeting;
 mod meetings;
 mod packed;
-mod plain;
-mod reached;
 mod runs;
-mod sketch;
-mod states;
 mod ticket;
 
 use crate::dispatch::answer;
-use crate::failure::Failure;
 use std::io;
 use std::process::ExitCode;
 use std::rt::Files;
 use std::sync::Wait;
 use std::thread::Threads;
+use tso_calls::Failure;
 
 // How the cases of a file are found.
 #[derive(Clone, Copy)]

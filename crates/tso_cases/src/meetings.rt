@@ -2,12 +2,11 @@
 
 ghost use Rattle.std.specs.Prelude.{◌≤◌};
 
-use crate::failure::{Failure, ensure};
-use crate::input::client_of;
 use crate::meeting::Meeting;
 use std::alloc::Global;
 use std::sync::Wait;
 use std::thread::Threads;
+use tso_calls::{Failure, client_of, ensure};
 use tso_cert::{NoWatch, Watch, Workers};
 use tso_check::{CheckError, Verdict, check, check_client, check_with};
 use tso_explore::{Outcome, explore};

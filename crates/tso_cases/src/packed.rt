@@ -2,9 +2,8 @@
 
 ghost use Rattle.std.specs.Prelude.{◌<◌, IfSome, length};
 
-use crate::actors::state_after;
-use crate::failure::{Failure, ensure};
 use std::alloc::Global;
+use tso_calls::{Failure, ensure, state_after};
 use tso_flow::Checked;
 use tso_list::is_same;
 use tso_rec::Packed;

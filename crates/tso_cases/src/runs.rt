@@ -1,11 +1,10 @@
 //! All runs of a small client, label by label: every label is tried at every state of the label machine, with the history that
 //! led there. Nothing of it knows compact steps, reasons or choices.
 
-use crate::all_runs::{Met, all_runs};
-use crate::failure::{Failure, ensure};
 use std::alloc::Global;
 use std::sync::Wait;
 use std::thread::Threads;
+use tso_calls::{Failure, Met, all_runs, ensure};
 use tso_cert::{NoWatch, Workers};
 use tso_explore::{Outcome, explore};
 use tso_flow::Checked;

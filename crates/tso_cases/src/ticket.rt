@@ -4,13 +4,12 @@ ghost use Rattle.std.specs.Prelude.{◌≡◌, IfOk, OnOk};
 ghost use Rattle.tso_pool.specs.Linked.{AreLinked, places};
 ghost use Rattle.tso_pool.specs.Seats.{place_of};
 
-use crate::failure::Failure;
-use crate::input::{behind, index_at, number_at, word};
 use std::alloc::{AllocError, Global};
 use std::sync::Wait;
 use std::sync::atomic::{AtomicU64, Ordering};
 use std::thread;
 use std::thread::Threads;
+use tso_calls::{Failure, behind, index_at, number_at, word};
 use tso_pool::{Seat, seats, tickets_left};
 
 // So many seats, at most 64.

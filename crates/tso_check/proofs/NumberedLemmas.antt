@@ -1,7 +1,8 @@
 -- From what a store says of numbers to what is judged of records.
 use Rattle.std.proofs.Common.{◌≡◌, ◌∙◌, ℕ, zero, suc, ◌<◌, List, [], ◌∷◌, length, Option, Some, None, slice_get, refl, sym, ap, subst, arith}
 use Rattle.std.specs.Prelude.{Contains, is_some}
-use Rattle.std.proofs.lemmas.Option.{same_Some, slice_get_within}
+use Rattle.std.proofs.lemmas.Option.{same_Some, slice_get-get_or}
+use Rattle.tso_cert.proofs.LookupLemmas.{is_there}
 use Rattle.tso_check.proofs.VerdictLemmas.{initial_there}
 use Rattle.tso_check.specs.Numbered.{AreKeptFrom, IsJudgedAt, IsKeptFrom}
 use Rattle.tso_compact.specs.Laws.{initial_of}
@@ -28,21 +29,13 @@ at_place [] k lt = absurd (omega (arith, lt))
 at_place (x ∷ xs) zero lt = (x, refl)
 at_place (x ∷ xs) (suc k) lt = at_place xs k (omega (arith, lt))
 
--- what is at a place is there
-at_contains : {X : Type 0} (xs : List X) (k : ℕ) (x : X) → slice_get xs k ≡ Some x → Contains xs x
-at_contains [] k x e = absurd (let lt = slice_get_within [] k x e in omega (arith, lt))
-at_contains (y ∷ xs) zero x e = (0, omega arith, same_Some y x e)
-at_contains (y ∷ xs) (suc k) x e = let (n, lt, is) = at_contains xs k x e in (suc n, omega (arith, lt), is)
-
 contains_at : {X : Type 0} (xs : List X) (x : X) → Contains xs x → (k : ℕ) × (slice_get xs k ≡ Some x)
-contains_at [] x (k, lt, e) = absurd (omega (arith, lt))
-contains_at (y ∷ xs) x (zero, lt, e) = (0, ap Some e)
-contains_at (y ∷ xs) x (suc k, lt, e) = let (n, at) = contains_at xs x (k, omega (arith, lt), e) in (suc n, at)
+contains_at xs x (k, lt, is) = (k, slice_get-get_or xs k x lt ∙ ap Some is)
 
 -- ---- the initial state
 
 pub initial_found : (c : Client) (states : List State) (s : State) (n : ℕ) → state_of s ≡ initial_of c → slice_get states n ≡ Some s → HasInitial c states
-initial_found c states s n first at = record { initial = s; first = first; there = at_contains states n s at }
+initial_found c states s n first at = record { initial = s; first = first; there = is_there states s n at }
 
 pub initial_lost : (c : Client) (states : List State) (s : State) → state_of s ≡ initial_of c → IsNowhere states s → HasInitial c states → ⊥
 initial_lost c states s first nowhere h = let (n, at) = contains_at states s (initial_there c states s first h) in nowhere n at
@@ -60,7 +53,7 @@ module _ (c : Client) (states : List State) (n : ℕ) where
     after_from : (a : Actor) → IsKeptFrom c states n a → IsKeptAfter c states s a
     after_from a k =
         let same : k.kept.from ≡ s = same_Some k.kept.from s (sym k.kept.at ∙ at) in
-        record { after = k.kept.to; step = subst (λ f. IsStep c f a k.kept.to) same k.kept.step; kept = at_contains states k.number k.kept.to k.kept.number }
+        record { after = k.kept.to; step = subst (λ f. IsStep c f a k.kept.to) same k.kept.step; kept = is_there states k.kept.to k.number k.kept.number }
 
     from_after : (a : Actor) → IsKeptAfter c states s a → IsKeptFrom c states n a
     from_after a k = let (m, there) = contains_at states k.after k.kept in record { number = m; kept = record { from = s; to = k.after; at = at; step = k.step; number = there } }

@@ -7,7 +7,7 @@ ghost use Rattle.tso_judge.specs.Judging.{IsJudgedAlone};
 ghost use Rattle.tso_judge.specs.Valid.{HasInitial};
 ghost use Rattle.tso_state.specs.Fitting.{HistoryFits};
 ghost use Rattle.tso_state.specs.Rising.{IsRising};
-ghost use Rattle.tso_store.specs.Forms.{AreForms};
+ghost use Rattle.tso_keys.specs.Forms.{AreForms};
 
 use crate::trail::Trail;
 use std::alloc::{AllocError, Global};
@@ -15,9 +15,10 @@ use tso_choose::Choice;
 use tso_flow::Checked;
 use tso_foot::{Table, is_within};
 use tso_judge::{Code, judge_alone};
+use tso_keys::{Forms, View};
 use tso_rec::End;
 use tso_state::{Actor, initial_state};
-use tso_store::{Forms, Found, Store, View};
+use tso_store::{Found, Store};
 
 /// Whether the initial state is kept.
 ///

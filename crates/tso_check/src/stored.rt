@@ -3,7 +3,7 @@
 ghost use Rattle.std.specs.Prelude.{◌+◌, ◌≤◌, IfOk};
 ghost use Rattle.tso_check.specs.Spans.{IsSpanJudged, IsStored, IsVerdictOn, IsWholeFaultOf, stored_span};
 ghost use Rattle.tso_scan.specs.Scanned.{shape_count};
-ghost use Rattle.tso_store.specs.Forms.{AreForms};
+ghost use Rattle.tso_keys.specs.Forms.{AreForms};
 
 use crate::judging::{Bad, Nobody, Notice, Part, verdict_of};
 use crate::numbered::{has_initial, judge_number};
@@ -13,8 +13,8 @@ use std::alloc::{AllocError, Global};
 use tso_flow::Checked;
 use tso_foot::is_closed;
 use tso_judge::Code;
+use tso_keys::Forms;
 use tso_scan::{Scanned, Shape};
-use tso_store::Forms;
 
 /// A part of the tree of a certificate in a store.
 #[derive(Drop)]
@@ -79,7 +79,7 @@ impl<'a, N: Notice> Part for StoredPart<'a, N> {
     ghost use Rattle.std.specs.Prelude.{◌+◌, ◌≤◌};
     ghost use Rattle.tso_check.specs.Spans.{IsStored, stored_span};
     ghost use Rattle.tso_scan.specs.Scanned.{shape_count};
-    ghost use Rattle.tso_store.specs.Forms.{AreForms};
+    ghost use Rattle.tso_keys.specs.Forms.{AreForms};
 
     ghost span = { λ p. stored_span p.checked.now.client p.scanned.now p.start (p.start + shape_count p.shape.now) };
 

@@ -8,23 +8,22 @@ ghost use Rattle.tso_store.specs.Sheets.{CanStep, IsSuccessor};
 ghost use Rattle.tso_state.specs.declared.state.State.{State as StateValue};
 ghost use Rattle.tso_table.specs.Leading.{IsKept};
 
-use crate::finds::Finds;
 use std::alloc::{AllocError, Global};
 use std::marker::Model;
 use tso_flow::Checked;
+use tso_keys::{NO_KEY, View};
 use tso_list::{Paths, Seq};
 use tso_state::{Actor, State};
-use tso_store::{Key, NO_KEY, Store, View};
-use tso_table::{Kept, SHARDS, number_of, shard_of};
+use tso_store::Store;
+use tso_table::{Kept, number_of, shard_of};
 
-/// The states that one worker has met, in a store of its own, in which it takes its steps; the actors that lead to each; and
-/// where the shards have their parts. Contracts see the worker's number, the client and the states.
+/// The states that one worker has met, in a store of its own, in which it takes its steps, and the actors that lead to each.
+/// Contracts see the worker's number, the client and the states.
 #[derive(Drop)]
 pub struct Desk<'c> {
     worker: u64,
     store: Store<'c>,
     paths: Paths,
-    finds: Vec<Finds>,
 }
 
 impl<'c> Model for Desk<'c> {
@@ -37,31 +36,18 @@ impl<'c> Model for Desk<'c> {
     ghost invariant = { λ d. AreLed d.store.client d.store.states d.paths };
 }
 
-// That nothing is known of any shard.
-fn no_finds(alloc: Global) -> Result<Vec<Finds>, AllocError> {
-    let mut finds = Vec::new(alloc);
-    for _ in 0..SHARDS {
-        finds.push(Finds::new(alloc))?;
-    }
-    Ok(finds)
-}
-
 impl<'c> Desk<'c> {
     /// A desk of a worker, without states.
-    ///
-    /// Errors: where a growth was refused.
-    pub fn new(alloc: Global, checked: &'c Checked, worker: u64) -> Result<Self, AllocError>
-        ensures worker { IfOk result (λ d. d.worker ≡ worker) }
-        ensures client { IfOk result (λ d. d.client ≡ checked.now.client) }
-        ensures states { IfOk result (λ d. d.states ≡ []) }
+    pub fn new(alloc: Global, checked: &'c Checked, worker: u64) -> Self
+        ensures worker { result.worker ≡ worker }
+        ensures client { result.client ≡ checked.now.client }
+        ensures states { result.states ≡ [] }
     {
-        let finds = no_finds(alloc)?;
-        Ok(Desk {
+        Desk {
             worker,
             store: Store::new(alloc, checked, 0),
             paths: Paths::new(alloc),
-            finds,
-        })
+        }
     }
 
     /// The number of its worker.
@@ -233,24 +219,6 @@ impl<'c> Desk<'c> {
                 self.paths.pop();
                 Err(AllocError)
             }
-        }
-    }
-
-    /// Where a shard has the parts of a state, as far as that is known.
-    pub fn near(&self, shard: u8, number: u32) -> Key {
-        match self.finds.get(shard as usize) {
-            Some(finds) => finds.near(&self.store.key(number)),
-            None => NO_KEY,
-        }
-    }
-
-    /// Learns where a shard has the parts of a state.
-    pub fn learn(&mut self, shard: u8, number: u32, there: &Key)
-        ensures { self.new ≡ self.old }
-    {
-        let own = self.store.key(number);
-        if let Some(finds) = self.finds.get_mut(shard as usize) {
-            finds.learn(&own, there);
         }
     }
 }

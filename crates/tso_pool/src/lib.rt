@@ -6,7 +6,6 @@ mod closing;
 mod crew;
 mod desk;
 mod ending;
-mod finds;
 mod gathering;
 mod judging;
 mod linking;

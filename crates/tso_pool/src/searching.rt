@@ -68,7 +68,7 @@ fn first_number<U: Search, E: Ledger, R: Wait, W: Watch>(
     ensures ending { IfErr result (IsEndingOf team.now.checked.now.client) }
 {
     let held = desk.begin(team.alloc, team.checked)?;
-    let (number, _new) = intern(team, desk, held, true, share)?;
+    let (number, _new) = intern(team, desk, held, share)?;
     let worker = desk.worker();
     Ok(Ticket {
         number,
@@ -86,7 +86,7 @@ fn first_ticket<U: Search, E: Ledger, R: Wait, W: Watch>(
     ensures parts { share.new.parts ≡ share.old.parts }
     ensures ending { IfErr result (IsEndingOf team.now.checked.now.client) }
 {
-    let mut desk = Desk::new(team.alloc, team.checked, NO_WORKER)?;
+    let mut desk = Desk::new(team.alloc, team.checked, NO_WORKER);
     let ticket = first_number(team, &mut desk, share);
     drop(desk);
     ticket

@@ -16,7 +16,7 @@ use std::alloc::Global;
 use std::sync::Wait;
 use std::sync::ledger::{Ledger, Share};
 use tso_cert::Watch;
-use tso_store::{Key, View};
+use tso_keys::View;
 use tso_table::{Filed, FinishError, Near, Number, Search, Shard, Table, shard_of};
 
 // Where the desk has the state of a ticket, which it takes in where another's desk has it. `None` where the table has no such
@@ -130,7 +130,6 @@ fn give_back<U: Search, E: Ledger, R: Wait, W: Watch>(
 fn met<U: Search, E: Ledger, R: Wait, W: Watch>(
     team: &Team<'_, '_, U, E, R, W>,
     shard: &mut Shard<'_, U, E>,
-    near: &Key,
     state: &View<'_>,
     share: &mut Share<E>,
 ) -> Result<Option<(Number, bool)>, Ending>
@@ -141,7 +140,7 @@ fn met<U: Search, E: Ledger, R: Wait, W: Watch>(
     ensures uncounted { OnErr result (share.new.amount ≡ share.old.amount) }
     ensures ending { IfErr result (IsEndingOf team.now.checked.now.client) }
 {
-    match shard.meet(near, state, share) {
+    match shard.meet(state, share) {
         Ok(Some(number)) => Ok(Some((number, false))),
         Ok(None) => Ok(None),
         Err(_) => Err(Ending::Memory),
@@ -152,7 +151,6 @@ fn met<U: Search, E: Ledger, R: Wait, W: Watch>(
 fn put_in<U: Search, E: Ledger, R: Wait, W: Watch>(
     team: &Team<'_, '_, U, E, R, W>,
     shard: &mut Shard<'_, U, E>,
-    near: &Key,
     state: &View<'_>,
     actors: &[u8],
     share: &mut Share<E>,
@@ -166,7 +164,7 @@ fn put_in<U: Search, E: Ledger, R: Wait, W: Watch>(
     ensures uncounted { OnErr result (share.new.amount ≡ share.old.amount) }
     ensures ending { IfErr result (IsEndingOf team.now.checked.now.client) }
 {
-    let placed = shard.put(near, state, actors, share);
+    let placed = shard.put(state, actors, share);
     give_back(team, shard);
     match placed {
         Ok(answer) => Ok(answer),
@@ -174,16 +172,13 @@ fn put_in<U: Search, E: Ledger, R: Wait, W: Watch>(
     }
 }
 
-// The number of a state in its shard, and whether it is new; `None` where no unit is left. Only a new one needs the budget, for as
-// long as it takes to take a unit: one that is not fresh is looked up first, and one that is, and is there after all, gives its
-// unit back.
+// The number of a state in its shard, and whether it is new; `None` where no unit is left. It is looked up first, so only a new one
+// needs the budget, for as long as it takes to take a unit.
 fn number_in<U: Search, E: Ledger, R: Wait, W: Watch>(
     team: &Team<'_, '_, U, E, R, W>,
     shard: &mut Shard<'_, U, E>,
-    near: &Key,
     state: &View<'_>,
     actors: &[u8],
-    fresh: bool,
     share: &mut Share<E>,
 ) -> Result<Option<(Number, bool)>, Ending>
     requires part { 0 < share.old.parts }
@@ -197,27 +192,23 @@ fn number_in<U: Search, E: Ledger, R: Wait, W: Watch>(
     ensures number { IfOk result (λ o. IfSome o (λ r. r.0.shard ≡ shard_of state.now)) }
     ensures ending { IfErr result (IsEndingOf team.now.checked.now.client) }
 {
-    if !fresh {
-        if let Some(answer) = met(team, shard, near, state, share)? {
-            return Ok(Some(answer));
-        }
+    if let Some(answer) = met(team, shard, state, share)? {
+        return Ok(Some(answer));
     }
     if !afford(team, shard)? {
-        return met(team, shard, near, state, share);
+        return Ok(None);
     }
-    let answer = put_in(team, shard, near, state, actors, share)?;
+    let answer = put_in(team, shard, state, actors, share)?;
     Ok(Some(answer))
 }
 
-// The number of a state in its shard, and whether it is new, with where the shard has its parts; `None` where no unit is left.
+// The number of a state in its shard, and whether it is new; `None` where no unit is left.
 fn place<U: Search, E: Ledger, R: Wait, W: Watch>(
     team: &Team<'_, '_, U, E, R, W>,
-    near: &Key,
     state: &View<'_>,
     actors: &[u8],
-    fresh: bool,
     share: &mut Share<E>,
-) -> Result<Option<(Number, bool, Key)>, Ending>
+) -> Result<Option<(Number, bool)>, Ending>
     requires part { 0 < share.old.parts }
     requires kept { IsKept team.now.checked.now.client (record { state = state.now; actors = actors.now }) }
     ensures parts { share.new.parts ≡ share.old.parts }
@@ -236,13 +227,9 @@ fn place<U: Search, E: Ledger, R: Wait, W: Watch>(
         return Err(Ending::Astray);
     }
     shard.is_of(team.checked, team.table);
-    match number_in(team, &mut shard, near, state, actors, fresh, share)? {
-        Some((number, new)) => {
-            let there = shard.table().states().key(number.place);
-            Ok(Some((number, new, there)))
-        }
-        None => Ok(None),
-    }
+    let placed = number_in(team, &mut shard, state, actors, share);
+    drop(shard);
+    placed
 }
 
 // That no unit was left for a state.
@@ -257,35 +244,27 @@ fn full_at(alloc: Global, desk: &Desk<'_>, held: u32) -> Ending
     }
 }
 
-/// The number of a state of the desk, and whether it is new, by one entry of its shard's log. One that is fresh is likely new; this
-/// decides only what is looked at first.
+/// The number of a state of the desk, and whether it is new, by one entry of its shard's log.
 pub fn intern<U: Search, E: Ledger, R: Wait, W: Watch>(
     team: &Team<'_, '_, U, E, R, W>,
-    desk: &mut Desk<'_>,
+    desk: &Desk<'_>,
     held: u32,
-    fresh: bool,
     share: &mut Share<E>,
 ) -> Result<(Number, bool), Ending>
     requires part { 0 < share.old.parts }
-    requires client { desk.old.client ≡ team.now.checked.now.client }
-    requires there { held < length desk.old.states }
+    requires client { desk.now.client ≡ team.now.checked.now.client }
+    requires there { held < length desk.now.states }
     ensures parts { share.new.parts ≡ share.old.parts }
-    ensures desk { desk.new ≡ desk.old }
     ensures counted { OnOk result (share.new.amount ≡ share.old.amount + 1) }
     ensures uncounted { OnErr result (share.new.amount ≡ share.old.amount) }
-    ensures number { IfOk result (λ r. IsShardOf desk.old.states held r.0.shard) }
+    ensures number { IfOk result (λ r. IsShardOf desk.now.states held r.0.shard) }
     ensures ending { IfErr result (IsEndingOf team.now.checked.now.client) }
 {
     let Some((state, actors)) = desk.lent(held) else {
         unreachable!()
     };
-    let shard = shard_of(&state);
-    let near = desk.near(shard, held);
-    match place(team, &near, &state, actors, fresh, share)? {
-        Some((number, new, there)) => {
-            desk.learn(shard, held, &there);
-            Ok((number, new))
-        }
+    match place(team, &state, actors, share)? {
+        Some(placed) => Ok(placed),
         None => Err(full_at(team.alloc, desk, held)),
     }
 }

@@ -25,9 +25,9 @@ use std::sync::ledger::{Ledger, Share};
 use tso_cert::Watch;
 use tso_choose::{Choice, Choices, choose};
 use tso_fifo::Order;
+use tso_keys::View;
 use tso_rec::End;
 use tso_state::Actor;
-use tso_store::View;
 use tso_table::{Filed, Number, Numbers, Search};
 
 /// Hands out a ticket. It can't be lost: where the deque refuses it, it is on the own list.
@@ -75,9 +75,9 @@ fn follow<U: Search, E: Ledger, R: Wait, W: Watch>(
     ensures moved { OnOk result (HasMovedAt team.now.checked.now.client own desk.old.states from actor moves.old moves.new) }
     ensures ending { IfErr result (IsEndingOf team.now.checked.now.client) }
 {
-    let (held, fresh) = desk.step(team.alloc, team.checked, from, actor)?;
+    let (held, _) = desk.step(team.alloc, team.checked, from, actor)?;
     let copy = desk.copy_in(team.alloc, held, own)?;
-    let (number, new) = intern(team, desk, held, fresh, share)?;
+    let (number, new) = intern(team, desk, held, share)?;
     moves.add(number, copy)?;
     if new {
         let worker = desk.worker();
@@ -315,7 +315,7 @@ fn work_anew<U: Search, E: Ledger, R: Wait, W: Watch>(
     ensures parts { share.new.parts ≡ share.old.parts }
     ensures ending { IfErr result (IsEndingOf team.now.checked.now.client) }
 {
-    let mut desk = Desk::new(team.alloc, team.checked, number)?;
+    let mut desk = Desk::new(team.alloc, team.checked, number);
     let worked = work_on(team, &mut desk, seat, share);
     drop(desk);
     worked

@@ -15,9 +15,9 @@ use Rattle.tso_search.specs.Marking.{is_marked}
 use Rattle.tso_search.specs.Reached.{AllMet}
 use Rattle.tso_search.specs.Searched.{AreDone}
 use Rattle.tso_state.specs.declared.state.State.{State}
-use Rattle.tso_store.specs.Keys.{state_at, states_at}
-use Rattle.tso_store.specs.declared.key.Key.{Key}
-use Rattle.tso_store.specs.declared.parts.Parts.{Parts}
+use Rattle.tso_keys.specs.Keys.{state_at, states_at}
+use Rattle.tso_keys.specs.declared.key.Key.{Key}
+use Rattle.tso_keys.specs.declared.parts.Parts.{Parts}
 
 -- ---- state by state
 

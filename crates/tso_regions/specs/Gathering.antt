@@ -12,7 +12,7 @@ use Rattle.tso_search.specs.Searched.{AreDone}
 use Rattle.tso_state.specs.Views.{state_of}
 use Rattle.tso_state.specs.declared.state.State.{State}
 use Rattle.tso_store.specs.Gathering.{Gathering, no_state}
-use Rattle.tso_store.specs.declared.key.Key.{Key}
+use Rattle.tso_keys.specs.declared.key.Key.{Key}
 
 -- state number n; one of nothing where there are not so many
 abbrev pub state_at : List State → ℕ → State

@@ -5,14 +5,15 @@ ghost use Rattle.tso_parts.specs.Numbers.{Extends};
 ghost use Rattle.tso_regions.specs.Regions.{AreSound, IsSound};
 ghost use Rattle.tso_prog.specs.declared.client.Client.{Client};
 ghost use Rattle.tso_state.specs.declared.state.State.{State as StateValue};
-ghost use Rattle.tso_store.specs.Keys.{FitsClient};
+ghost use Rattle.tso_keys.specs.Keys.{FitsClient};
 
 use crate::halt::Halt;
 use crate::realm::Realm;
 use std::alloc::Global;
 use std::marker::{Model, PhantomData};
 use tso_flow::Checked;
-use tso_store::{AddError, NO_KEY, Store, View};
+use tso_keys::{NO_KEY, View};
+use tso_store::{AddError, Store};
 
 /// States on their way to their owner. All are met, and the runs to each are good.
 #[derive(Drop)]

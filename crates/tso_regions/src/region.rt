@@ -19,9 +19,10 @@ use std::alloc::{AllocError, Global};
 use std::marker::{Model, PhantomData};
 use tso_flow::Checked;
 use tso_foot::Table;
+use tso_keys::{NO_KEY, View};
 use tso_search::{Judged, Marks};
 use tso_state::{State, Viewed};
-use tso_store::{NO_KEY, Store, View};
+use tso_store::Store;
 
 /// One of so many owners.
 #[derive(Clone, Copy, PartialEq, Eq)]

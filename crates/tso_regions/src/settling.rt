@@ -13,8 +13,8 @@ use crate::region::Region;
 use std::alloc::{AllocError, Global};
 use tso_cert::Task;
 use tso_hist::History;
+use tso_keys::{Key, View};
 use tso_parts::Pool;
-use tso_store::{Key, View};
 
 // How a state of a region stands.
 #[derive(Clone, Copy, PartialEq, Eq)]

@@ -1,8 +1,8 @@
 //! Calls that a comment hides.
 
 use crate::page::Page;
-use crate::source::cut;
 use std::alloc::{AllocError, Global};
+use tso_source::cut;
 use tso_text::lex;
 
 // Whether the word stands somewhere in the bytes.

@@ -2,10 +2,9 @@
 
 use crate::lines::put_shown;
 use crate::page::Page;
-use crate::respelled::respelled;
-use crate::source::{cut, line};
 use std::alloc::{AllocError, Global};
 use tso_prog::{Code, Fault};
+use tso_source::{cut, line, respelled};
 
 /// The text with another line at this number.
 ///

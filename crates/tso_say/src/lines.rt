@@ -1,16 +1,15 @@
 //! Lines of a text behind their numbers, with marks under them.
 
 ghost use Rattle.std.specs.Prelude.{◌≡◌, ◌+◌, ◌-◌, ◌<◌, ◌≤◌, length, min, IfSome, None};
-ghost use Rattle.tso_say.specs.Places.{IsPlaceIn};
+ghost use Rattle.tso_source.specs.Places.{IsPlaceIn};
 
 use crate::page::Page;
-use crate::place::{Place, place_of_fault, place_of_location};
 use crate::said::meaning;
-use crate::source::{line, shown, under};
 use crate::topic::find;
 use std::alloc::{AllocError, Global};
 use tso_flow::Location;
 use tso_prog::Fault;
+use tso_source::{Place, line, place_of_fault, place_of_location, shown, under};
 
 // Of a line no more bytes are shown than these.
 const WIDTH: usize = 200;

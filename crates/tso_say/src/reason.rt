@@ -4,12 +4,11 @@ ghost use Rattle.std.specs.Prelude.{IfOk, IsTrue};
 ghost use Rattle.std.specs.List.{list_all};
 ghost use Rattle.tso_line.specs.Words.{has_name};
 
-use crate::hints::{is_step, name_of, of_name, of_shape, of_word};
 use crate::page::Page;
-use crate::source::{cut, line, tokens_of};
 use std::alloc::{AllocError, Global};
 use tso_line::{Kind, Lexeme, Line, Slip, lexeme_of, line_of};
 use tso_prog::{Code, Fault};
+use tso_source::{cut, is_step, line, name_of, of_name, of_shape, of_word, tokens_of};
 use tso_text::{Token, lex};
 
 fn lexemes_of(alloc: Global, source: &[u8], tokens: &[Token]) -> Result<Vec<Lexeme>, AllocError>

@@ -10,8 +10,8 @@ use Rattle.tso_code.specs.States.{call_at}
 use Rattle.tso_scan.specs.Scrolls.{IsListReadAs}
 use Rattle.tso_scan.specs.Sources.{AreRows, IsHistoryFound, IsHistoryReadAs, IsRowOf}
 use Rattle.tso_scan.specs.declared.rows.Row.{Row}
-use Rattle.tso_store.proofs.Rows.{more_numbers, values_is}
-use Rattle.tso_store.specs.Numbers.{AreNumbersOf, before, values_at}
+use Rattle.tso_keys.proofs.Rows.{more_numbers, values_is}
+use Rattle.tso_keys.specs.Numbers.{AreNumbersOf, before, values_at}
 
 abbrev Lists : Type 0
 Lists = List (List Call)

@@ -13,7 +13,7 @@ use Rattle.tso_parts.specs.Numbers.{IsNumbered}
 use Rattle.tso_scan.specs.Neighbours.{AreHalved, RisesBetween, Stairs}
 use Rattle.tso_state.specs.Order.{state_cmp}
 use Rattle.tso_state.specs.declared.state.State.{State}
-use Rattle.tso_store.specs.Orders.{IsOrderOf}
+use Rattle.tso_keys.specs.Orders.{IsOrderOf}
 
 -- the order of two states is the one that was found
 pub is_less_at : (states : List State) (n m : ℕ) (o : Ordering) (r : Bool) → IsOrderOf states n m o → (IsTrue r ↔ (o ≡ Less)) → IsTrue r ↔ IsOrderOf states n m Less

@@ -7,8 +7,8 @@ use Rattle.tso_code.specs.Numbers.{Reading, number_at, ◌>>=◌}
 use Rattle.tso_parts.specs.Numbers.{Extends}
 use Rattle.tso_scan.specs.Scrolls.{AreReadAs, IsListReadAs, IsReadAs}
 use Rattle.tso_scan.specs.declared.rows.Row.{Row}
-use Rattle.tso_store.proofs.Rows.{more_numbers, row_more}
-use Rattle.tso_store.specs.Numbers.{AreNumbersOf}
+use Rattle.tso_keys.proofs.Rows.{more_numbers, row_more}
+use Rattle.tso_keys.specs.Numbers.{AreNumbersOf}
 
 -- so many parts were read
 pub record IsReadTo {X : Type 0} (r : Reading X) (old new : List X) (many done : ℕ) (ns bytes rest : List ℕ) : Type 0 where

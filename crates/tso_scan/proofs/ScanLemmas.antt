@@ -22,10 +22,11 @@ use Rattle.tso_scan.specs.declared.states.Scan.{Scan}
 use Rattle.tso_state.specs.WellFormed.{thread_total}
 use Rattle.tso_state.specs.declared.state.State.{State}
 use Rattle.tso_state.specs.declared.state.Thread.{Thread}
-use Rattle.tso_store.proofs.Sheeted.{added, added_kept}
-use Rattle.tso_store.specs.Keys.{Grows}
-use Rattle.tso_store.specs.declared.key.Key.{Key}
-use Rattle.tso_store.specs.declared.parts.Parts.{Parts}
+use Rattle.tso_keys.proofs.StateLemmas.{added_kept}
+use Rattle.tso_store.proofs.Sheeted.{added}
+use Rattle.tso_keys.specs.Keys.{Grows}
+use Rattle.tso_keys.specs.declared.key.Key.{Key}
+use Rattle.tso_keys.specs.declared.parts.Parts.{Parts}
 
 pub grows_none : (p : Parts) → Grows p p
 grows_none p = record { memories = λ i x e. e; histories = λ i x e. e; threads = λ i x e. e; small = λ e. e }

@@ -23,9 +23,9 @@ use Rattle.tso_scan.specs.declared.shape.Shape.TheViews.{Fork}
 use Rattle.tso_scan.specs.declared.sources.Sources.{Sources}
 use Rattle.tso_scan.specs.declared.states.Scan.{Scan}
 use Rattle.tso_state.specs.declared.state.State.{State}
-use Rattle.tso_store.proofs.Sheeted.{key_more, key_state, kept_stay, state_got, states_stay}
-use Rattle.tso_store.specs.Keys.{IsKeyOf, state_at}
-use Rattle.tso_store.specs.declared.key.Key.{Key}
+use Rattle.tso_keys.proofs.StateLemmas.{key_more, key_state, kept_stay, state_got, states_stay}
+use Rattle.tso_keys.specs.Keys.{IsKeyOf, state_at}
+use Rattle.tso_keys.specs.declared.key.Key.{Key}
 
 pub leaf_scanned : (c : Client) (old new : Scan) (room found : ℕ) (bytes rest after : List ℕ) → number_at bytes ≡ Some (found, rest) → found ≤ min 64 room → AreRecordsScanned c old new found rest after → IsBranchScanned c old new (leaf_at room bytes) (Leaf found) (room - found) after
 unfolding leaf_at

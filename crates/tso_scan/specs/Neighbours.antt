@@ -2,7 +2,7 @@
 use Rattle.std.specs.Prelude.{◌≡◌, ◌-◌, ◌<◌, ◌≤◌, ℕ, List}
 use Rattle.std.specs.declared.cmp.Ordering.TheVariants.{Less}
 use Rattle.tso_state.specs.declared.state.State.{State}
-use Rattle.tso_store.specs.Orders.{IsOrderOf}
+use Rattle.tso_keys.specs.Orders.{IsOrderOf}
 
 -- each state with a number from one up to another is above the one before
 abbrev pub RisesBetween : List State → ℕ → ℕ → Type 0

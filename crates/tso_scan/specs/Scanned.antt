@@ -17,7 +17,7 @@ use Rattle.tso_scan.specs.declared.scanned.Scanned.{Scanned}
 use Rattle.tso_scan.specs.declared.shape.Shape.{Shape, Leaf, Fork'}
 use Rattle.tso_scan.specs.declared.states.Scan.{Scan}
 use Rattle.tso_state.specs.declared.state.State.{State}
-use Rattle.tso_store.specs.Keys.{AreKept, Grows, states_at}
+use Rattle.tso_keys.specs.Keys.{AreKept, Grows, states_at}
 
 abbrev pub scanned_states : Scan → List State
 scanned_states s = states_at (parts_of s.sources) s.keys

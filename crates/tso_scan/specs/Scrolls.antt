@@ -3,7 +3,7 @@ use Rattle.std.specs.Prelude.{◌≡◌, ℕ, List, [], length, Some, slice_get}
 use Rattle.tso_code.specs.Fields.{items_at, list_at}
 use Rattle.tso_code.specs.Numbers.{Reading}
 use Rattle.tso_scan.specs.declared.rows.Row.{Row}
-use Rattle.tso_store.specs.Numbers.{AreNumbersOf}
+use Rattle.tso_keys.specs.Numbers.{AreNumbersOf}
 
 -- the part with this number is what stands at the front of the bytes, before the rest
 pub record IsReadAs {X : Type 0} (read : Reading X) (parts : List X) (n : ℕ) (bytes rest : List ℕ) : Type 0 where

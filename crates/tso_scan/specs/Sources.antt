@@ -8,10 +8,10 @@ use Rattle.tso_prog.specs.declared.client.Client.{Client}
 use Rattle.tso_scan.specs.declared.rows.Row.{Row}
 use Rattle.tso_scan.specs.declared.sources.Sources.{Sources}
 use Rattle.tso_state.specs.declared.state.State.{State}
-use Rattle.tso_store.specs.Keys.{FitsClient, Grows, IsKeyOf}
-use Rattle.tso_store.specs.Numbers.{AreNumbersOf}
-use Rattle.tso_store.specs.declared.key.Key.{Key}
-use Rattle.tso_store.specs.declared.parts.Parts.{Parts}
+use Rattle.tso_keys.specs.Keys.{FitsClient, Grows, IsKeyOf}
+use Rattle.tso_keys.specs.Numbers.{AreNumbersOf}
+use Rattle.tso_keys.specs.declared.key.Key.{Key}
+use Rattle.tso_keys.specs.declared.parts.Parts.{Parts}
 
 -- the history with this number is that of the lists with these numbers
 pub record IsRowOf (lists : List (List Call)) (histories : List (List (List Call))) (n : ℕ) (ns : List ℕ) : Type 0 where

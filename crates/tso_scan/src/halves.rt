@@ -4,7 +4,7 @@ ghost use Rattle.tso_code.specs.States.{state_at};
 ghost use Rattle.tso_scan.specs.Halves.{AreGrafted, AreHalvesOf, AreTakenIn, IsEnd, IsForkOf, IsForkShape, IsHalfOf, IsRoom, IsSeam, IsTreeRead, IsTwig, stretch_of};
 ghost use Rattle.tso_scan.specs.Scanned.{IsScan};
 ghost use Rattle.tso_scan.specs.Sources.{parts_of};
-ghost use Rattle.tso_store.specs.Keys.{AreKept};
+ghost use Rattle.tso_keys.specs.Keys.{AreKept};
 
 use crate::seams::right_half;
 use crate::shape::Shape;

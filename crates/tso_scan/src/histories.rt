@@ -2,7 +2,7 @@
 ghost use Rattle.std.specs.Prelude.{◌≡◌, ◌≤◌, IfOk, IfSome, List};
 ghost use Rattle.tso_hist.specs.declared.call.Call.{Call as CallValue};
 ghost use Rattle.tso_scan.specs.Sources.{AreRows, IsHistoryFound, IsHistoryReadAs};
-ghost use Rattle.tso_store.specs.Numbers.{AreNumbersOf, values_at};
+ghost use Rattle.tso_keys.specs.Numbers.{AreNumbersOf, values_at};
 
 use crate::rows::{Row, read_row};
 use crate::scroll::Scroll;

@@ -4,7 +4,7 @@ ghost use Rattle.std.specs.Prelude.{◌≡◌, ◌↔◌, ◌-◌, IfOk, IsTrue}
 ghost use Rattle.std.specs.declared.cmp.Ordering.TheVariants.{Less};
 ghost use Rattle.tso_state.specs.Rising.{IsRising};
 ghost use Rattle.tso_scan.specs.Neighbours.{RisesBetween};
-ghost use Rattle.tso_store.specs.Orders.{IsOrderOf};
+ghost use Rattle.tso_keys.specs.Orders.{IsOrderOf};
 
 use std::alloc::AllocError;
 use std::thread::Threads;

@@ -7,10 +7,10 @@ use crate::scroll::Scroll;
 use std::alloc::Global;
 use std::hash::Hash;
 use tso_code::read_number;
+use tso_keys::NONE;
 use tso_list::Exact;
 use tso_parts::Refused;
 use tso_rec::Readable;
-use tso_store::NONE;
 
 /// The numbers of parts, and that of nothing after them.
 #[derive(Clone, Copy, PartialEq, Eq, Hash)]

@@ -8,12 +8,12 @@ use crate::rows::{Row, read_row};
 use crate::scroll::Scroll;
 use std::alloc::Global;
 use tso_hist::{Call, History};
+use tso_keys::{Key, Parts};
 use tso_list::Seq;
 use tso_machine::thread_count;
 use tso_parts::{Catalog, Pool, Refused};
 use tso_prog::Client;
 use tso_state::Thread;
-use tso_store::{Key, Parts};
 
 /// The parts of states, each once, and for each history the numbers of its lists.
 #[derive(Drop)]

@@ -5,11 +5,11 @@ ghost use Rattle.tso_scan.specs.Scanned.{AreRecordsScanned, IsEndScanned, IsReco
 use crate::sources::{Sources, read_key};
 use std::alloc::Global;
 use tso_code::ReadError;
+use tso_keys::Key;
 use tso_list::Seq;
 use tso_parts::Refused;
 use tso_prog::Client;
 use tso_rec::{End, Reader, Shared};
-use tso_store::Key;
 
 /// By which states and their parts are hashed.
 pub const SEED: u64 = 1;

@@ -9,10 +9,10 @@ use crate::states::{Scan, read_records};
 use std::alloc::Global;
 use std::boxed::Box;
 use tso_code::read_number;
+use tso_keys::Key;
 use tso_list::Seq;
 use tso_parts::Refused;
 use tso_prog::Client;
-use tso_store::Key;
 
 // The most records of a leaf.
 const RECORDS_IN_A_LEAF: u32 = 64;

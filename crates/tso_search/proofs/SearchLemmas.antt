@@ -44,7 +44,7 @@ use Rattle.tso_state.specs.WellFormed.{IsWellFormed, thread_total}
 use Rattle.tso_state.specs.declared.actor.Actor.{Actor}
 use Rattle.tso_state.specs.declared.state.State.{State}
 use Rattle.tso_store.specs.Sheets.{CanStep, IsKeptSuccessor, IsSuccessor, IsSuccessorOrNone, Sheet}
-use Rattle.tso_store.specs.Unions.{IsWithinUnion}
+use Rattle.tso_keys.specs.Unions.{IsWithinUnion}
 
 -- ---- results
 

@@ -1,4 +1,3 @@
-pub mod EscapeLemmas
 pub mod Joins
 pub mod Readings
 pub mod Runs

@@ -1,8 +1,5 @@
 pub mod Buffers
-pub mod Calls
-pub mod Data
 pub mod Drains
-pub mod Escapes
 pub mod Lines
 pub mod Moments
 pub mod Registers
@@ -11,4 +8,3 @@ pub mod Sites
 pub mod States
 pub mod Unordered
 pub mod Walks
-pub mod Whys

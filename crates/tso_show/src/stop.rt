@@ -3,13 +3,13 @@
 ghost use Rattle.std.specs.Prelude.{◌≡◌, ◌<◌, length, IfSome};
 ghost use Rattle.tso_machine.specs.Places.{index_register};
 
-use crate::print::Asked;
 use crate::site::taker;
 use crate::walk::Walk;
 use std::fmt;
 use tso_line::{CallKind, condition_word};
 use tso_machine::{Core, Frame, Label, LabelKind, Machine, procedure_of};
 use tso_prog::{Address, Client, Instruction, Register, Step};
+use tso_why::Asked;
 use tso_word::Condition;
 
 /// Which word of an array an instruction asks for: a whole number, that of a register and a displacement.

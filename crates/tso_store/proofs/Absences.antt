@@ -17,11 +17,11 @@ use Rattle.tso_state.specs.declared.actor.Actor.{Actor}
 use Rattle.tso_state.specs.declared.actor.Actor.TheVariants.{Drain, Exec}
 use Rattle.tso_state.specs.declared.state.State.{State}
 use Rattle.tso_state.specs.declared.state.Thread.{Thread}
-use Rattle.tso_store.specs.declared.key.Key.{Key}
-use Rattle.tso_store.specs.declared.parts.Parts.{Parts}
+use Rattle.tso_keys.specs.declared.key.Key.{Key}
+use Rattle.tso_keys.specs.declared.parts.Parts.{Parts}
 use Rattle.tso_store.specs.declared.sought.Sought.{Sought}
 use Rattle.tso_store.specs.declared.sought.Sought.TheVariants.{Disabled, Absent, At}
-use Rattle.tso_store.specs.Keys.{AreKept, IsKeyOf, IsKept, state_at, states_at}
+use Rattle.tso_keys.specs.Keys.{AreKept, IsKeyOf, IsKept, state_at, states_at}
 use Rattle.tso_store.specs.Seeking.{HasNoKeyAfter, IsSoughtFrom, IsStepSought, IsThreadSought}
 use Rattle.tso_store.specs.Sheets.{IsSuccessorNowhere}
 use Rattle.tso_store.specs.Stepping.{IsPlanned, IsStepOf}
@@ -29,8 +29,9 @@ use Rattle.tso_compact.specs.declared.motion.Motion.TheVariants as the
 use Rattle.tso_machine.specs.declared.buffer.Entry.{Entry}
 use Rattle.tso_store.specs.Remembered.{IsDrained}
 use Rattle.tso_store.proofs.Performed.{after_view, left_drained}
-use Rattle.tso_store.proofs.Rows.{row_has}
-use Rattle.tso_store.proofs.Sheeted.{can_step, cannot, same_key, state_got, there_key}
+use Rattle.tso_keys.proofs.Rows.{row_has}
+use Rattle.tso_keys.proofs.StateLemmas.{same_key, state_got, there_key}
+use Rattle.tso_store.proofs.Sheeted.{can_step, cannot}
 use Rattle.tso_store.proofs.Views.{same_history, same_state}
 
 -- ---- steps have one state each

@@ -22,16 +22,16 @@ use Rattle.tso_state.specs.declared.state.Core.{Core}
 use Rattle.tso_state.specs.declared.state.Core.TheVariants.{Idle, Running, Stopped}
 use Rattle.tso_state.specs.declared.state.State.{State}
 use Rattle.tso_state.specs.declared.state.Thread.{Thread}
-use Rattle.tso_store.specs.declared.key.Key.{Key}
+use Rattle.tso_keys.specs.declared.key.Key.{Key}
 use Rattle.tso_store.specs.declared.lone.Lone.{Lone}
-use Rattle.tso_store.specs.declared.parts.Parts.{Parts}
-use Rattle.tso_store.specs.Keys.{IsKept, state_at, states_at}
+use Rattle.tso_keys.specs.declared.parts.Parts.{Parts}
+use Rattle.tso_keys.specs.Keys.{IsKept, state_at, states_at}
 use Rattle.tso_store.specs.Lone.{HasNoLoneAt, HasNoLoneBelow, HasNoLoneCore, IsFirstLoneCore, IsLoneAt, is_running, is_running_if, lone_core, lone_of}
-use Rattle.tso_store.specs.Numbers.{AreNumbersOf}
+use Rattle.tso_keys.specs.Numbers.{AreNumbersOf}
 use Rattle.tso_store.specs.Remembered.{HasNext, IsNextMotion, IsRun}
 use Rattle.tso_store.proofs.Performed.{next_move}
-use Rattle.tso_store.proofs.Rows.{none_at, number_at}
-use Rattle.tso_store.proofs.Sheeted.{state_got, state_none}
+use Rattle.tso_keys.proofs.Rows.{none_at, number_at}
+use Rattle.tso_keys.proofs.StateLemmas.{state_got, state_none}
 
 -- ---- a core that runs no call
 

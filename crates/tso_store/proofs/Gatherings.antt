@@ -8,14 +8,14 @@ use Rattle.tso_parts.proofs.Marked.{item_at}
 use Rattle.tso_prog.specs.declared.client.Client.{Client}
 use Rattle.tso_state.specs.declared.state.State.{State}
 use Rattle.tso_store.specs.Gathering.{AreGathered, AreThere, moved_from, no_state, picked}
-use Rattle.tso_store.specs.Keys.{AreKept, Grows, IsKept, IsKeyOf, state_at, states_at}
-use Rattle.tso_store.specs.Moving.{ArePartNumbersIn, moved_key}
-use Rattle.tso_store.specs.declared.key.Key.{Key}
-use Rattle.tso_store.specs.declared.key.TheConstants.{NO_KEY}
-use Rattle.tso_store.specs.declared.moved.PartNumbers.{PartNumbers}
-use Rattle.tso_store.specs.declared.parts.Parts.{Parts}
-use Rattle.tso_store.proofs.Moves.{IsMove, key_moved}
-use Rattle.tso_store.proofs.Sheeted.{found_state, kept_at, kept_of, kept_stay, key_state, same_key, state_got, state_none, states_stay, there_key}
+use Rattle.tso_keys.specs.Keys.{AreKept, Grows, IsKept, IsKeyOf, state_at, states_at}
+use Rattle.tso_keys.specs.Moving.{ArePartNumbersIn, moved_key}
+use Rattle.tso_keys.specs.declared.key.Key.{Key}
+use Rattle.tso_keys.specs.declared.key.TheConstants.{NO_KEY}
+use Rattle.tso_keys.specs.declared.moved.PartNumbers.{PartNumbers}
+use Rattle.tso_keys.specs.declared.parts.Parts.{Parts}
+use Rattle.tso_keys.proofs.Moves.{IsMove, key_moved}
+use Rattle.tso_keys.proofs.StateLemmas.{found_state, kept_at, kept_of, kept_stay, key_state, same_key, state_got, state_none, states_stay, there_key}
 
 -- one key for one state
 pub keys_differ : (p : Parts) (ks : List Key) → IsNumbered (states_at p ks) → IsNumbered ks

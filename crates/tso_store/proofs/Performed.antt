@@ -28,12 +28,12 @@ use Rattle.tso_state.specs.declared.actor.Actor.TheVariants.{Drain, Exec}
 use Rattle.tso_state.specs.declared.state.Core.TheVariants.{Idle}
 use Rattle.tso_state.specs.declared.state.State.{State}
 use Rattle.tso_state.specs.declared.state.Thread.{Thread}
-use Rattle.tso_store.specs.declared.key.Key.{Key}
-use Rattle.tso_store.specs.declared.parts.Parts.{Parts}
-use Rattle.tso_store.specs.Keys.{Grows, IsKeyOf, IsKept, state_at}
+use Rattle.tso_keys.specs.declared.key.Key.{Key}
+use Rattle.tso_keys.specs.declared.parts.Parts.{Parts}
+use Rattle.tso_keys.specs.Keys.{Grows, IsKeyOf, IsKept, state_at}
 use Rattle.tso_store.specs.Remembered.{FitsAt, HasNext, IsDrained, IsLeft, IsNextMotion, IsRun, CanRun}
 use Rattle.tso_store.specs.Stepping.{IsLogged, IsPlanned, IsStepOf, with_thread}
-use Rattle.tso_store.proofs.Rows.{more_numbers, number_at, none_at, row_set}
+use Rattle.tso_keys.proofs.Rows.{more_numbers, number_at, none_at, row_set}
 
 -- ---- moves and steps
 

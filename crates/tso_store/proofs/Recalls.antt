@@ -12,7 +12,7 @@ use Rattle.tso_state.specs.declared.state.Thread.{Thread}
 use Rattle.tso_store.specs.declared.known.Known.{Known}
 use Rattle.tso_store.specs.declared.known.Run.{Run}
 use Rattle.tso_store.specs.declared.known.Run.TheVariants as runs
-use Rattle.tso_store.proofs.Lists.{at_end}
+use Rattle.tso_keys.proofs.Lists.{at_end}
 use Rattle.tso_store.specs.Remembered.{AreKnown, FitsAt, HasNext, IsKnown, IsNextMotion, IsOwn, IsOwnMotion, IsRun, IsRunKnown, IsDrained, IsLeft, with_run}
 
 nothing_known : (c : Client) (ts : List Thread) (n : ℕ) → IsKnown c ts n (record { push = runs.Unknown; pop = runs.Unknown; drained = None })

@@ -2,12 +2,12 @@
 use Rattle.std.specs.Prelude.{◌≡◌, ◌<◌, ◌^◌, ℕ, List, [], map, length, Some, slice_get, slice_index_or}
 use Rattle.tso_prog.specs.declared.client.Client.{Client}
 use Rattle.tso_state.specs.declared.state.State.{State}
-use Rattle.tso_store.specs.Keys.{AreKept}
-use Rattle.tso_store.specs.Moving.{moved_key}
-use Rattle.tso_store.specs.declared.key.Key.{Key}
-use Rattle.tso_store.specs.declared.key.TheConstants.{NO_KEY}
-use Rattle.tso_store.specs.declared.moved.PartNumbers.{PartNumbers}
-use Rattle.tso_store.specs.declared.parts.Parts.{Parts}
+use Rattle.tso_keys.specs.Keys.{AreKept}
+use Rattle.tso_keys.specs.Moving.{moved_key}
+use Rattle.tso_keys.specs.declared.key.Key.{Key}
+use Rattle.tso_keys.specs.declared.key.TheConstants.{NO_KEY}
+use Rattle.tso_keys.specs.declared.moved.PartNumbers.{PartNumbers}
+use Rattle.tso_keys.specs.declared.parts.Parts.{Parts}
 
 -- what contracts see of states that are gathered
 pub record Gathering : Type 0 where

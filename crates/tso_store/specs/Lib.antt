@@ -1,16 +1,7 @@
-pub mod Numbers
-pub mod Keys
 pub mod Remembered
-pub mod Running
-pub mod Forms
 pub mod Sheets
 pub mod Stepping
 pub mod Seeking
-pub mod Orders
-pub mod Listing
 pub mod Likes
 pub mod Lone
-pub mod Marks
-pub mod Unions
-pub mod Moving
 pub mod Gathering

@@ -11,11 +11,11 @@ use Rattle.tso_prog.specs.declared.client.Client.{Client}
 use Rattle.tso_state.specs.declared.actor.Actor.{Actor}
 use Rattle.tso_state.specs.declared.state.State.{State}
 use Rattle.tso_state.specs.declared.state.Thread.{Thread}
-use Rattle.tso_store.specs.Keys.{IsKeyOf, state_at, states_at}
+use Rattle.tso_keys.specs.Keys.{IsKeyOf, state_at, states_at}
 use Rattle.tso_store.specs.Sheets.{CanStep, IsSuccessorNowhere}
 use Rattle.tso_store.specs.Stepping.{IsStepOf}
-use Rattle.tso_store.specs.declared.key.Key.{Key}
-use Rattle.tso_store.specs.declared.parts.Parts.{Parts}
+use Rattle.tso_keys.specs.declared.key.Key.{Key}
+use Rattle.tso_keys.specs.declared.parts.Parts.{Parts}
 use Rattle.tso_store.specs.declared.sought.Sought.{Sought}
 use Rattle.tso_store.specs.declared.sought.Sought.TheVariants.{Disabled, Absent, At}
 

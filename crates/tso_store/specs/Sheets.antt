@@ -7,15 +7,15 @@ use Rattle.tso_parts.specs.declared.refused.Refused.TheVariants as reasons
 use Rattle.tso_prog.specs.declared.client.Client.{Client}
 use Rattle.tso_state.specs.declared.actor.Actor.{Actor}
 use Rattle.tso_state.specs.declared.state.State.{State}
-use Rattle.tso_store.specs.Keys.{AreKept}
+use Rattle.tso_keys.specs.Keys.{AreKept}
 use Rattle.tso_store.specs.Remembered.{AreKnown}
-use Rattle.tso_store.specs.Running.{AreRunning}
+use Rattle.tso_keys.specs.Running.{AreRunning}
 use Rattle.tso_store.specs.declared.fault.AddError.{AddError}
 use Rattle.tso_store.specs.declared.fault.AddError.TheVariants as errors
-use Rattle.tso_store.specs.declared.key.Key.{Key}
+use Rattle.tso_keys.specs.declared.key.Key.{Key}
 use Rattle.tso_store.specs.declared.known.Known.{Known}
-use Rattle.tso_store.specs.declared.parts.Parts.{Parts}
-use Rattle.tso_store.specs.declared.running.Running.{Running}
+use Rattle.tso_keys.specs.declared.parts.Parts.{Parts}
+use Rattle.tso_keys.specs.declared.running.Running.{Running}
 use Rattle.tso_store.specs.declared.sought.Found.{Found}
 use Rattle.tso_store.specs.declared.sought.Found.TheVariants.{Disabled, Absent, At}
 

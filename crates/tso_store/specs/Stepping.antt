@@ -15,9 +15,9 @@ use Rattle.tso_state.specs.Views.{state_of}
 use Rattle.tso_state.specs.declared.actor.Actor.{Actor}
 use Rattle.tso_state.specs.declared.state.State.{State}
 use Rattle.tso_state.specs.declared.state.Thread.{Thread}
-use Rattle.tso_store.specs.Keys.{FitsClient, IsKeyOf, state_at}
-use Rattle.tso_store.specs.declared.key.Key.{Key}
-use Rattle.tso_store.specs.declared.parts.Parts.{Parts}
+use Rattle.tso_keys.specs.Keys.{FitsClient, IsKeyOf, state_at}
+use Rattle.tso_keys.specs.declared.key.Key.{Key}
+use Rattle.tso_keys.specs.declared.parts.Parts.{Parts}
 
 -- the actor's next step in the state is this one
 pub record IsPlanned (c : Client) (s : State) (a : Actor) (m : Motion) : Type 0 where

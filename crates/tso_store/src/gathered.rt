@@ -3,21 +3,19 @@ ghost use Rattle.std.specs.Prelude.{◌≡◌, ◌↔◌, ◌+◌, ◌++◌, ◌
 ghost use Rattle.tso_parts.specs.Numbers.{IsNumbered};
 ghost use Rattle.tso_parts.specs.declared.refused.Refused.TheVariants as reasons;
 ghost use Rattle.tso_store.specs.Gathering.{AreThere, moved_from, picked};
-ghost use Rattle.tso_store.specs.Keys.{AreKept, part_count, states_at};
-ghost use Rattle.tso_store.specs.Moving.{moved_key};
-ghost use Rattle.tso_store.specs.Orders.{IsCompared};
+ghost use Rattle.tso_keys.specs.Keys.{AreKept, part_count, states_at};
+ghost use Rattle.tso_keys.specs.Moving.{moved_key};
+ghost use Rattle.tso_keys.specs.Orders.{IsCompared};
 
-use crate::kept::{find_key, fits_client};
-use crate::key::Key;
-use crate::moved::{PartNumbers, moved_key, take_parts};
 use crate::numbered::Store;
-use crate::orders::compare_keys;
-use crate::parts::Parts;
-use crate::ranking::key_or_none;
 use std::alloc::{AllocError, Global};
 use std::cmp::Ordering;
 use std::marker::Model;
 use tso_flow::Checked;
+use tso_keys::{
+    Key, PartNumbers, Parts, compare_keys, find_key, fits_client, key_or_none, moved_key,
+    take_parts,
+};
 use tso_list::{Exact, Seq};
 use tso_parts::{Pool, Refused};
 use tso_state::State;
@@ -32,7 +30,7 @@ pub struct Gathered<'a> {
 
 impl<'a> Model for Gathered<'a> {
     ghost use Rattle.tso_store.specs.Gathering.{AreGathered, Gathering};
-    ghost use Rattle.tso_store.specs.Keys.{part_count, states_at};
+    ghost use Rattle.tso_keys.specs.Keys.{part_count, states_at};
 
     ghost Value = { Gathering };
 

@@ -8,11 +8,11 @@ ghost use Rattle.tso_parts.specs.declared.refused.Refused.TheVariants as reasons
 ghost use Rattle.tso_state.specs.declared.state.Thread.{Thread as ThreadValue};
 ghost use Rattle.tso_store.specs.Remembered.{AreKnown, CanRun, FitsAt, HasNext, IsRun, IsRunKnown, IsDrained, IsNextMotion, IsOwn, IsLeft, with_run};
 
-use crate::key::NONE;
 use crate::lookup::find_thread;
 use std::alloc::{AllocError, Global};
 use tso_compact::{Motion, core_motion, thread_after};
 use tso_flow::ProcedureKind;
+use tso_keys::NONE;
 use tso_list::Seq;
 use tso_machine::Entry;
 use tso_parts::{Catalog, Refused};

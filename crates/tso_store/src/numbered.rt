@@ -3,35 +3,27 @@ ghost use Rattle.std.specs.Prelude.{◌≡◌, ◌↔◌, ◌+◌, ◌<◌, ◌�
 ghost use Rattle.tso_parts.specs.Numbers.{IsNumbered, IsNowhere};
 ghost use Rattle.tso_parts.specs.declared.refused.Refused.TheVariants as reasons;
 ghost use Rattle.tso_state.specs.Rising.{IsRising};
-ghost use Rattle.tso_store.specs.Forms.{AreForms};
-ghost use Rattle.tso_store.specs.Keys.{AreKept, FitsClient, part_count, states_at};
+ghost use Rattle.tso_keys.specs.Forms.{AreForms};
+ghost use Rattle.tso_keys.specs.Keys.{AreKept, FitsClient, part_count, states_at};
 ghost use Rattle.tso_store.specs.Lone.{HasNoLoneAt, IsLoneAt};
-ghost use Rattle.tso_store.specs.Orders.{AreRowsOf};
+ghost use Rattle.tso_keys.specs.Orders.{AreRowsOf};
 ghost use Rattle.tso_store.specs.Sheets.{CanStep, IsAdded, IsFound, IsSuccessorOrNone};
-ghost use Rattle.tso_store.specs.Unions.{IsUnion, IsWithinUnion};
+ghost use Rattle.tso_keys.specs.Unions.{IsUnion, IsWithinUnion};
 ghost use Rattle.tso_store.specs.declared.fault.AddError.TheVariants as errors;
 
 use crate::fault::AddError;
-use crate::forms::{Forms, forms_of};
-use crate::halving::number_risen;
-use crate::kept::{find_key, fits_client, key_of};
-use crate::key::Key;
 use crate::known::{Known, learn_runs};
-use crate::listing::history_ranks;
 use crate::lone::{Lone, lone_at};
-use crate::moved::{add_keys, add_parts};
-use crate::parts::Parts;
-use crate::ranking::{key_at, key_or_none};
-use crate::ranks::ranks_of;
-use crate::running::{Running, learn_running};
 use crate::sought::{Found, Sought, find_from};
-use crate::standings::Standings;
 use crate::stepped::step_key;
-use crate::view::{View, copy_of};
-use crate::viewed_key::{find_view_key, key_of_view, view_fits_client};
 use std::alloc::{AllocError, Global};
 use std::marker::Model;
 use tso_flow::Checked;
+use tso_keys::{
+    Forms, Key, Parts, Running, Standings, View, add_keys, add_parts, copy_of, find_key,
+    find_view_key, fits_client, forms_of, key_at, key_of, key_of_view, key_or_none, learn_running,
+    number_risen, standings_of, view_fits_client,
+};
 use tso_list::Seq;
 use tso_parts::{Pool, Refused};
 use tso_state::{Actor, State};
@@ -49,7 +41,7 @@ pub struct Store<'a> {
 impl<'a> Model for Store<'a> {
     ghost use Rattle.tso_store.specs.Sheets.{Sheet, IsSheet};
     ghost use Rattle.std.specs.Prelude.{◌+◌, length};
-    ghost use Rattle.tso_store.specs.Keys.{part_count, states_at};
+    ghost use Rattle.tso_keys.specs.Keys.{part_count, states_at};
 
     ghost Value = { Sheet };
 
@@ -357,15 +349,7 @@ impl<'a> Store<'a> {
     pub fn standings(&self, alloc: Global) -> Result<Standings<'_>, AllocError>
         ensures { IfOk result (AreRowsOf self.now.states) }
     {
-        let memories = ranks_of(alloc, &self.parts.memories)?;
-        let threads = ranks_of(alloc, &self.parts.threads)?;
-        let histories = history_ranks(alloc, &self.parts.histories)?;
-        Ok(Standings {
-            keys: &self.keys,
-            memories,
-            threads,
-            histories,
-        })
+        standings_of(alloc, &self.parts, &self.keys)
     }
 
     /// For each state whether its history fits the client, which is asked once for each history.
@@ -374,11 +358,7 @@ impl<'a> Store<'a> {
     pub fn forms(&self, alloc: Global) -> Result<Forms<'_>, AllocError>
         ensures { IfOk result (AreForms self.now.client self.now.states) }
     {
-        let histories = forms_of(alloc, self.checked, &self.parts.histories)?;
-        Ok(Forms {
-            keys: &self.keys,
-            histories,
-        })
+        forms_of(alloc, self.checked, &self.parts, &self.keys)
     }
 
     /// The parts of the states, and for each state, in their order, the numbers of its parts.

@@ -2,20 +2,17 @@
 ghost use Rattle.std.specs.Prelude.{◌≡◌, ◌<◌, ◌^◌, length, Some, IfSome, slice_get};
 ghost use Rattle.tso_state.specs.Actors.{thread_of};
 ghost use Rattle.tso_state.specs.declared.actor.Actor.TheVariants as actors;
-ghost use Rattle.tso_store.specs.Keys.{AreKept, IsKept, state_at};
-ghost use Rattle.tso_store.specs.Running.{AreRunning};
+ghost use Rattle.tso_keys.specs.Keys.{AreKept, IsKept, state_at};
+ghost use Rattle.tso_keys.specs.Running.{AreRunning};
 ghost use Rattle.tso_store.specs.Remembered.{AreKnown, FitsAt};
 ghost use Rattle.tso_store.specs.Seeking.{IsKeySought, IsSoughtFrom, IsStepSought, IsThreadSought};
 ghost use Rattle.tso_store.specs.Stepping.{IsPlanned, IsStepOf};
 
-use crate::key::Key;
 use crate::known::{Known, known_drain, known_run};
 use crate::lookup::{find_history, find_memory, find_thread};
-use crate::parts::Parts;
-use crate::ranking::key_at;
-use crate::running::{Running, procedure_at};
 use crate::stepped::{own_number, plan, with_thread, word_at, written_at};
 use tso_compact::Motion;
+use tso_keys::{Key, Parts, Running, key_at, procedure_at};
 use tso_list::Seq;
 use tso_parts::{Catalog, Pool};
 use tso_prog::Client;

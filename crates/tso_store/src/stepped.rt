@@ -10,20 +10,17 @@ ghost use Rattle.tso_parts.specs.declared.refused.Refused.TheVariants as reasons
 ghost use Rattle.tso_state.specs.Actors.{thread_of};
 ghost use Rattle.tso_state.specs.declared.actor.Actor.TheVariants as actors;
 ghost use Rattle.tso_state.specs.declared.state.Thread.{Thread as ThreadValue};
-ghost use Rattle.tso_store.specs.Keys.{IsKept, Grows, part_count, state_at};
+ghost use Rattle.tso_keys.specs.Keys.{IsKept, Grows, part_count, state_at};
 ghost use Rattle.tso_store.specs.Remembered.{AreKnown, FitsAt, IsLeft};
-ghost use Rattle.tso_store.specs.Running.{AreRunning};
+ghost use Rattle.tso_keys.specs.Running.{AreRunning};
 ghost use Rattle.tso_store.specs.Stepping.{IsLogged, IsPlanned, IsStepKey, IsStepOf, IsWritten, with_thread};
 
-use crate::key::Key;
 use crate::known::{Known, drain_thread, known_motion, next_thread, run_thread};
 use crate::lookup::{find_history, find_memory};
-use crate::parts::Parts;
-use crate::running::{Running, procedure_at};
-use crate::view::View;
 use std::alloc::Global;
 use tso_compact::{Motion, history_after, memory_with, planned, word_read, written};
 use tso_hist::History;
+use tso_keys::{Key, Parts, Running, View, procedure_at};
 use tso_list::Seq;
 use tso_machine::Entry;
 use tso_parts::{Catalog, Refused};

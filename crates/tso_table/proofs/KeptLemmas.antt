@@ -20,7 +20,7 @@ use Rattle.tso_state.specs.declared.actor.Actor.{Actor}
 use Rattle.tso_state.specs.declared.actor.Actor.TheVariants.{Exec, Drain}
 use Rattle.tso_state.specs.declared.state.State.{State}
 use Rattle.tso_store.proofs.Performed.{no_thread}
-use Rattle.tso_store.specs.Keys.{FitsClient}
+use Rattle.tso_keys.specs.Keys.{FitsClient}
 use Rattle.tso_table.specs.Leading.{IsKept, LeadTo, actors_of}
 use Rattle.tso_table.specs.declared.kept.Kept.{Kept}
 

@@ -8,9 +8,10 @@ ghost use Rattle.tso_table.specs.declared.slot.Slot.TheVariants as slots_of;
 use crate::same::is_viewed;
 use crate::slot::{Near, Slot};
 use std::alloc::AllocError;
+use tso_keys::View;
 use tso_list::Paths;
 use tso_state::State;
-use tso_store::{Store, View};
+use tso_store::Store;
 
 /// Whether the slot at a place is `Waiting`.
 pub fn is_waiting(slots: &[Slot], place: u32) -> bool

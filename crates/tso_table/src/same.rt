@@ -4,11 +4,11 @@ ghost use Rattle.std.specs.Prelude.{◌≡◌, ◌↔◌, IsTrue, Some, slice_ge
 
 use crate::steps::is_same_step;
 use tso_foot::Table;
+use tso_keys::View;
 use tso_line::CallKind;
 use tso_list::{Seq, is_same};
 use tso_prog::{Array, Client, Procedure, Step};
 use tso_state::{State, Thread, Viewed};
-use tso_store::View;
 
 // Whether a thread of a kept state is this one.
 fn is_thread(view: &View<'_>, number: usize, thread: &Thread) -> bool

@@ -19,7 +19,7 @@ use std::marker::Model;
 use std::sync::ledger::{Ledger, Share};
 use tso_flow::Checked;
 use tso_foot::Table as Footprints;
-use tso_store::{Key, View};
+use tso_keys::View;
 
 /// Contracts see a shard as its table, which is of the client and the table of footprints of its search, and the units that it has
 /// to spare. Of the ledger of units it has those and one for each state, and of that of entries what is left of its allotment.
@@ -95,13 +95,11 @@ impl<'a, U: Search, E: Ledger> Shard<'a, U, E> {
         let _number = self.table.number();
     }
 
-    /// The number of a state that is there, counted as a call. Where it is not there nothing changes. Its parts are looked for
-    /// where `near` says first.
+    /// The number of a state that is there, counted as a call. Where it is not there nothing changes.
     ///
     /// Errors: where no entry more can be counted. Nothing changes.
     pub fn meet(
         &mut self,
-        near: &Key,
         state: &View<'_>,
         share: &mut Share<E>,
     ) -> Result<Option<Number>, AllocError>
@@ -118,7 +116,7 @@ impl<'a, U: Search, E: Ledger> Shard<'a, U, E> {
             return Err(AllocError);
         }
         let shard = self.table.number();
-        match self.table.meet(near, state) {
+        match self.table.meet(state) {
             Some(place) => {
                 self.left.transfer(share, 1);
                 Ok(Some(Number { shard, place }))
@@ -164,12 +162,11 @@ impl<'a, U: Search, E: Ledger> Shard<'a, U, E> {
     }
 
     /// Gives a state its number, with the actors that lead to it. True where it is new: then it takes a unit that the shard has to
-    /// spare, and waits. What is new of it is copied, and its parts are looked for where `near` says first.
+    /// spare, and waits. What is new of it is copied.
     ///
     /// Errors: where it is not there and a growth was refused, or no entry more can be counted. Nothing changes.
     pub fn put(
         &mut self,
-        near: &Key,
         state: &View<'_>,
         actors: &[u8],
         share: &mut Share<E>,
@@ -193,7 +190,7 @@ impl<'a, U: Search, E: Ledger> Shard<'a, U, E> {
             return Err(AllocError);
         }
         let shard = self.table.number();
-        match self.table.intern(near, state, actors, true) {
+        match self.table.intern(state, actors, true) {
             Ok((place, new)) => {
                 if new {
                     self.spare -= 1;
@@ -209,7 +206,6 @@ impl<'a, U: Search, E: Ledger> Shard<'a, U, E> {
     fn place(
         &mut self,
         budget: &mut Budget<U, E>,
-        near: &Key,
         state: &View<'_>,
         actors: &[u8],
         share: &mut Share<E>,
@@ -229,13 +225,13 @@ impl<'a, U: Search, E: Ledger> Shard<'a, U, E> {
         ensures refused { IfErr result (IsRefusal self.old budget.old state.now) }
     {
         if !self.afford(budget) {
-            return match self.meet(near, state, share) {
+            return match self.meet(state, share) {
                 Ok(Some(number)) => Ok((number, false)),
                 Ok(None) => Err(InternError::Full),
                 Err(_) => Err(InternError::Memory),
             };
         }
-        match self.put(near, state, actors, share) {
+        match self.put(state, actors, share) {
             Ok(placed) => Ok(placed),
             Err(_) => Err(InternError::Memory),
         }
@@ -250,7 +246,6 @@ impl<'a, U: Search, E: Ledger> Shard<'a, U, E> {
     pub fn intern(
         &mut self,
         budget: &mut Budget<U, E>,
-        near: &Key,
         state: &View<'_>,
         actors: &[u8],
         share: &mut Share<E>,
@@ -270,7 +265,7 @@ impl<'a, U: Search, E: Ledger> Shard<'a, U, E> {
         ensures refused { IfErr result (IsRefusal self.old budget.old state.now) }
         ensures none { self.new.spare ≡ 0 }
     {
-        let placed = self.place(budget, near, state, actors, share);
+        let placed = self.place(budget, state, actors, share);
         self.give_back(budget);
         placed
     }

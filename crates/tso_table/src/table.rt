@@ -18,9 +18,10 @@ use std::alloc::{AllocError, Global};
 use std::marker::Model;
 use tso_flow::Checked;
 use tso_foot::Table as Footprints;
+use tso_keys::{NO_KEY, View};
 use tso_list::{Paths, Seq};
 use tso_state::State;
-use tso_store::{AddError, Key, Store, View};
+use tso_store::{AddError, Store};
 
 /// States by their places, in the order in which they came, with the actors that lead to each and how far it is worked.
 /// Contracts see also how many calls were answered.
@@ -162,29 +163,27 @@ impl<'a> Table<'a> {
         &self.store
     }
 
-    /// The place of a state that is there, counted as a call. Where it is not there nothing changes. Its parts are looked for
-    /// where `near` says first.
-    pub fn meet(&mut self, near: &Key, state: &View<'_>) -> Option<u32>
+    /// The place of a state that is there, counted as a call. Where it is not there nothing changes.
+    pub fn meet(&mut self, state: &View<'_>) -> Option<u32>
         requires more { self.old.entries + 1 < 2 ^ 64 }
         ensures met { MatchOption result
             (IsNowhere self.old.rows.states state.now × (self.new ≡ self.old))
             (λ n. Makes self.old.rows (Call.intern state.now) self.new.rows (Reply.placed n false) × IsSameButCounted self.old self.new × (self.new.entries ≡ self.old.entries + 1)) }
         ensures of { IsForSame self.old self.new }
     {
-        let place = self.store.find_view(near, state)?;
+        let place = self.store.find_view(&NO_KEY, state)?;
         self.store.states_differ();
         self.entries += 1;
         Some(place)
     }
 
     /// Gives a state its place, with the actors that lead to it. True where it is new, which it may be only where `room` says so;
-    /// it waits then. What is new of it is copied, and its parts are looked for where `near` says first.
+    /// it waits then. What is new of it is copied.
     ///
     /// Errors: `Full` where the state is not there and may not be new; `Memory` where it is not there, may be new, and a growth
     /// was refused. The table stays, and a state that is there is never refused.
     pub fn intern(
         &mut self,
-        near: &Key,
         state: &View<'_>,
         actors: &[u8],
         room: bool,
@@ -201,21 +200,16 @@ impl<'a> Table<'a> {
         ensures full { IfErr result (IsFull (room ≡ false) self.old.rows.states state.now) }
     {
         if room {
-            return self.take_in(near, state, actors);
+            return self.take_in(state, actors);
         }
-        match self.meet(near, state) {
+        match self.meet(state) {
             Some(place) => Ok((place, false)),
             None => Err(InternError::Full),
         }
     }
 
     // Gives a state its place, also where it is new.
-    fn take_in(
-        &mut self,
-        near: &Key,
-        state: &View<'_>,
-        actors: &[u8],
-    ) -> Result<(u32, bool), InternError>
+    fn take_in(&mut self, state: &View<'_>, actors: &[u8]) -> Result<(u32, bool), InternError>
         requires leads { IsKept self.old.client (record { state = state.now; actors = actors.now }) }
         requires here { shard_of state.now ≡ self.old.number }
         requires more { self.old.entries + 1 < 2 ^ 64 }
@@ -228,12 +222,12 @@ impl<'a> Table<'a> {
         ensures memory { IfErr result (λ e. (e ≡ refusals.Memory) × IsNowhere self.old.rows.states state.now) }
     {
         let Ok(()) = make_room(&mut self.actors, &mut self.slots, actors) else {
-            return match self.meet(near, state) {
+            return match self.meet(state) {
                 Some(place) => Ok((place, false)),
                 None => Err(InternError::Memory),
             };
         };
-        match self.store.add_view(near, state) {
+        match self.store.add_view(&NO_KEY, state) {
             Ok((place, true)) => {
                 self.store.states_differ();
                 self.slots.push_reserved(Slot::Waiting);

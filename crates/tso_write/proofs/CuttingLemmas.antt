@@ -48,9 +48,9 @@ use Rattle.tso_state.specs.Order.{state_cmp}
 use Rattle.tso_state.specs.WellFormed.{IsWellFormed}
 use Rattle.tso_state.specs.declared.state.State.{State}
 use Rattle.tso_parts.proofs.Marked.{found_or_not, new_item, old_item}
-use Rattle.tso_store.proofs.Ranked.{length_below}
-use Rattle.tso_store.specs.Orders as orders
-use Rattle.tso_store.specs.Orders.{numbers_below}
+use Rattle.tso_keys.proofs.Ranked.{length_below}
+use Rattle.tso_keys.specs.Orders as orders
+use Rattle.tso_keys.specs.Orders.{numbers_below}
 use lib.Dec.{eqb}
 
 -- ---- lists

@@ -20,9 +20,9 @@ use Rattle.tso_write.specs.contracts.ordering.PlacedOrd.TheImpl as placed_impl
 use Rattle.tso_write.specs.declared.ordering.Placed.{Placed}
 use Rattle.tso_state.specs.Order.{state_cmp}
 use Rattle.tso_state.specs.declared.state.State.{State}
-use Rattle.tso_store.specs.Orders.{AreRowsOf, IsRising, numbers_below}
-use Rattle.tso_store.specs.contracts.rank_rows.RowOrd.TheImpl as row_impl
-use Rattle.tso_store.specs.declared.rank_rows.Row.{Row}
+use Rattle.tso_keys.specs.Orders.{AreRowsOf, IsRising, numbers_below}
+use Rattle.tso_keys.specs.contracts.rank_rows.RowOrd.TheImpl as row_impl
+use Rattle.tso_keys.specs.declared.rank_rows.Row.{Row}
 
 -- ---- items of lists
 

@@ -10,7 +10,7 @@ use Rattle.std.specs.Ordering.{is_lt}
 use Rattle.tso_state.proofs.RisingLemmas.{total}
 use Rattle.tso_state.specs.Order.{state_cmp}
 use Rattle.tso_state.specs.declared.state.State.{State}
-use Rattle.tso_store.specs.Orders.{IsRising, numbers_below}
+use Rattle.tso_keys.specs.Orders.{IsRising, numbers_below}
 
 -- ---- any list
 

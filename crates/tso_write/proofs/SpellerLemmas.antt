@@ -12,11 +12,11 @@ use Rattle.tso_write.specs.Spelling.{IsEndedBehind, IsStateBehind}
 use Rattle.tso_rec.specs.Spelling.{ending}
 use Rattle.tso_rec.specs.declared.record.End.{End}
 use Rattle.tso_state.specs.declared.state.State.{State}
-use Rattle.tso_store.proofs.Sheeted.{kept_at}
-use Rattle.tso_store.specs.Keys.{IsKept, state_at, states_at}
-use Rattle.tso_store.specs.Numbers.{before, values_at}
-use Rattle.tso_store.specs.declared.key.Key.{Key}
-use Rattle.tso_store.specs.declared.parts.Parts.{Parts}
+use Rattle.tso_keys.proofs.StateLemmas.{kept_at}
+use Rattle.tso_keys.specs.Keys.{IsKept, state_at, states_at}
+use Rattle.tso_keys.specs.Numbers.{before, values_at}
+use Rattle.tso_keys.specs.declared.key.Key.{Key}
+use Rattle.tso_keys.specs.declared.parts.Parts.{Parts}
 
 at_first : {X Y : Type 0} (f : X → Y) (o : Option X) (ys : List Y) (xs : List X) → ys ≡ map f xs → before (option_map f o) ys ≡ map f (before o xs)
 at_first f None ys xs e = refl

@@ -22,7 +22,7 @@ use Rattle.tso_rec.specs.declared.record.End.{End}
 use Rattle.tso_rec.specs.declared.record.Record.{Record}
 use Rattle.tso_search.specs.Searched.{AreSearched}
 use Rattle.tso_state.specs.declared.state.State.{State}
-use Rattle.tso_store.specs.Orders.{IsRising}
+use Rattle.tso_keys.specs.Orders.{IsRising}
 
 -- ---- leaves
 

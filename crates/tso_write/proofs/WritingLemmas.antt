@@ -23,7 +23,7 @@ use Rattle.tso_parts.specs.Numbers.{IsNumbered}
 use Rattle.tso_prog.specs.declared.client.Client.{Client}
 use Rattle.tso_judge.specs.Certified.{CertificatesFit}
 use Rattle.tso_state.specs.declared.state.State.{State}
-use Rattle.tso_store.specs.Orders.{IsRising}
+use Rattle.tso_keys.specs.Orders.{IsRising}
 
 -- ---- pieces
 

@@ -5,9 +5,9 @@ use Rattle.std.specs.List.Sorted.{IsPermutation, IsSortedBy}
 use Rattle.std.specs.Option.{option_cmp}
 use Rattle.std.specs.Ordering.{is_lt}
 use Rattle.tso_write.specs.declared.ordering.Placed.{Placed}
-use Rattle.tso_store.specs.Orders.{numbers_below}
-use Rattle.tso_store.specs.contracts.rank_rows.RowOrd.TheImpl as row_impl
-use Rattle.tso_store.specs.declared.rank_rows.Row.{Row}
+use Rattle.tso_keys.specs.Orders.{numbers_below}
+use Rattle.tso_keys.specs.contracts.rank_rows.RowOrd.TheImpl as row_impl
+use Rattle.tso_keys.specs.declared.rank_rows.Row.{Row}
 
 -- this is the row with this number
 abbrev pub IsAt : List Row → ℕ → Row → Type 0

@@ -3,9 +3,9 @@ use Rattle.std.specs.Prelude.{◌≡◌, ℕ, List, map}
 use Rattle.tso_code.specs.Fields.{list}
 use Rattle.tso_code.specs.Numbers.{number}
 use Rattle.tso_code.specs.States.{call, thread}
-use Rattle.tso_store.specs.Keys.{AreSomeones}
-use Rattle.tso_store.specs.declared.key.Key.{Key}
-use Rattle.tso_store.specs.declared.parts.Parts.{Parts}
+use Rattle.tso_keys.specs.Keys.{AreSomeones}
+use Rattle.tso_keys.specs.declared.key.Key.{Key}
+use Rattle.tso_keys.specs.declared.parts.Parts.{Parts}
 
 -- the keys are of states, and each part is spelled
 pub record AreSpelled (p : Parts) (ks : List Key) (memories threads histories : List (List ℕ)) : Type 0 where

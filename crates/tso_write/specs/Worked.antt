@@ -12,7 +12,7 @@ use Rattle.tso_list.specs.Beginnings.{AppendsBeginning}
 use Rattle.tso_prog.specs.declared.client.Client.{Client}
 use Rattle.tso_search.specs.Searched.{AreSearched}
 use Rattle.tso_state.specs.declared.state.State.{State}
-use Rattle.tso_store.specs.Orders.{IsRising}
+use Rattle.tso_keys.specs.Orders.{IsRising}
 use Rattle.tso_write.specs.Cutting.{IsHalved}
 use Rattle.tso_write.specs.Spelling.{IsFront}
 use Rattle.tso_write.specs.Tasks.{uncut}

@@ -19,10 +19,11 @@ use tso_choose::choose;
 use tso_fifo::linearize;
 use tso_flow::Checked;
 use tso_foot::Table;
+use tso_keys::View;
 use tso_machine::thread_count;
 use tso_rec::{End, Kept, Packed, Shelf};
 use tso_state::{State, Viewed};
-use tso_store::{Store, View};
+use tso_store::Store;
 
 /// The most records of a leaf.
 pub const LEAF: usize = 64;

@@ -3,14 +3,15 @@
 ghost use Rattle.std.specs.List.{flat_map};
 ghost use Rattle.std.specs.Prelude.{◌≡◌, ◌+◌, ◌<◌, ◌≤◌, ◌++◌, ℕ, List, IfOk, OnOk, length, map};
 ghost use Rattle.tso_write.specs.Ordering.{AreAmong, AreGrouped, AreGroups, AreNumbered, ArePlaced, IsAt, IsOrderedBehind};
-ghost use Rattle.tso_store.specs.Orders.{IsRising};
-ghost use Rattle.tso_store.specs.declared.rank_rows.Row.{Row as RowValue};
+ghost use Rattle.tso_keys.specs.Orders.{IsRising};
+ghost use Rattle.tso_keys.specs.declared.rank_rows.Row.{Row as RowValue};
 
 use std::alloc::{AllocError, Global};
 use std::thread::Threads;
 use tso_cert::{ALONE, Task, run_by};
+use tso_keys::{Row, Standings};
 use tso_list::Seq;
-use tso_store::{Row, Standings, Store};
+use tso_store::Store;
 
 /// The number of a state behind its row of ranks, by which it is ordered.
 #[derive(Clone, Copy, PartialEq, Eq, PartialOrd, Ord)]

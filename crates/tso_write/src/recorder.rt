@@ -4,19 +4,20 @@ ghost use Rattle.tso_prog.specs.declared.client.Client.{Client as ClientValue};
 ghost use Rattle.tso_rec.specs.Keeping.{record_of};
 ghost use Rattle.tso_rec.specs.declared.record.Record.{Record as StateWithEnd};
 ghost use Rattle.tso_state.specs.declared.state.State.{State as StateValue};
-ghost use Rattle.tso_store.specs.Keys.{AreKept, states_at};
-ghost use Rattle.tso_store.specs.Numbers.{values_at};
+ghost use Rattle.tso_keys.specs.Keys.{AreKept, states_at};
+ghost use Rattle.tso_keys.specs.Numbers.{values_at};
 
 use std::alloc::{AllocError, Global};
 use std::marker::Model;
 use tso_hist::{Call, History};
+use tso_keys::{Key, Parts};
 use tso_line::CallKind;
 use tso_list::Seq;
 use tso_parts::Pool;
 use tso_prog::Answer;
 use tso_rec::{End, Kept, Part, Shared, Shelf, keep_all};
 use tso_state::Thread;
-use tso_store::{Key, Parts, Store};
+use tso_store::Store;
 
 /// The parts of kept states, each once, beside its spelling. A record takes its parts from here by their numbers, so that none
 /// is copied, hashed or compared for it. Contracts see the states.
@@ -31,7 +32,7 @@ pub struct Recorder<'a> {
 impl<'a> Model for Recorder<'a> {
     ghost use Rattle.std.specs.Prelude.{List};
     ghost use Rattle.tso_state.specs.declared.state.State.{State as StateValue};
-    ghost use Rattle.tso_store.specs.Keys.{AreSomeones, states_at};
+    ghost use Rattle.tso_keys.specs.Keys.{AreSomeones, states_at};
 
     ghost Value = { List StateValue };
 

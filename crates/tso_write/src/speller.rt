@@ -4,18 +4,19 @@ ghost use Rattle.std.specs.Prelude.{◌≡◌, ◌<◌, ◌≤◌, ◌++◌, ℕ
 ghost use Rattle.tso_code.specs.Numbers.{number as spelled_number};
 ghost use Rattle.tso_write.specs.Spelling.{IsEndedBehind, IsStateBehind};
 ghost use Rattle.tso_prog.specs.declared.client.Client.{Client as ClientValue};
-ghost use Rattle.tso_store.specs.Keys.{AreKept, states_at};
-ghost use Rattle.tso_store.specs.Numbers.{values_at};
+ghost use Rattle.tso_keys.specs.Keys.{AreKept, states_at};
+ghost use Rattle.tso_keys.specs.Numbers.{values_at};
 
 use std::alloc::{AllocError, Global};
 use std::marker::Model;
 use std::thread::Threads;
 use tso_cert::{ALONE, Task, run_by};
 use tso_code::{Code, write_number};
+use tso_keys::{Key, Parts};
 use tso_list::Paths;
 use tso_parts::Pool;
 use tso_rec::End;
-use tso_store::{Key, Parts, Store};
+use tso_store::Store;
 
 /// The spelling of each part of kept states, made once: that of a state is copied from here by the numbers of its parts, by as many
 /// threads as want to. Contracts see the states.
@@ -32,7 +33,7 @@ impl<'a> Model for Speller<'a> {
     ghost use Rattle.std.specs.Prelude.{List};
     ghost use Rattle.tso_write.specs.Spelled.{AreSpelled};
     ghost use Rattle.tso_state.specs.declared.state.State.{State as StateValue};
-    ghost use Rattle.tso_store.specs.Keys.{states_at};
+    ghost use Rattle.tso_keys.specs.Keys.{states_at};
 
     ghost Value = { List StateValue };
 

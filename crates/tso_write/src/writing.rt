@@ -10,7 +10,7 @@ ghost use Rattle.tso_write.specs.Tasks.{uncut};
 ghost use Rattle.tso_write.specs.Unspelled.{numbers_of};
 ghost use Rattle.tso_write.specs.Worked.{AreWorkedOut, IsWritten, IsWrittenInPart};
 ghost use Rattle.tso_list.specs.Beginnings.{AppendsBeginning};
-ghost use Rattle.tso_store.specs.Orders.{IsRising};
+ghost use Rattle.tso_keys.specs.Orders.{IsRising};
 
 use crate::meanwhile::made_beside;
 use crate::ordering::rising_by;

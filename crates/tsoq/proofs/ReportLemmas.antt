@@ -20,6 +20,10 @@ use Rattle.tso_front.specs.declared.failure.Failure.{Failure}
 use Rattle.tso_judge.specs.Valid.{IsValidCertificate}
 use Rattle.tso_machine.specs.declared.label.Label.{Label}
 use Rattle.tso_prog.specs.declared.client.Client.{Client}
+use Rattle.tso_replay.specs.declared.report.Report.{Report}
+use Rattle.tso_replay.specs.declared.report.Report.TheVariants.{Certified, Violated}
+use Rattle.tso_request.specs.declared.form.Form.{Form}
+use Rattle.tso_request.specs.declared.form.Form.TheVariants as forms
 use Rattle.tso_trace.specs.Grammar.{trace_text}
 use Rattle.tso_trace.specs.Runs.{IsErrorTrace, first_fault, violation_of}
 use Rattle.tso_trace.specs.declared.trace.Trace.{Trace}
@@ -27,10 +31,6 @@ use Rattle.tso_trace.specs.declared.trace.Violation.{Violation}
 use Rattle.tsoq.specs.Reports.{IsOfLabels, IsOfRecords, IsReport, IsTold}
 use Rattle.tsoq.specs.Written.{HasTaken, HasTakenFrom, HasTakenTree, IsAllGood, IsAsked, IsAskedFor, IsCertificateOf, IsFiled, IsSpelledFrom, IsSpelledOf, IsTableFor, IsWritable}
 use Rattle.tsoq.specs.declared.counted.Taken.{Taken}
-use Rattle.tsoq.specs.declared.form.Form.{Form}
-use Rattle.tsoq.specs.declared.form.Form.TheVariants as forms
-use Rattle.tsoq.specs.declared.report.Report.{Report}
-use Rattle.tsoq.specs.declared.report.Report.TheVariants.{Certified, Violated}
 
 pub all_good : (text : List ℕ) (c : Client) (limit : ℕ) (t : Table) (tree : Tree) (r : Report) → DenotesChecked text c → IsCertificate c limit t tree
     → IsOfRecords (record_count tree) r → IsReport text r

@@ -3,11 +3,11 @@ use Rattle.std.specs.Prelude.{◌≡◌, ℕ, List, Option, Some, None, length}
 use Rattle.tso_client.specs.Headline.{DenotesChecked, IsVerified}
 use Rattle.tso_machine.specs.declared.label.Label.{Label}
 use Rattle.tso_prog.specs.declared.client.Client.{Client}
+use Rattle.tso_replay.specs.declared.report.Report.{Report}
+use Rattle.tso_replay.specs.declared.report.Report.TheVariants.{Certified, Violated}
 use Rattle.tso_trace.specs.Runs.{IsErrorTrace, first_fault, violation_of}
 use Rattle.tso_trace.specs.declared.trace.Trace.{Trace}
 use Rattle.tso_trace.specs.declared.trace.Violation.{Violation}
-use Rattle.tsoq.specs.declared.report.Report.{Report}
-use Rattle.tsoq.specs.declared.report.Report.TheVariants.{Certified, Violated}
 
 -- the text denotes a client that has a run with a fault, or with calls that no order explains
 pub record IsErring (text : List ℕ) : Type 0 where

@@ -11,14 +11,14 @@ use Rattle.tso_foot.specs.declared.table.Table.TheVariants as tables
 use Rattle.tso_front.specs.declared.failure.Failure.{Failure}
 use Rattle.tso_judge.specs.Valid.{IsValidCertificate, IsValidTree}
 use Rattle.tso_prog.specs.declared.client.Client.{Client}
+use Rattle.tso_replay.specs.declared.report.Report.{Report}
+use Rattle.tso_replay.specs.declared.report.Report.TheVariants.{Certified, Violated}
+use Rattle.tso_request.specs.declared.form.Form.{Form}
+use Rattle.tso_request.specs.declared.form.Form.TheVariants.{Arrays, Intervals}
 use Rattle.tso_trace.specs.Grammar.{trace_text}
 use Rattle.tso_trace.specs.declared.trace.Trace.{Trace}
 use Rattle.tsoq.specs.Reports.{IsOfRecords}
 use Rattle.tsoq.specs.declared.counted.Taken.{Taken}
-use Rattle.tsoq.specs.declared.form.Form.{Form}
-use Rattle.tsoq.specs.declared.form.Form.TheVariants.{Arrays, Intervals}
-use Rattle.tsoq.specs.declared.report.Report.{Report}
-use Rattle.tsoq.specs.declared.report.Report.TheVariants.{Certified, Violated}
 
 -- a file, if there is one, has taken these bytes, and no others
 abbrev pub HasTaken : List ℕ → Option Taken → Type 0

@@ -4,7 +4,6 @@ ghost use Rattle.std.specs.Prelude.{◌≡◌, Ok};
 ghost use Rattle.tso_client.specs.Headline.{IsVerified};
 ghost use Rattle.tso_check.specs.declared.verdict.Verdict.TheVariants as verdicts;
 
-use crate::coverage::Covering;
 use crate::people::tell_outside;
 use std::alloc::Global;
 use std::sync::Wait;
@@ -14,6 +13,7 @@ use tso_check::Verdict;
 use tso_client::checked_of;
 use tso_flow::Checked;
 use tso_front::{Failure, Session, misused};
+use tso_request::Covering;
 use tso_verdict::{Check, Facts, facts_object, listed, marked, put_verdict, told, verdict_on};
 
 const PLAIN: &str = "--json has the marks of all lines, and goes without --source\n";

@@ -1,10 +1,7 @@
 //! What is said in words behind the lines that are promised, where `--verbose` asks for it. Where memory or a file fails on the
 //! way, nothing is said.
 
-use crate::command::Asked;
-use crate::limit::{MOST_STATES, StateLimit};
 use crate::outside::outside_at;
-use crate::running::Texts;
 use std::alloc::{AllocError, Global};
 use std::sync::Wait;
 use std::thread::Threads;
@@ -17,9 +14,10 @@ use tso_front::{Failure, Session, Variant, fault_of};
 use tso_judge::Code;
 use tso_machine::{Label, LabelKind, calls_of};
 use tso_prog::{Client, Fault};
+use tso_replay::{Texts, tell_cause};
+use tso_request::{Asked, MOST_STATES, StateLimit};
 use tso_say::{Page, put_hidden, put_meaning, put_program, put_trace};
-use tso_show::{ShowError, Walk, print_cause};
-use tso_trace::{Trace, TraceFault, labels_of};
+use tso_trace::{TraceFault, labels_of};
 
 // What may be wrong where a certificate or a trace does not fit the client.
 const OTHER_CLIENT: &str =
@@ -218,21 +216,6 @@ fn put_limit(alloc: Global, page: &mut Page, limit: StateLimit) -> Result<(), Al
 pub fn tell_limit<S: Session>(session: &mut S, limit: StateLimit) {
     let mut page = Page::new(session.alloc());
     if put_limit(session.alloc(), &mut page, limit).is_ok() {
-        session.note(&page.bytes);
-    }
-}
-
-// Where a thread of a run stops, and why; and from which label on its calls have no order, and why.
-fn put_cause(alloc: Global, page: &mut Page, trace: &Trace) -> Result<(), ShowError> {
-    let labels = trace.labels.as_slice();
-    let walk = Walk::to_end(alloc, &trace.checked, labels)?;
-    print_cause(alloc, &mut page.bytes, &walk)
-}
-
-/// Says in words why a run is not good: why a thread stops, if one does, and why its calls have no order, if they have none.
-pub fn tell_cause<S: Session>(session: &mut S, trace: &Trace) {
-    let mut page = Page::new(session.alloc());
-    if put_cause(session.alloc(), &mut page, trace).is_ok() {
         session.note(&page.bytes);
     }
 }

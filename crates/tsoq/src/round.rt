@@ -5,7 +5,6 @@ ghost use Rattle.std.specs.Thread.{IsSync};
 ghost use Rattle.tso_cert.specs.Trees.{record_count, tree_of};
 ghost use Rattle.tso_client.specs.Headline.{DenotesChecked, EachRunIsGood};
 
-use crate::limit::StateLimit;
 use std::alloc::Global;
 use std::sync::Wait;
 use std::sync::atomic::{AtomicUsize, Ordering};
@@ -17,6 +16,7 @@ use tso_explore::{Outcome, explore};
 use tso_flow::Checked;
 use tso_foot::Table;
 use tso_front::Failure;
+use tso_request::StateLimit;
 use tso_survey::{Accepted, Decided, Finding};
 use tso_trace::Trace;
 

@@ -1,19 +1,11 @@
 //! The program over its words, files and streams.
 
-use crate::asked::Replay;
-use crate::command::{Asked, Request, Search, request_of};
-use crate::coverage::Covering;
 use crate::covering::{check_told, cover};
-use crate::fences::{FenceSearch, run_fences};
-use crate::objects::print_objects;
-use crate::page::write_page;
-use crate::parse::{Parsing, parse};
-use crate::people::{tell, tell_cause, tell_hidden, tell_limit, tell_outside, tell_verdict};
-use crate::progress::{Listener, Progress};
-use crate::report::{Sizes, limit_object};
-use crate::show::{print_run, run_of};
-use crate::survey::{Survey, run_survey};
-use crate::upgrade::{Upgraded, Upgrading, upgrade_to};
+use crate::fences::run_fences;
+use crate::parse::parse;
+use crate::people::{tell, tell_hidden, tell_limit, tell_outside, tell_verdict};
+use crate::survey::run_survey;
+use crate::upgrade::{Upgraded, upgrade_to};
 use crate::verify::{Found, verify};
 use std::alloc::{Alloc, Global};
 use std::env::Env;
@@ -21,88 +13,13 @@ use std::io::Write;
 use std::sync::Wait;
 use std::thread::Threads;
 use std::time::Duration;
-use tso_client::checked_of;
-use tso_flow::Checked;
 use tso_front::{Failure, Files, STREAM, Session, Streams, json_line, reported, started};
+use tso_replay::{Listener, Progress, Sizes, Texts, limit_object, run_replay, tell_cause};
+use tso_request::{
+    Asked, Covering, FenceSearch, Parsing, Request, Search, Survey, Upgrading, request_of,
+};
 use tso_say::{Topic, explanation};
-use tso_show::Replayed;
 use tso_verdict::{Check, check_bytes, put_verdict, verdict_status};
-
-/// A trace text has at most 64 MiB, so one byte more shows that it is too long.
-pub const TRACE_BYTES: usize = 64 * 1024 * 1024;
-
-/// What was read of the files that a command names.
-#[derive(Drop)]
-pub struct Texts {
-    pub program: Vec<u8>,
-    /// The trace of a replay.
-    pub trace: Vec<u8>,
-}
-
-// Prints a run, but where its page goes to standard output.
-fn put_run<S: Session>(
-    session: &mut S,
-    checked: &Checked,
-    program: &[u8],
-    run: &Replayed,
-    asked: &Replay<'_>,
-) -> Result<(), Failure> {
-    if asked.html == Some(STREAM) {
-        return Ok(());
-    }
-    if asked.json {
-        return print_objects(session, checked, run, asked);
-    }
-    print_run(session, checked, program, run, asked)
-}
-
-// Prints what is asked of a run. The page is written first: where a file fails, nothing was printed.
-fn put_replayed<S: Session>(
-    session: &mut S,
-    checked: &Checked,
-    program: &[u8],
-    run: &Replayed,
-    asked: &Replay<'_>,
-    verbose: bool,
-) -> Result<(), Failure> {
-    write_page(session, checked, program, run, asked)?;
-    put_run(session, checked, program, run, asked)?;
-    if let (true, Replayed::Erring(trace)) = (verbose, run) {
-        session.flush()?;
-        tell_cause(session, trace);
-    }
-    Ok(())
-}
-
-// The same of a trace of this client.
-fn replay_by<S: Session>(
-    session: &mut S,
-    checked: &Checked,
-    texts: &Texts,
-    asked: &Replay<'_>,
-    verbose: bool,
-) -> Result<(), Failure> {
-    let alloc = session.alloc();
-    let run = run_of(alloc, checked, &texts.trace, TRACE_BYTES, asked.partial)?;
-    let done = put_replayed(session, checked, &texts.program, &run, asked, verbose);
-    drop(run);
-    done
-}
-
-fn replay<S: Session>(
-    session: &mut S,
-    texts: &mut Texts,
-    asked: &Replay<'_>,
-    verbose: bool,
-) -> Result<u8, Failure> {
-    texts.program = session.read_variant(asked.program, &asked.variant)?;
-    texts.trace = session.read(asked.trace, TRACE_BYTES + 1)?;
-    let checked = checked_of(session.alloc(), &texts.program)?;
-    let done = replay_by(session, &checked, texts, asked, verbose);
-    drop(checked);
-    done?;
-    Ok(0)
-}
 
 fn check<R: Threads + Wait + Sync, S: Session>(
     rt: &R,
@@ -349,7 +266,7 @@ fn perform<R: Threads + Wait + Sync, S: Session + Files, L: Listener + Sync>(
         Asked::Check(asked) => check(rt, session, texts, asked, request.verbose),
         Asked::Upgrade(asked) => upgrade_file(session, texts, asked, request.verbose),
         Asked::Coverage(asked) => cover_program(rt, session, texts, asked, request.verbose),
-        Asked::Replay(asked) => replay(session, texts, asked, request.verbose),
+        Asked::Replay(asked) => run_replay(session, texts, asked, request.verbose),
         Asked::Survey(asked) => survey_queue(rt, session, texts, asked, request.verbose),
         Asked::Fences(asked) => ask_fences(rt, session, texts, asked, request.verbose),
         Asked::Parse(asked) => parse_file(session, texts, asked),

@@ -1,59 +1,18 @@
 //! The survey of a queue by searches.
 
-use crate::help;
-use crate::limit::StateLimit;
 use crate::people::tell_variant;
 use crate::round::{Done, Round, work_by};
-use clap::{Arg, ArgMatches, Command};
-use std::alloc::{AllocError, Global};
+use std::alloc::Global;
 use std::sync::Wait;
 use std::sync::atomic::AtomicUsize;
 use std::thread::Threads;
-use tso_cert::Workers;
 use tso_front::{Failure, Session};
-use tso_survey::{
-    Asking, Calls, Conclusion, Finder, Finding, asking_arguments, asking_of, listed, survey,
-};
-use tso_verdict::{Collector, workers_argument, workers_of};
+use tso_request::Survey;
+use tso_survey::{Calls, Conclusion, Finder, Finding, listed, survey};
+use tso_verdict::Collector;
 
 /// How many clients are searched for each of several workers before their lines are printed.
 const ROUND: usize = 16;
-
-/// What a survey asks about, by how many workers, and how many states a search may meet.
-#[derive(Clone, Copy)]
-pub struct Survey<'a> {
-    pub asking: Asking<'a>,
-    pub workers: Workers,
-    pub limit: StateLimit,
-}
-
-/// The words of a survey, with the option for how many states a search may meet.
-///
-/// Errors: where a growth was refused.
-pub fn survey_command<'a>(alloc: Global, states: Arg<'a>) -> Result<Command<'a>, AllocError> {
-    let command = Command::new(alloc, "survey")
-        .about("searches all clients of a queue up to a size")
-        .after_help(help::SURVEY);
-    let command = asking_arguments(alloc, command)?;
-    let help = "how many workers search, a client each, 1 to 64";
-    let command = command.arg(workers_argument(alloc, help))?;
-    command.arg(states)
-}
-
-/// What the words of a survey ask for.
-///
-/// Errors: `Usage`; `Memory`.
-pub fn survey_of<'a>(
-    alloc: Global,
-    limit: StateLimit,
-    matches: &ArgMatches<'a>,
-) -> Result<Survey<'a>, Failure> {
-    Ok(Survey {
-        asking: asking_of(alloc, matches)?,
-        workers: workers_of(alloc, matches)?,
-        limit,
-    })
-}
 
 /// Decides clients by searches, but those that the folder has whole.
 #[derive(Drop)]

@@ -5,23 +5,9 @@ ghost use Rattle.tsoq.specs.Upgraded.{IsRefusal, IsUpgrade, IsWritten};
 
 use crate::counted::Taken;
 use crate::filing::file_bytes;
-use crate::help;
-use clap::{Arg, ArgAction, ArgMatches, Command};
-use std::alloc::{AllocError, Global};
+use std::alloc::Global;
 use tso_check::{Renewed, UpgradeError, Verdict, upgrade_counted};
-use tso_front::{
-    FILE, Failure, Files, VARIANT, Variant, read_apart, variant_of, with_words, written_apart,
-};
-use tso_verdict::CERT;
-
-/// Which certificate is upgraded, for which program, and where the new one is written.
-#[derive(Clone, Copy)]
-pub struct Upgrading<'a> {
-    pub program: &'a str,
-    pub variant: Variant<'a>,
-    pub cert: &'a str,
-    pub out: &'a str,
-}
+use tso_front::{Failure, Files};
 
 /// What came of an upgrade.
 #[derive(Drop)]
@@ -75,44 +61,4 @@ pub fn upgrade_to<F: Files>(
         Ok(renewed) => write_upgraded(alloc, files, path, &renewed),
         Err(error) => refusal_of(error),
     }
-}
-
-// The option that says where the new certificate is written.
-fn new_argument<'a>(alloc: Global) -> Arg<'a> {
-    Arg::new(alloc, "out")
-        .long("out")
-        .value_name("NEW")
-        .action(ArgAction::Set)
-        .required(true)
-        .help("where the new certificate is written")
-}
-
-/// The words of `upgrade`.
-///
-/// Errors: where a growth was refused.
-pub fn upgrade_command<'a>(alloc: Global) -> Result<Command<'a>, AllocError> {
-    let command = Command::new(alloc, "upgrade")
-        .about("writes an accepted certificate anew, in version 2, without a search")
-        .after_help(help::UPGRADE);
-    let command = with_words(alloc, command, &[FILE, CERT])?;
-    let command = command.arg(new_argument(alloc))?;
-    with_words(alloc, command, &VARIANT)
-}
-
-/// What the words of `upgrade` ask for.
-///
-/// Errors: `Usage` where a file would be read twice, or be read and written; `Memory`.
-pub fn upgrading_of<'a>(alloc: Global, matches: &ArgMatches<'a>) -> Result<Upgrading<'a>, Failure> {
-    let program = matches.get_str("FILE").unwrap_or("");
-    let cert = matches.get_str("CERT").unwrap_or("");
-    let out = matches.get_str("out").unwrap_or("");
-    read_apart(alloc, program, cert)?;
-    written_apart(alloc, Some(out), program)?;
-    written_apart(alloc, Some(out), cert)?;
-    Ok(Upgrading {
-        program,
-        variant: variant_of(matches),
-        cert,
-        out,
-    })
 }

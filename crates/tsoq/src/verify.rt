@@ -3,18 +3,14 @@
 ghost use Rattle.std.specs.Prelude.{◌≡◌, ◌≤◌, IfOk, None, OnOk, Some, is_some, length};
 ghost use Rattle.tso_cert.specs.Trees.{record_count, tree_of};
 ghost use Rattle.tso_write.specs.Worked.{AreWorkedOut};
+ghost use Rattle.tso_replay.specs.Statuses.{status_of_search};
 ghost use Rattle.tso_trace.specs.Grammar.{trace_text};
 ghost use Rattle.tso_trace.specs.Runs.{first_fault, violation_of};
 ghost use Rattle.tsoq.specs.Reports.{IsOfLabels, IsOfRecords, IsReport, IsTold};
-ghost use Rattle.tsoq.specs.Statuses.{status_of_search};
 ghost use Rattle.tsoq.specs.Written.{HasTaken, HasTakenFrom, HasTakenTree, IsAllGood, IsAsked, IsAskedFor, IsFiled, IsSpelledFrom, IsSpelledWith, IsTableFor, IsWritable, bytes_of, count_of};
 
-use crate::command::Search;
 use crate::counted::Taken;
 use crate::filing::{file_certificate, file_trace, file_worked};
-use crate::form::Form;
-use crate::progress::{Listener, Progress};
-use crate::report::Report;
 use std::alloc::{AllocError, Global};
 use std::mem;
 use std::sync::Wait;
@@ -25,6 +21,8 @@ use tso_explore::{Finding, find};
 use tso_flow::Checked;
 use tso_foot::Table;
 use tso_front::{Failure, Files};
+use tso_replay::{Listener, Progress, Report};
+use tso_request::{Form, Search};
 use tso_trace::Trace;
 use tso_verdict::{Facts, told};
 use tso_write::{Worked, has_tree, intervals_for, tree_for};

@@ -4,7 +4,8 @@
 use std::io;
 use std::process::ExitCode;
 use tso_front::HostFiles;
-use tsoq::{HostListener, run_process};
+use tso_replay::HostListener;
+use tsoq::run_process;
 
 fn main(rt: HostRuntime) -> ExitCode {
     let mut files = HostFiles { rt: &rt };

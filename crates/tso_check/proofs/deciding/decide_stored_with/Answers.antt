@@ -3,7 +3,7 @@ use Rattle.tso_check.proofs.StoredLemmas.{stored_whole}
 use Rattle.tso_check.proofs.deciding.decide_stored_with.Goals as goal
 use Rattle.tso_prog.specs.declared.client.Client.{Client}
 use Rattle.tso_scan.specs.Scanned.{shape_count}
-use Rattle.tso_store.specs.Forms.{AreForms}
+use Rattle.tso_keys.specs.Forms.{AreForms}
 
 pub returns-in-Some : goal.returns-in-Some
 returns-in-Some g c = rw c.rejected.ensures (rw c.in-Some.is at c.in_ok-code.ensures)

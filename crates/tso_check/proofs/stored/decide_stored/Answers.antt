@@ -1,7 +1,7 @@
 use Rattle.std.proofs.Common.{subst}
 use Rattle.tso_check.proofs.StoredLemmas.{stored_whole}
 use Rattle.tso_prog.specs.declared.client.Client.{Client}
-use Rattle.tso_store.specs.Forms.{AreForms}
+use Rattle.tso_keys.specs.Forms.{AreForms}
 use Rattle.tso_check.proofs.stored.decide_stored.Goals as goal
 
 pub returns-in-Some : goal.returns-in-Some

@@ -1,15 +1,12 @@
-use Rattle.std.proofs.Common.{◌≡◌, Some, slice_get, subst, sym}
+use Rattle.std.proofs.Common.{subst}
 use Rattle.std.proofs.lemmas.Option.{slice_get_within}
 use Rattle.tso_pool.proofs.DeskLemmas.{kept_after, moved_at}
-use Rattle.tso_pool.specs.Desks.{HasMovedAt, Sheet}
+use Rattle.tso_pool.specs.Desks.{HasMovedAt}
 use Rattle.tso_prog.specs.declared.client.Client.{Client}
 use Rattle.tso_pool.proofs.working.follow.Goals as goal
 
 pub intern-requires-clause-there : goal.intern-requires-clause-there
 intern-requires-clause-there g c = let f = c.in_ok-held.ensures.step in slice_get_within c.step.new.self.states c.in_ok-held.held f.to f.added.number
-
-pub returns-in_err-number-clause-extends : goal.returns-in_err-number-clause-extends
-returns-in_err-number-clause-extends g c = λ i x at. subst (λ (d : Sheet). slice_get d.states i ≡ Some x) (sym c.intern.ensures.desk) (c.step.ensures.extends i x at)
 
 pub returns-clause-moved : goal.returns-clause-moved
 returns-clause-moved g c =

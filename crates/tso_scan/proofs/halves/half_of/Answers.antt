@@ -1,6 +1,6 @@
 use Rattle.std.proofs.Common.{◌∙◌, refl}
 use Rattle.tso_scan.proofs.halves.half_of.Goals as goal
-use Rattle.tso_store.specs.Keys.{states_at}
+use Rattle.tso_keys.specs.Keys.{states_at}
 
 pub returns : goal.returns
 returns c = record {

@@ -1,7 +1,7 @@
 use Rattle.std.proofs.Common.{◌∙◌, ap, rules}
 use Rattle.tso_scan.proofs.HistoryLemmas.{row_added}
 use Rattle.tso_scan.proofs.histories.add_history.Goals as goal
-use Rattle.tso_store.specs.Numbers.{values_at}
+use Rattle.tso_keys.specs.Numbers.{values_at}
 
 pub returns : goal.returns
 returns c =

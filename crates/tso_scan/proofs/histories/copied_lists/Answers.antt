@@ -1,6 +1,6 @@
 use Rattle.tso_scan.proofs.HistoryLemmas.{copied_all, copied_end, copied_more}
 use Rattle.tso_scan.proofs.histories.copied_lists.Goals as goal
-use Rattle.tso_store.specs.Numbers.{values_at}
+use Rattle.tso_keys.specs.Numbers.{values_at}
 
 pub returns-in-None : goal.returns-in-None
 returns-in-None c =

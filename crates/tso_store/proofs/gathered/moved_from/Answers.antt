@@ -1,5 +1,5 @@
 use Rattle.std.proofs.Common.{◌∙◌, ap}
-use Rattle.tso_store.specs.Moving.{moved_key}
+use Rattle.tso_keys.specs.Moving.{moved_key}
 use Rattle.tso_store.proofs.gathered.moved_from.Goals as goal
 
 pub returns : goal.returns

@@ -1,5 +1,5 @@
 use Rattle.std.proofs.Common.{◌≡◌, ◌+◌, ◌++◌, ◌≤◌, length, map, take, vec_capacity, vec_len}
-use Rattle.tso_store.specs.Moving.{moved_key}
+use Rattle.tso_keys.specs.Moving.{moved_key}
 use Rattle.tso_store.proofs.gathered.push_all_moved.Given as goal
 
 abbrev pub invariant-loop-key : goal.invariant-loop-key

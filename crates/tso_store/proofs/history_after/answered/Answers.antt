@@ -1,6 +1,6 @@
 use Rattle.std.proofs.Common.{arith, sym}
 use Rattle.tso_store.proofs.Histories.{answered_view}
-use Rattle.tso_store.proofs.Rows.{got}
+use Rattle.tso_keys.proofs.Rows.{got}
 use Rattle.tso_store.proofs.history_after.answered.Goals as goal
 
 pub returns-in-Some-last : goal.returns-in-Some-last

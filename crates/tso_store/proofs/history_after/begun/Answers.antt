@@ -1,6 +1,6 @@
 use Rattle.std.proofs.Common.{arith}
 use Rattle.tso_store.proofs.Histories.{begun_view}
-use Rattle.tso_store.proofs.Rows.{got}
+use Rattle.tso_keys.proofs.Rows.{got}
 use Rattle.tso_store.proofs.history_after.begun.Goals as goal
 
 pub returns-in-Some : goal.returns-in-Some

@@ -1,5 +1,5 @@
 use Rattle.std.proofs.Common.{◌∙◌, arith, below_more, sym}
-use Rattle.tso_store.specs.Keys.{state_at}
+use Rattle.tso_keys.specs.Keys.{state_at}
 use Rattle.tso_store.proofs.Alone.{first_lone, no_lone}
 use Rattle.tso_store.proofs.lone.lone_at.Goals as goal
 

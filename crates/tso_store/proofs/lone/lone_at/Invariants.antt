@@ -1,4 +1,4 @@
-use Rattle.tso_store.specs.Keys.{state_at}
+use Rattle.tso_keys.specs.Keys.{state_at}
 use Rattle.tso_store.specs.Lone.{HasNoLoneBelow}
 use Rattle.tso_store.proofs.lone.lone_at.Given as goal
 

@@ -4,7 +4,7 @@ use Rattle.tso_compact.specs.Plans.{thread_in}
 use Rattle.tso_model.specs.Steps.{word_read}
 use Rattle.tso_state.specs.Actors.{thread_of}
 use Rattle.tso_state.specs.declared.state.State.{State}
-use Rattle.tso_store.specs.Keys.{state_at}
+use Rattle.tso_keys.specs.Keys.{state_at}
 use Rattle.tso_store.proofs.Absences.{no_history, no_memory, no_moved}
 use Rattle.tso_store.proofs.Performed.{own_here, planned_fits, stepped, thread_at}
 use Rattle.tso_store.proofs.sought.find_by_motion.Goals as goal

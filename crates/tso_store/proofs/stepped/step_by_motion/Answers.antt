@@ -4,8 +4,8 @@ use Rattle.tso_compact.specs.Plans.{thread_in}
 use Rattle.tso_model.specs.Steps.{word_read}
 use Rattle.tso_state.specs.Actors.{thread_of}
 use Rattle.tso_state.specs.declared.state.State.{State}
-use Rattle.tso_store.specs.Keys.{state_at}
-use Rattle.tso_store.specs.declared.parts.Parts.{Parts}
+use Rattle.tso_keys.specs.Keys.{state_at}
+use Rattle.tso_keys.specs.declared.parts.Parts.{Parts}
 use Rattle.tso_store.proofs.Performed.{own_here, planned_fits, planned_thread, stepped}
 use Rattle.tso_store.proofs.stepped.step_by_motion.Goals as goal
 

@@ -1,5 +1,5 @@
 use Rattle.std.proofs.Common.{refl, arith}
-use Rattle.tso_store.proofs.Lists.{same_lists}
+use Rattle.tso_keys.proofs.Lists.{same_lists}
 use Rattle.tso_table.proofs.same.are_threads.Goals as goal
 
 pub returns : goal.returns

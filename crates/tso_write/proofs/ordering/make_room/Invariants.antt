@@ -1,7 +1,7 @@
 use Rattle.std.proofs.Common.{◌≡◌, ◌≤◌, ℕ, List, length}
 use Rattle.std.specs.List.{flat_map}
 use Rattle.tso_write.specs.Ordering.{AreGroups}
-use Rattle.tso_store.specs.declared.rank_rows.Row.{Row}
+use Rattle.tso_keys.specs.declared.rank_rows.Row.{Row}
 use Rattle.tso_write.proofs.ordering.make_room.Given as goal
 
 abbrev pub invariant-loop-count : goal.invariant-loop-count

@@ -1,5 +1,5 @@
 use Rattle.std.proofs.Common.{◌≡◌, ◌++◌, drop}
-use Rattle.tso_store.specs.Numbers.{values_at}
+use Rattle.tso_keys.specs.Numbers.{values_at}
 use Rattle.tso_write.proofs.recorder.at_numbers.Given as goal
 
 abbrev pub invariant-loop-number : goal.invariant-loop-number

@@ -1,7 +1,7 @@
 use Rattle.std.proofs.Common.{subst, sym}
 use Rattle.tso_cert.proofs.WriteLemmas.{on_err}
 use Rattle.tso_write.proofs.WritingLemmas.{written, written_front, written_none, written_part}
-use Rattle.tso_store.specs.Orders.{IsRising}
+use Rattle.tso_keys.specs.Orders.{IsRising}
 use Rattle.tso_write.proofs.writing.write.Goals as goal
 
 pub returns-in_err-front-clause-err : goal.returns-in_err-front-clause-err

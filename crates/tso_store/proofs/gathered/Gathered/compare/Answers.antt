@@ -1,5 +1,5 @@
 use Rattle.std.proofs.Common.{sym, ◌∙◌}
-use Rattle.tso_store.proofs.Sheeted.{kept_at, no_first, no_second, ordered}
+use Rattle.tso_keys.proofs.StateLemmas.{kept_at, no_first, no_second, ordered}
 use Rattle.tso_store.proofs.gathered.Gathered.compare.Goals as goal
 
 pub compare_keys-requires-clause-first : goal.compare_keys-requires-clause-first

@@ -1,7 +1,7 @@
 use Rattle.std.proofs.Common.{◌∙◌, ap, slice_get, sym}
 use Rattle.std.proofs.lemmas.Bool.{false≢true}
 use Rattle.tso_store.proofs.Gatherings.{at_key, key_at, never, none_at}
-use Rattle.tso_store.proofs.Sheeted.{no_key, no_misfit}
+use Rattle.tso_keys.proofs.StateLemmas.{no_key, no_misfit}
 use Rattle.tso_store.proofs.gathered.Gathered.is_at.Goals as goal
 
 pub returns-then-not-fits_client : goal.returns-then-not-fits_client

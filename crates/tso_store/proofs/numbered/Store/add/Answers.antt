@@ -1,7 +1,9 @@
 use Rattle.std.proofs.Common.{ap, arith, ◌∙◌}
-use Rattle.tso_store.specs.Keys.{states_at}
-use Rattle.tso_store.proofs.Closing.{on_err, sheet_stays, sheet_with}
-use Rattle.tso_store.proofs.Sheeted.{added, kept_stay, no_key, no_misfit, no_state, states_stay}
+use Rattle.tso_keys.specs.Keys.{states_at}
+use Rattle.tso_keys.proofs.FoundLemmas.{on_err}
+use Rattle.tso_store.proofs.Closing.{sheet_stays, sheet_with}
+use Rattle.tso_keys.proofs.StateLemmas.{kept_stay, no_key, no_misfit, no_state, states_stay}
+use Rattle.tso_store.proofs.Sheeted.{added}
 use Rattle.tso_store.proofs.numbered.Store.add.Goals as goal
 
 pub invariant_of-self : goal.invariant_of-self

@@ -1,6 +1,7 @@
 use Rattle.tso_store.proofs.Absences.{key_nowhere}
 use Rattle.tso_store.proofs.Performed.{step_has}
-use Rattle.tso_store.proofs.Sheeted.{can_step, kept_of, kept_successor}
+use Rattle.tso_keys.proofs.StateLemmas.{kept_of}
+use Rattle.tso_store.proofs.Sheeted.{can_step, kept_successor}
 use Rattle.tso_store.proofs.numbered.Store.find_risen_successor.Goals as goal
 
 pub returns-in-Disabled : goal.returns-in-Disabled

@@ -1,7 +1,7 @@
 use Rattle.std.proofs.Common.{sym, ◌∙◌}
 use Rattle.std.proofs.lemmas.Bool.{false≢true}
-use Rattle.tso_store.proofs.Closing.{found_or}
-use Rattle.tso_store.proofs.Sheeted.{no_key, no_misfit}
+use Rattle.tso_keys.proofs.FoundLemmas.{found_or}
+use Rattle.tso_keys.proofs.StateLemmas.{no_key, no_misfit}
 use Rattle.tso_store.proofs.numbered.Store.find_view.Goals as goal
 
 pub returns-then-not-view_fits_client : goal.returns-then-not-view_fits_client

@@ -1,5 +1,7 @@
-use Rattle.tso_store.proofs.Formed.{formed}
 use Rattle.tso_store.proofs.numbered.Store.forms.Goals as goal
 
+pub forms_of-requires : goal.forms_of-requires
+forms_of-requires c = c.self.invariant.kept
+
 pub returns : goal.returns
-returns c = rw (← c.self.view_is) (formed c.self.inside.checked.now.client c.self.inside.parts c.self.inside.keys c.in_ok-histories.histories c.self.invariant.kept c.in_ok-histories.ensures)
+returns c = rw (← c.self.view_is) c.forms_of.ensures

@@ -1,4 +1,4 @@
-use Rattle.tso_store.proofs.Sheeted.{states_numbered}
+use Rattle.tso_keys.proofs.StateLemmas.{states_numbered}
 use Rattle.tso_store.proofs.numbered.Store.states_differ.Goals as goal
 
 pub returns : goal.returns

@@ -1,7 +1,9 @@
 use Rattle.std.proofs.Common.{ap, ◌∙◌, sym}
-use Rattle.tso_store.specs.Keys.{states_at}
-use Rattle.tso_store.proofs.Closing.{on_err, sheet_added, sheet_grows, still_running}
-use Rattle.tso_store.proofs.Sheeted.{can_step, states_stay, successor, no_step_successor}
+use Rattle.tso_keys.specs.Keys.{states_at}
+use Rattle.tso_keys.proofs.FoundLemmas.{on_err, still_running}
+use Rattle.tso_store.proofs.Closing.{sheet_added, sheet_grows}
+use Rattle.tso_keys.proofs.StateLemmas.{states_stay}
+use Rattle.tso_store.proofs.Sheeted.{can_step, successor, no_step_successor}
 use Rattle.tso_store.proofs.Performed.{step_has}
 use Rattle.tso_store.proofs.numbered.Store.successor.Goals as goal
 

@@ -1,7 +1,8 @@
 use Rattle.std.proofs.Common.{◌∙◌, ap, sym}
 use Rattle.tso_store.specs.Sheets.{Sheet}
 use Rattle.tso_store.proofs.Closing.{sheet_stays}
-use Rattle.tso_store.proofs.Moves.{move_of, sheet_moved, states_same, states_union, states_within}
+use Rattle.tso_keys.proofs.Moves.{states_union, states_within}
+use Rattle.tso_store.proofs.Moves.{move_of, sheet_moved, states_same}
 use Rattle.tso_store.proofs.numbered.Store.take_in.Goals as goal
 
 pub invariant_of-self : goal.invariant_of-self

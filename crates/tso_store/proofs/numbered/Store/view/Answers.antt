@@ -1,5 +1,5 @@
 use Rattle.std.proofs.Common.{sym, ◌∙◌}
-use Rattle.tso_store.proofs.Sheeted.{kept_at, state_got, state_none}
+use Rattle.tso_keys.proofs.StateLemmas.{kept_at, state_got, state_none}
 use Rattle.tso_store.proofs.numbered.Store.view.Goals as goal
 
 pub of_key-requires-clause-kept : goal.of_key-requires-clause-kept

@@ -1,6 +1,6 @@
 use Rattle.std.proofs.Common.{◌≡◌, ◌∙◌, subst, sym}
-use Rattle.tso_store.specs.Keys.{AreKept}
-use Rattle.tso_store.specs.declared.parts.Parts.{Parts}
+use Rattle.tso_keys.specs.Keys.{AreKept}
+use Rattle.tso_keys.specs.declared.parts.Parts.{Parts}
 use Rattle.tso_write.proofs.recorder.Recorder.of_parts.Goals as goal
 
 pub invariant_of-result : goal.invariant_of-result

@@ -3,7 +3,7 @@ use Rattle.std.specs.List.{flat_map}
 use Rattle.std.specs.Option.{option_copied}
 use Rattle.tso_code.specs.Numbers.{number}
 use Rattle.tso_write.proofs.SpellerLemmas.{state_behind}
-use Rattle.tso_store.specs.Numbers.{values_at}
+use Rattle.tso_keys.specs.Numbers.{values_at}
 use Rattle.tso_write.proofs.speller.Speller.put_state.Goals as goal
 
 pub returns : goal.returns

@@ -1,4 +1,0 @@
-use Rattle.tso_cases.proofs.plain.+compare.Given as goal
-
-abbrev pub decreases-compare : goal.decreases-compare
-decreases-compare l = l.events_left

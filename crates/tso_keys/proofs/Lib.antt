@@ -1,0 +1,12 @@
+pub mod Rows
+pub mod Lists
+pub mod Procedures
+pub mod Formed
+pub mod StateLemmas
+pub mod FoundLemmas
+pub mod Halves
+pub mod Ordered
+pub mod Risen
+pub mod Ranked
+pub mod Listings
+pub mod Moves

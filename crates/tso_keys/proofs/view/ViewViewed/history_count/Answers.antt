@@ -1,0 +1,5 @@
+use Rattle.std.proofs.Common.{sym}
+use Rattle.tso_keys.proofs.view.ViewViewed.history_count.Goals as goal
+
+pub returns : goal.returns
+returns c = rw (← c.self.view_is) (sym c.self.invariant.0.lists)

@@ -1,0 +1,8 @@
+use Rattle.std.proofs.Common.{refl, arith}
+use Rattle.tso_keys.proofs.Lists.{same_lists}
+use Rattle.tso_keys.proofs.view.are_same_threads.Goals as goal
+
+pub returns : goal.returns
+returns c =
+    let known = c.loop-number.invariant in
+    (λ _. same_lists c.args.a.now.threads c.args.b.now.threads known.0 (λ k lt. known.1 k (omega (arith, lt, known.0, c.loop-number-test.false))), λ _. refl)

@@ -1,6 +1,0 @@
-use Rattle.std.proofs.Common.{◌≡◌, map, take}
-use Rattle.tso_say.specs.Sources.{blank_byte}
-use Rattle.tso_say.proofs.source.blanks.Given as goal
-
-abbrev pub invariant-loop-byte : goal.invariant-loop-byte
-invariant-loop-byte l = l.bytes.items ≡ map blank_byte (take l.byte-index l.front)

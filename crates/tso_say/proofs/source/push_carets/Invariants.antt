@@ -1,6 +1,0 @@
-use Rattle.std.proofs.Common.{◌≡◌, ◌++◌, replicate}
-use Rattle.tso_say.specs.Sources.{caret}
-use Rattle.tso_say.proofs.source.push_carets.Given as goal
-
-abbrev pub invariant-loop-done : goal.invariant-loop-done
-invariant-loop-done l = l.bytes.items ≡ l.fn.bytes.items ++ replicate l._done caret

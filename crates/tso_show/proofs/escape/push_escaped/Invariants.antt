@@ -1,6 +1,0 @@
-use Rattle.std.proofs.Common.{◌≡◌, ◌++◌, drop}
-use Rattle.tso_show.specs.Escapes.{escaped}
-use Rattle.tso_show.proofs.escape.push_escaped.Given as goal
-
-abbrev pub invariant-loop-byte : goal.invariant-loop-byte
-invariant-loop-byte l = l.page.items ++ escaped (drop l.byte-index l.text) ≡ l.fn.page.items ++ escaped l.text

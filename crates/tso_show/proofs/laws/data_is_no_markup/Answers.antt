@@ -1,5 +1,0 @@
-use Rattle.tso_show.proofs.EscapeLemmas.{all_data}
-use Rattle.tso_show.proofs.laws.data_is_no_markup.Goals as goal
-
-pub returns : goal.returns
-returns c = all_data

@@ -1,5 +1,0 @@
-use Rattle.tso_show.proofs.EscapeLemmas.{no_markup}
-use Rattle.tso_show.proofs.laws.escaped_text_is_no_markup.Goals as goal
-
-pub returns : goal.returns
-returns c = no_markup

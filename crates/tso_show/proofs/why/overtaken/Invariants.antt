@@ -1,6 +1,0 @@
-use Rattle.std.proofs.Common.{◌≡◌, drop, find}
-use Rattle.tso_show.specs.Whys.{overtaken}
-use Rattle.tso_show.proofs.why.overtaken.Given as goal
-
-abbrev pub invariant-loop-pop : goal.invariant-loop-pop
-invariant-loop-pop l = overtaken l.calls l.calls ≡ overtaken l.calls (drop l.pop-index l.calls)

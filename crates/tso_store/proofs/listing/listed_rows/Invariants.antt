@@ -1,6 +1,0 @@
-use Rattle.std.proofs.Common.{take}
-use Rattle.tso_store.specs.Listing.{AreListed}
-use Rattle.tso_store.proofs.listing.listed_rows.Given as goal
-
-abbrev pub invariant-loop-history : goal.invariant-loop-history
-invariant-loop-history l = AreListed l.lists l.width (take l.history-index l.histories) l.rows.items

@@ -1,5 +1,0 @@
-use Rattle.std.proofs.Common.{sym}
-use Rattle.tso_store.proofs.view.ViewViewed.history_count.Goals as goal
-
-pub returns : goal.returns
-returns c = rw (← c.self.view_is) (sym c.self.invariant.0.lists)

@@ -1,6 +1,0 @@
-use Rattle.std.proofs.Common.{◌≡◌, ◌+◌}
-use Rattle.tsoq.proofs.replay.go_back.Given as goal
-
-abbrev pub invariant-loop : goal.invariant-loop
-invariant-loop l =
-    (l.cursor.position + l.counter ≡ l.initial.cursor.position) × (l.cursor.client ≡ l.initial.cursor.client) × (l.cursor.labels ≡ l.initial.cursor.labels)
