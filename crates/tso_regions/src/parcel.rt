@@ -12,7 +12,7 @@ use crate::realm::Realm;
 use std::alloc::Global;
 use std::marker::{Model, PhantomData};
 use tso_flow::Checked;
-use tso_keys::{NO_KEY, View};
+use tso_keys::View;
 use tso_store::{AddError, Store};
 
 /// States on their way to their owner. All are met, and the runs to each are good.
@@ -34,7 +34,8 @@ impl<'a, U: Realm> Model for Parcel<'a, U> {
     ghost invariant = { λ p. IsParcel U.client p.store };
 }
 
-/// Keeps a state that is met, and to which the runs are good: its number. `None` where it is none of the client's.
+/// Keeps a state that is met, and to which the runs are good: its number. `None` where it is none of the client's. Its parts are looked
+/// for first where the state has them that came last, since states come in the order in which they were met.
 ///
 /// Errors: where it cannot be kept.
 pub fn keep(store: &mut Store<'_>, view: &View<'_>) -> Result<Option<u32>, Halt>
@@ -47,7 +48,8 @@ pub fn keep(store: &mut Store<'_>, view: &View<'_>) -> Result<Option<u32>, Halt>
     ensures stays { Extends store.old.states store.new.states }
     ensures client { store.new.client ≡ store.old.client }
 {
-    match store.add_view(&NO_KEY, view) {
+    let last = store.key(count_of(store).wrapping_sub(1));
+    match store.add_view(&last, view) {
         Ok((number, _)) => Ok(Some(number)),
         Err(AddError::Misfit) => Ok(None),
         Err(AddError::Memory) => Err(Halt::Memory),
