@@ -1,12 +1,12 @@
 //! The search of a client.
 
-ghost use Rattle.std.specs.Prelude.{◌≡◌, ◌≤◌, ◌⊎◌, [], IfOk, IfSome, MatchBool, Some, length, true};
+ghost use Rattle.std.specs.Prelude.{◌≡◌, ◌≤◌, ◌⊎◌, [], IfErr, IfOk, IfSome, MatchBool, OnOk, Some, length, true};
 ghost use Rattle.tso_explore.specs.Firsts.{IsBegunAlone, IsFirstAlone, IsFirstOf, IsFound, IsPaused, IsSoon};
 ghost use Rattle.tso_search.specs.Goodness.{AllGood};
 ghost use Rattle.tso_explore.specs.Outcomes.{IsOutcome, IsStopped};
 ghost use Rattle.tso_explore.specs.Findings.{IsEnded, IsFinding};
 ghost use Rattle.tso_search.specs.Reached.{IsBadAt};
-ghost use Rattle.tso_search.specs.Searched.{AreSearched, HasBegun, HasMore, IsBegun, IsStarted, IsStop};
+ghost use Rattle.tso_search.specs.Searched.{AreSearched, HasBegun, HasMore, IsBegun, IsSearched, IsStarted, IsStop};
 ghost use Rattle.tso_search.specs.Shortening.{IsTraceOf};
 ghost use Rattle.tso_foot.specs.Closed.{IsClosed, IsLeastClosed};
 ghost use Rattle.tso_table.specs.Leading.{IsKept};
@@ -40,6 +40,9 @@ const FIRST: u32 = 65_536;
 
 /// How many states the caller meets alone before several workers go on by regions.
 const ALONE: u32 = 8_192;
+
+/// How many it meets alone before they go on where it looks as if there are many.
+const EARLY: u32 = 2_048;
 
 /// Where there are so many states, and the caller has searched all of them alone, no worker searches them once more.
 const SHARED: usize = 512;
@@ -394,6 +397,47 @@ fn found_from<R: Wait, W: Watch>(
     }
 }
 
+// Whether it looks as if there are many more states than those that were met: where more than one in eleven of them is not worked yet.
+fn are_many(met: usize, worked: u32) -> bool {
+    met.saturating_sub(worked as usize) > met / 11
+}
+
+// Searches from the initial state on until several workers are to go on, or the search is over: how far it has come.
+fn search_alone<R: Wait>(
+    rt: &R,
+    alloc: Global,
+    checked: &Checked,
+    table: &Table,
+    store: &mut Store<'_>,
+    origins: &mut Vec<Origin>,
+    judged: &mut Judged,
+    limit: u32,
+) -> Result<u32, Stop>
+    requires client { store.old.client ≡ checked.now.client }
+    requires searched { IsSearched checked.now.client table.now store.old.states origins.old.items 0 }
+    requires good { AllGood checked.now.client store.old.states }
+    requires few { length store.old.states ≤ limit }
+    requires limit { limit ≤ 4194304 }
+    requires room { store.old.kept ≤ 8 }
+    ensures searched { IfOk result (λ number. IsSearched checked.now.client table.now store.new.states origins.new.items number) }
+    ensures good { OnOk result (AllGood checked.now.client store.new.states) }
+    ensures low { IfOk result (λ number. number ≤ length store.new.states) }
+    ensures few { OnOk result (length store.new.states ≤ limit) }
+    ensures stop { IfErr result (IsStop checked.now.client limit store.new.states origins.new.items) }
+    ensures client { store.new.client ≡ store.old.client }
+{
+    let marks = Marks::new(alloc);
+    let number = search(
+        rt, alloc, checked, table, store, origins, judged, &marks, 0, EARLY, limit, &NoWatch,
+    )?;
+    if are_many(store.len(), number) {
+        return Ok(number);
+    }
+    search(
+        rt, alloc, checked, table, store, origins, judged, &marks, number, ALONE, limit, &NoWatch,
+    )
+}
+
 // What the first states tell, from the initial state on, and where a search of them is not over how far it has come.
 fn first_alone<R: Wait>(
     rt: &R,
@@ -416,11 +460,8 @@ fn first_alone<R: Wait>(
         return Ok(First::Stopped(Stopped::Trace(trace)));
     }
     let mut judged = Judged::new(alloc)?;
-    let marks = Marks::new(alloc);
     let (ways, noted) = (&mut origins, &mut judged);
-    match search(
-        rt, alloc, checked, table, store, ways, noted, &marks, 0, ALONE, limit, &NoWatch,
-    ) {
+    match search_alone(rt, alloc, checked, table, store, ways, noted, limit) {
         Ok(number) => Ok(First::GoesOn(number)),
         Err(stop) => {
             let slice = origins.as_slice();
@@ -542,9 +583,7 @@ fn found_by_regions<'c, R: Threads + Wait + Sync, W: Watch + Sync>(
     if number as usize >= store.len() {
         return Ok(found_alone(checked, table, store, number, limit, watch));
     }
-    match by_regions(
-        rt, alloc, checked, &table, store, number, workers, limit, watch,
-    ) {
+    match by_regions(rt, alloc, checked, &table, store, workers, limit, watch) {
         Ok(Some(store)) => Ok(Soon::Found(worked_out(checked, table, store, limit))),
         Ok(None) => {
             drop(table);

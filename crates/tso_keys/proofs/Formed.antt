@@ -1,5 +1,5 @@
 -- Which histories fit a client.
-use Rattle.std.proofs.Common.{◌≡◌, ◌∙◌, ◌⊎◌, inl, inr, ℕ, zero, suc, ◌+◌, ◌<◌, Bool, false, IsTrue, ◌↔◌, List, [], ◌∷◌, ◌++◌, length, take, Some, None, refl, ap, sym, subst, arith, slice_get, slice_index_or}
+use Rattle.std.proofs.Common.{◌≡◌, ◌∙◌, ◌⊎◌, inl, inr, ℕ, zero, suc, ◌+◌, Bool, false, IsTrue, ◌↔◌, List, [], ◌∷◌, ◌++◌, length, take, Some, None, ap, sym, subst, arith, slice_get, slice_index_or}
 use Rattle.std.proofs.Math.ListN.{get_or-append}
 use Rattle.std.proofs.Math.Seq.{get_or-append_seam}
 use Rattle.std.proofs.lemmas.List.{length_push, take_more}

@@ -1,7 +1,7 @@
 -- Histories by their lists of calls.
 use Rattle.std.proofs.Common.{◌≡◌, ◌∙◌, ◌⊎◌, inl, inr, ℕ, zero, suc, ◌+◌, ◌≤◌, List, [], ◌∷◌, ◌++◌, length, map, take, Option, None, Some, ap, sym, subst, arith, slice_get}
 use Rattle.std.proofs.lemmas.List.{length_push, take_more}
-use Rattle.std.proofs.lemmas.Option.{get_or_from_slice_get, slice_get_within}
+use Rattle.std.proofs.lemmas.Option.{get_or_from_slice_get, slice_get_past, slice_get_within}
 use Rattle.std.specs.Cmp.{IsTotalOrder}
 use Rattle.std.specs.Cmp.Lexicographic.{slice_cmp}
 use Rattle.std.specs.Option.{option_cmp}
@@ -15,7 +15,7 @@ use Rattle.tso_parts.proofs.Marked.{item_at}
 use Rattle.tso_parts.specs.Numbers.{Extends}
 use Rattle.tso_keys.proofs.Lists.{at_end}
 use Rattle.tso_keys.proofs.Ranked.{equal_is_same, five, rows_by_ranks}
-use Rattle.tso_keys.proofs.Rows.{more_numbers, past}
+use Rattle.tso_keys.proofs.Rows.{more_numbers}
 use Rattle.tso_keys.specs.Listing.{AreListed, IsListedAs, IsListing}
 use Rattle.tso_keys.specs.Orders.{history_cmp, list_cmp, rank_at, ranks_in}
 
@@ -61,7 +61,7 @@ module _ (pool : List (List Call)) (ranks : List ℕ) (hs : List (List (List Cal
       item_at hs n (omega (arith, less, many)) (λ h e. go h e (is.listed.each n h r e at))
 
   nowhere : (n : ℕ) → slice_get rows n ≡ None → slice_get hs n ≡ None
-  nowhere n e = let most = none_within rows n e in let many = is.listed.count in past hs n (omega (arith, most, many))
+  nowhere n e = let most = none_within rows n e in let many = is.listed.count in slice_get_past hs n (omega (arith, most, many))
 
   pub both_compared : (n m : ℕ) (r s : List ℕ) (o : Ordering) → slice_get rows n ≡ Some r → slice_get rows m ≡ Some s → o ≡ slice_cmp nat_cmp (ranks_in ranks r) (ranks_in ranks s)
       → o ≡ option_cmp history_cmp (slice_get hs n) (slice_get hs m)

@@ -1,7 +1,7 @@
 -- Keys and states that come from another store.
-use Rattle.std.proofs.Common.{◌≡◌, ◌⊎◌, ◌∙◌, ℕ, zero, suc, ◌+◌, ◌<◌, ◌≤◌, ◌^◌, Bool, true, false, List, [], ◌∷◌, ◌++◌, length, map, Some, None, refl, sym, ap, append_assoc, arith, add-one, get_or, inl, inr, slice_get, slice_index_or, subst, take}
-use Rattle.std.proofs.lemmas.List.{append-nil, length-map, length_push, map-append, take_all}
-use Rattle.std.proofs.lemmas.Option.{same_Some}
+use Rattle.std.proofs.Common.{◌≡◌, ◌⊎◌, ◌∙◌, ℕ, zero, suc, ◌+◌, ◌<◌, ◌≤◌, ◌^◌, Bool, true, false, List, [], ◌∷◌, ◌++◌, length, map, Some, None, refl, sym, ap, append_assoc, arith, add-one, get_or, inl, inr, slice_get, subst, take}
+use Rattle.std.proofs.lemmas.List.{append-nil, get_or_past, length-map, length_push, map-append, take_all}
+use Rattle.std.proofs.lemmas.Option.{same_Some, slice_get_within}
 use Rattle.std.specs.List.{AllByRecursion}
 use Rattle.tso_parts.specs.Numbers.{Extends, grown}
 use Rattle.tso_parts.specs.Numbers as parts
@@ -52,13 +52,8 @@ moved_one pool (m ∷ ns) [] n x are e = absurd (let h : None ≡ Some x = e in 
 moved_one pool (m ∷ ns) (y ∷ xs) zero x are e = are.0 ∙ e
 moved_one pool (m ∷ ns) (y ∷ xs) (suc n) x are e = moved_one pool ns xs n x are.1 e
 
-past_all : (ns : List ℕ) (n d : ℕ) → length ns ≤ n → slice_index_or ns n d ≡ d
-past_all [] n d le = refl
-past_all (m ∷ ns) zero d le = absurd (omega (arith, le))
-past_all (m ∷ ns) (suc n) d le = past_all ns n d (omega (arith, le))
-
 moved_none : (ts : List ℕ) (n : ℕ) → length ts < 2 ^ 32 → n ≡ 4294967295 → moved_number ts n ≡ 4294967295
-moved_none ts n small e = past_all ts n 4294967295 (omega (arith, small, e))
+moved_none ts n small e = get_or_past ts n 4294967295 (omega (arith, small, e))
 
 moved_row : {X : Type 0} (new old : List X) (ts ns : List ℕ) (xs : List X) → AreNumbersOf new ts old → length ts < 2 ^ 32 → AreNumbersOf old ns xs → AreNumbersOf new (map (moved_number ts) ns) xs
 moved_row new old ts [] [] all small are = are
@@ -141,21 +136,12 @@ union_more {X = X} old others mid new i one few lt two there last = record { wit
 pub union_cut : {X : Type 0} (old others mid new : List X) (i : ℕ) → IsUnionBelow old others mid i → IsWithinUnion mid others new → IsWithinUnion old others new
 union_cut old others mid new i one two = within_more old others mid new one.within two
 
-within_length : {X : Type 0} (xs : List X) (n : ℕ) (x : X) → slice_get xs n ≡ Some x → n < length xs
-within_length [] n x e = absurd (let h : None ≡ Some x = e in cc)
-within_length (y ∷ xs) zero x e = omega arith
-within_length (y ∷ xs) (suc n) x e = let h = within_length xs n x e in omega (arith, h)
-
-map_length : {X Y : Type 0} (f : X → Y) (xs : List X) → length (map f xs) ≡ length xs
-map_length f [] = refl
-map_length f (x ∷ xs) = ap suc (map_length f xs)
-
 -- each of so many others is there
 pub union_all : {X Y : Type 0} (f : X → Y) (old new : List Y) (others : List X) (i : ℕ) → IsUnionBelow old (map f others) new i → i ≡ length others → IsUnion old (map f others) new
 union_all f old new others i below all = record {
   within = below.within;
-  has = λ n x e. below.has n x (omega (arith, all, within_length (map f others) n x e, map_length f others)) e;
-  apart = λ long. below.apart (omega (arith, long, all, map_length f others)) ∙ ap (λ l. old ++ l) (take_all i (map f others) (omega (arith, all, map_length f others)));
+  has = λ n x e. below.has n x (omega (arith, all, slice_get_within (map f others) n x e, length-map others f)) e;
+  apart = λ long. below.apart (omega (arith, long, all, length-map others f)) ∙ ap (λ l. old ++ l) (take_all i (map f others) (omega (arith, all, length-map others f)));
 }
 
 -- ---- keys and states
@@ -263,7 +249,7 @@ module _ (c : Client) (old new others : Parts) (ks ls after : List Key) (r : Par
           let a = length-map after (state_at new) in
           let b = length-map ks (state_at old) in
           let d = length-map ls (state_at others) in
-          let behind = union.apart (omega (arith, long, a, b, d, map_length (moved_key r) ls)) in
+          let behind = union.apart (omega (arith, long, a, b, d, length-map ls (moved_key r))) in
           ap (states_at new) behind ∙ map-append (state_at new) ks (map (moved_key r) ls)
           ∙ (λ i. states_stay c old new ks move.grows move.small move.kept i ++ states_moved c others new r ls move.numbers move.few move.small move.also i)
 

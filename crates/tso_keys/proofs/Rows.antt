@@ -1,16 +1,12 @@
 -- Rows of numbers.
 use Rattle.std.proofs.Common.{◌≡◌, ℕ, zero, suc, ◌+◌, ◌<◌, ◌≤◌, ◌^◌, List, [], ◌∷◌, ◌++◌, length, Option, Some, None, refl, sym, ap, ◌∙◌, arith, slice_get, slice_set, take, get_or, add-one}
+use Rattle.std.proofs.lemmas.Option.{slice_get_past}
 use Rattle.std.specs.Option.{option_and_then}
 use Rattle.tso_parts.specs.Numbers.{IsNumbered, IsNowhere, Extends}
 use Rattle.tso_keys.specs.Numbers.{AreNumbersOf, before, values_at}
 
-pub past : {X : Type 0} (xs : List X) (n : ℕ) → length xs ≤ n → slice_get xs n ≡ None
-past [] n le = refl
-past (x ∷ xs) zero le = absurd (omega (arith, le))
-past (x ∷ xs) (suc n) le = past xs n (omega (arith, le))
-
 nothing : {X : Type 0} (pool : List X) (n : ℕ) → length pool < 2 ^ 32 → n ≡ 4294967295 → slice_get pool n ≡ None
-nothing pool n small e = past pool n (omega (arith, small, e))
+nothing pool n small e = slice_get_past pool n (omega (arith, small, e))
 
 before_none : {X : Type 0} (o : Option X) (xs : List X) → o ≡ None → before o xs ≡ []
 before_none None xs e = refl

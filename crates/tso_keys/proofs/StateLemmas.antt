@@ -1,5 +1,6 @@
 -- Lists of keys and of their states.
-use Rattle.std.proofs.Common.{◌≡◌, ℕ, zero, suc, ◌<◌, ◌^◌, Bool, true, false, List, [], ◌∷◌, ◌++◌, length, Some, None, refl, sym, ap, subst, ◌∙◌, slice_get, slice_index_or}
+use Rattle.std.proofs.Common.{◌≡◌, ℕ, zero, suc, ◌<◌, ◌^◌, Bool, true, false, List, [], ◌∷◌, ◌++◌, length, Some, None, refl, sym, ap, subst, ◌∙◌, slice_get}
+use Rattle.std.proofs.lemmas.Option.{get_or_from_slice_get}
 use Rattle.std.specs.declared.cmp.Ordering.{Ordering}
 use Rattle.tso_parts.specs.Numbers.{IsNumbered, IsNowhere, grown}
 use Rattle.tso_prog.specs.declared.client.Client.{Client}
@@ -11,16 +12,11 @@ use Rattle.tso_keys.specs.Keys.{AreKept, FitsClient, Grows, IsKeyOf, IsKept, sta
 use Rattle.tso_keys.specs.Orders.{IsOrderOf}
 use Rattle.tso_keys.proofs.Rows.{values_is, more_numbers, same_row}
 
-at_index : {X : Type 0} (xs : List X) (n : ℕ) (x d : X) → slice_get xs n ≡ Some x → slice_index_or xs n d ≡ x
-at_index [] n x d e = absurd (let h : None ≡ Some x = e in cc)
-at_index (y ∷ xs) zero x d e = let h : y ≡ x = cc in h
-at_index (y ∷ xs) (suc n) x d e = at_index xs n x d e
-
 -- the state of a key
 pub key_state : (p : Parts) (k : Key) (s : State) → length p.threads < 2 ^ 32 → IsKeyOf p k s → state_at p k ≡ s
 key_state p k s small is =
-    let memory = at_index p.memories k.memory s.memory [] is.memory in
-    let history = at_index p.histories k.history s.history [] is.history in
+    let memory = get_or_from_slice_get p.memories k.memory s.memory [] is.memory in
+    let history = get_or_from_slice_get p.histories k.history s.history [] is.history in
     let threads = values_is p.threads k.threads s.threads small is.threads in
     λ i. record { memory = memory i; threads = threads i; history = history i }
 

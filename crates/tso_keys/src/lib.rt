@@ -19,7 +19,7 @@ mod viewed_key;
 
 pub use forms::{Forms, forms_of};
 pub use halving::number_risen;
-pub use kept::{find_key, fits_client, key_of};
+pub use kept::{find_key, find_near, fits_client, key_of, number_at};
 pub use key::{Key, NO_KEY, NONE, WIDTH};
 pub use moved::{PartNumbers, add_keys, add_parts, moved_key, take_parts};
 pub use orders::compare_keys;

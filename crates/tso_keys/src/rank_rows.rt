@@ -13,8 +13,8 @@ pub struct Row {
     pub history: u32,
 }
 
-// The rank of a number; 0 where it has none.
-fn rank_at(ranks: &[u32], number: u32) -> u32
+/// The rank of a number; 0 where it has none.
+pub fn rank_at(ranks: &[u32], number: u32) -> u32
     ensures { result ≡ rank_at ranks.now number }
 {
     ranks.get(number as usize).copied().unwrap_or(0)

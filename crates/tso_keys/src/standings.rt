@@ -1,5 +1,5 @@
 //! The rows of all states of a store.
-ghost use Rattle.std.specs.Prelude.{◌≡◌, IfOk, length, slice_get};
+ghost use Rattle.std.specs.Prelude.{◌≡◌, IfOk, length, option_map, slice_get};
 ghost use Rattle.tso_keys.specs.Keys.{AreKept, states_at};
 ghost use Rattle.tso_keys.specs.Orders.{AreRowsOf};
 ghost use Rattle.tso_prog.specs.declared.client.Client.{Client};
@@ -7,7 +7,7 @@ ghost use Rattle.tso_prog.specs.declared.client.Client.{Client};
 use crate::key::Key;
 use crate::listing::history_ranks;
 use crate::parts::Parts;
-use crate::rank_rows::{Row, row_of};
+use crate::rank_rows::{Row, rank_at, row_of};
 use crate::ranking::key_at;
 use crate::ranks::{Ranks, ranks_of};
 use std::alloc::{AllocError, Global};
@@ -52,6 +52,16 @@ impl<'a> Standings<'a> {
         };
         match key_at(self.keys, number) {
             Some(key) => Some(row_of(&ranks, &key)),
+            None => None,
+        }
+    }
+
+    /// The rank of the memory of the state with this number, which its row begins with.
+    pub fn memory(&self, number: u32) -> Option<u32>
+        ensures { result ≡ option_map (λ row. row.memory) (slice_get self.now number) }
+    {
+        match self.keys.get(number) {
+            Some(key) => Some(rank_at(self.memories.as_slice(), key.memory)),
             None => None,
         }
     }

@@ -1,7 +1,7 @@
 -- States of a region, as more of them are met.
 use Rattle.std.proofs.Common.{◌≡◌, ◌∙◌, ℕ, ◌+◌, ◌<◌, inl, inr, Bool, true, false, List, [], length, get_or, Option, None, Some, slice_get, refl, sym, subst, arith}
-use Rattle.std.specs.Prelude.{Err, IfSome, IsTrue, Ok, OnOk, Result, is_some}
-use Rattle.std.proofs.lemmas.Option.{none-some, same_Some, slice_get_within, slice_get-get_or}
+use Rattle.std.specs.Prelude.{Err, IfSome, Ok, OnOk, Result, is_some}
+use Rattle.std.proofs.lemmas.Option.{same_Some, slice_get_within, slice_get-get_or}
 use Rattle.tso_choose.specs.Choosing.{IsChoice}
 use Rattle.tso_choose.specs.Closures.{has_bit}
 use Rattle.tso_choose.specs.Sets.{actor_at}
@@ -15,7 +15,7 @@ use Rattle.tso_regions.specs.declared.halt.Halt.{Halt}
 use Rattle.tso_regions.specs.Regions.{AreSound, IsDomain, IsFollowing, IsParcel, IsSound}
 use Rattle.tso_search.proofs.SearchLemmas.{IsNewState, chosen_followed, done_stays, followed_on, good_with, kept_at, met_on, new_is_next, stays_stays}
 use Rattle.tso_search.specs.Goodness.{IsGood}
-use Rattle.tso_search.specs.Marking.{IsMarkedToo, is_marked}
+use Rattle.tso_search.specs.Marking.{IsMarkedToo}
 use Rattle.tso_search.specs.Reached.{AllMet, IsMet}
 use Rattle.tso_search.specs.Searched.{AreDone, AreFollowed, IsDone, IsFollowed, IsGoodAt}
 use Rattle.tso_state.specs.declared.actor.Actor.{Actor}
@@ -171,17 +171,3 @@ region_more client table c t old new marks halt after d same sound stays =
       store_is = is;
       explored = record { met = here.met; done = done_stays c t old.states new.states marks stays d.explored.done; good = λ none. here.good };
     }
-
--- ---- where a region begins
-
-pub sound_none : (c : Client) (states : List State) → states ≡ [] → AreSound c states
-sound_none c states none = subst (AreSound c) (sym none) (record { met = λ n s at. absurd (none-some s at); good = λ n s at. absurd (none-some s at) })
-
-pub none_is_marked : (marks : List Bool) (n : ℕ) {A : Type 0} → marks ≡ [] → IsTrue (is_marked marks n) → A
-none_is_marked marks n {A} none marked = absurd (true-false (is_marked marks n) marked (subst (λ (xs : List Bool). is_marked xs n ≡ false) (sym none) refl))
-
-pub marked_below : (old new : List Bool) (k : ℕ) → ((n : ℕ) → IsTrue (is_marked old n) → n < k) → IsMarkedToo old new k → (n : ℕ) → IsTrue (is_marked new n) → n < k + 1
-marked_below old new k below too n marked = elim ((too n).0 marked) [
-  | inl same ↦ omega (arith, same)
-  | inr before ↦ (let lt = below n before in omega (arith, lt))
-]

@@ -1,8 +1,9 @@
 //! Whose a state is.
 
-ghost use Rattle.std.specs.Prelude.{◌≡◌, ◌<◌};
+ghost use Rattle.std.specs.Prelude.{◌≡◌, ◌<◌, IfOk, map};
 ghost use Rattle.tso_regions.specs.Owners.{owner_of, residue_of, with_call, with_calls, with_word, word_of_kind};
 
+use std::alloc::{AllocError, Global};
 use tso_hist::{Call, History};
 use tso_list::Seq;
 use tso_prog::CallKind;
@@ -57,4 +58,17 @@ pub fn owner_of(history: &History, count: u64) -> u64
     ensures below { result < count }
 {
     residue_of(history) % 1_000_003 % count
+}
+
+/// The owners, of so many, of states with these histories.
+///
+/// Errors: where a growth was refused.
+pub fn owners_of(alloc: Global, histories: &[History], count: u64) -> Result<Vec<u64>, AllocError>
+    requires { 0 < count }
+    ensures { IfOk result (λ owners. owners.items ≡ map (owner_of count) histories.now) }
+{
+    histories
+        .iter()
+        .map(|history| owner_of(history, count))
+        .collect(alloc)
 }

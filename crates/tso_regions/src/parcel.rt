@@ -8,8 +8,9 @@ ghost use Rattle.tso_state.specs.declared.state.State.{State as StateValue};
 ghost use Rattle.tso_keys.specs.Keys.{FitsClient};
 
 use crate::halt::Halt;
+use crate::owner::owners_of;
 use crate::realm::Realm;
-use std::alloc::Global;
+use std::alloc::{AllocError, Global};
 use std::marker::{Model, PhantomData};
 use tso_flow::Checked;
 use tso_keys::View;
@@ -74,8 +75,8 @@ fn keep_all(store: &mut Store<'_>, from: &Store<'_>, numbers: &[u32]) -> Result<
     Ok(())
 }
 
-/// How many states there are, as far as numbers go.
-pub fn count_of(store: &Store<'_>) -> u32
+// How many states there are, as far as numbers go.
+fn count_of(store: &Store<'_>) -> u32
     ensures { length store.now.states < 2 ^ 32 → result ≡ length store.now.states }
 {
     u32::try_from(store.len()).unwrap_or(u32::MAX)
@@ -88,6 +89,18 @@ impl<'a, U: Realm> Parcel<'a, U> {
         ensures { result ≡ [] }
     {
         let store = Store::new(alloc, checked, 0);
+        Parcel {
+            store,
+            realm: PhantomData,
+        }
+    }
+
+    /// The states of a store.
+    pub fn of(store: Store<'a>) -> Self
+        requires client { U.client ≡ Some store.client }
+        requires sound { AreSound store.client store.states }
+        ensures { result ≡ store.entry.states }
+    {
         Parcel {
             store,
             realm: PhantomData,
@@ -118,5 +131,21 @@ impl<'a, U: Realm> Parcel<'a, U> {
         ensures sound { IfSome result (λ s. (c : Client) → U.client ≡ Some c → IsSound c s) }
     {
         self.store.view(number)
+    }
+
+    /// The owners, of so many, of states with its histories, by the numbers of these.
+    ///
+    /// Errors: where a growth was refused.
+    pub fn owners(&self, alloc: Global, count: u64) -> Result<Vec<u64>, AllocError>
+        requires { 0 < count }
+    {
+        let (parts, _) = self.store.keyed_parts();
+        owners_of(alloc, parts.histories.values(), count)
+    }
+
+    /// The owner of a state, where these are those of its histories. Nothing rests on it.
+    pub fn owner_at(&self, owners: &[u64], number: u32) -> Option<u64> {
+        let history = self.store.key(number).history;
+        owners.get(history as usize).copied()
     }
 }

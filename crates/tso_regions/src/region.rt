@@ -12,7 +12,7 @@ ghost use Rattle.tso_search.specs.Searched.{AreDone};
 use crate::agenda::Agenda;
 use crate::halt::Halt;
 use crate::owner::owner_of;
-use crate::parcel::{Parcel, count_of, keep};
+use crate::parcel::{Parcel, keep};
 use crate::realm::Realm;
 use crate::stepping::work;
 use std::alloc::{AllocError, Global};
@@ -43,6 +43,7 @@ pub struct Region<'a, U: Realm> {
     judged: Judged,
     agenda: Agenda,
     halt: Option<Halt>,
+    is_begun: bool,
     realm: PhantomData<U>,
 }
 
@@ -215,44 +216,35 @@ fn take_all<U: Realm>(
     Ok(())
 }
 
-// Lists all states of a store: those of this owner, of which the first so many are worked, and those of others.
-fn place_first(
-    store: &Store<'_>,
+// Keeps those states of a parcel that are of this owner.
+fn take_own<U: Realm>(
+    alloc: Global,
+    store: &mut Store<'_>,
     agenda: &mut Agenda,
     own: &mut Vec<u32>,
     owner: Owner,
-    marks: &Marks,
-) -> Result<(), AllocError> {
-    for number in 0..count_of(store) {
-        let other = owner_at(store, owner.count, number);
-        if other != owner.number {
-            agenda.send(number, other)?;
-        } else {
-            own.push(number)?;
-            if !marks.has(number) {
-                agenda.put_off(number)?;
-            }
+    parcel: &Parcel<'_, U>,
+) -> Result<(), Halt>
+    requires realm { U.client ≡ Some store.old.client }
+    requires sound { AreSound store.old.client store.old.states }
+    ensures sound { AreSound store.new.client store.new.states }
+    ensures stays { Extends store.old.states store.new.states }
+    ensures client { store.new.client ≡ store.old.client }
+{
+    if owner.count == 0 {
+        return Ok(());
+    }
+    let owners = parcel.owners(alloc, owner.count)?;
+    for number in 0..parcel.count() {
+        if parcel.owner_at(owners.as_slice(), number) == Some(owner.number) {
+            take(store, agenda, own, parcel, number)?;
         }
     }
     Ok(())
 }
 
-// What a region begins with beside its states.
-fn begun(
-    alloc: Global,
-    owner: Owner,
-    store: &Store<'_>,
-    marks: &Marks,
-) -> Result<(Judged, Agenda, Vec<u32>), AllocError> {
-    let judged = Judged::new(alloc)?;
-    let mut agenda = Agenda::new(alloc, owner.count)?;
-    let mut own = Vec::new(alloc);
-    place_first(store, &mut agenda, &mut own, owner, marks)?;
-    Ok((judged, agenda, own))
-}
-
 impl<'a, U: Realm> Region<'a, U> {
-    /// The region of this owner, which begins with these states, of which the marked ones are worked.
+    /// The region of this owner, without states.
     ///
     /// Errors: where a growth was refused.
     pub fn new(
@@ -260,38 +252,54 @@ impl<'a, U: Realm> Region<'a, U> {
         checked: &'a Checked,
         table: &'a Table,
         owner: Owner,
-        store: Store<'a>,
-        marks: Marks,
     ) -> Result<Self, AllocError>
         requires client { U.client ≡ Some checked.now.client }
         requires table { U.table ≡ Some table.now }
-        requires store { store.client ≡ checked.now.client }
-        requires sound { AreSound checked.now.client store.states }
-        requires done { AreDone checked.now.client table.now store.states marks }
         ensures number { IfOk result (λ r. r.number ≡ owner.number) }
         ensures count { IfOk result (λ r. r.count ≡ owner.count) }
-        ensures states { IfOk result (λ r. r.states ≡ store.entry.states) }
-        ensures marks { IfOk result (λ r. r.marks ≡ marks) }
+        ensures states { IfOk result (λ r. r.states ≡ []) }
+        ensures marks { IfOk result (λ r. r.marks ≡ []) }
+        ensures own { IfOk result (λ r. r.own ≡ []) }
     {
-        let begun = begun(alloc, owner, &store, &marks);
-        match begun {
-            Ok((judged, agenda, own)) => Ok(Region {
-                checked,
-                table,
-                owner,
-                store,
-                marks,
-                own,
-                judged,
-                agenda,
-                halt: None,
-                realm: PhantomData,
-            }),
-            Err(reason) => {
-                drop(store);
-                drop(marks);
-                Err(reason)
-            }
+        let judged = Judged::new(alloc)?;
+        let agenda = Agenda::new(alloc, owner.count)?;
+        Ok(Region {
+            checked,
+            table,
+            owner,
+            store: Store::new(alloc, checked, 0),
+            marks: Marks::new(alloc),
+            own: Vec::new(alloc),
+            judged,
+            agenda,
+            halt: None,
+            is_begun: false,
+            realm: PhantomData,
+        })
+    }
+
+    /// Takes those of the first states that are its own, if it has not yet. Where it cannot, it does nothing more.
+    ///
+    /// All are worked here, those too that the caller has worked.
+    pub fn begin(&mut self, alloc: Global, first: &Parcel<'_, U>)
+        ensures number { self.new.number ≡ self.old.number }
+        ensures count { self.new.count ≡ self.old.count }
+        ensures marks { self.new.marks ≡ self.old.marks }
+    {
+        if self.is_begun || self.halt.is_some() {
+            return;
+        }
+        self.is_begun = true;
+        let taken = take_own(
+            alloc,
+            &mut self.store,
+            &mut self.agenda,
+            &mut self.own,
+            self.owner,
+            first,
+        );
+        if let Err(halt) = taken {
+            self.halt = Some(halt);
         }
     }
 
@@ -437,6 +445,7 @@ impl<'a, U: Realm> Region<'a, U> {
             judged,
             agenda,
             halt: _halt,
+            is_begun: _is_begun,
             realm: _realm,
         } = self;
         drop(marks);

@@ -1,11 +1,10 @@
 //! The search by regions.
 
-ghost use Rattle.std.specs.Prelude.{◌≡◌, ◌<◌, ◌≤◌, ℕ, IfOk, IfSome, IsTrue, Some, length, true};
+ghost use Rattle.std.specs.Prelude.{◌≡◌, ◌≤◌, IfOk, IfSome, Some, length, true};
 ghost use Rattle.tso_parts.specs.Numbers.{IsNumbered};
-ghost use Rattle.tso_regions.specs.Gathering.{AreAllTaken, AreSettledBetween, IsBegunAt};
+ghost use Rattle.tso_regions.specs.Gathering.{AreSettledBetween, IsBegunAt};
 ghost use Rattle.tso_regions.specs.Regions.{AreSound};
-ghost use Rattle.tso_search.specs.Marking.{is_marked};
-ghost use Rattle.tso_search.specs.Searched.{AreDone, AreSearched, IsDone};
+ghost use Rattle.tso_search.specs.Searched.{AreSearched};
 
 use crate::gathering::gathered_of;
 use crate::parcel::Parcel;
@@ -21,68 +20,26 @@ use std::thread::Threads;
 use tso_cert::{Watch, run_by};
 use tso_flow::Checked;
 use tso_foot::Table;
-use tso_search::Marks;
 use tso_state::initial_state;
 use tso_store::{Gathered, Store};
 
-// A region without states.
-fn empty_region<'a, U: Realm>(
-    alloc: Global,
-    checked: &'a Checked,
-    table: &'a Table,
-    owner: Owner,
-) -> Result<Region<'a, U>, AllocError>
-    requires client { U.client ≡ Some checked.now.client }
-    requires table { U.table ≡ Some table.now }
-{
-    let store = Store::new(alloc, checked, 0);
-    let marks = Marks::new(alloc);
-    Region::new(alloc, checked, table, owner, store, marks)
-}
-
-// So many regions, of which the first begins with these states.
+// So many regions, none of which has begun, each behind its lock.
 fn regions_of<'a, U: Realm>(
     alloc: Global,
     checked: &'a Checked,
     table: &'a Table,
-    first: Store<'a>,
-    marks: Marks,
     count: u64,
-) -> Result<Vec<Region<'a, U>>, AllocError>
+) -> Result<Vec<Mutex<Region<'a, U>>>, AllocError>
     requires client { U.client ≡ Some checked.now.client }
     requires table { U.table ≡ Some table.now }
-    requires store { first.client ≡ checked.now.client }
-    requires sound { AreSound checked.now.client first.states }
-    requires done { AreDone checked.now.client table.now first.states marks }
 {
     let mut regions = Vec::new(alloc);
-    let owner = Owner { number: 0, count };
-    let region = Region::new(alloc, checked, table, owner, first, marks)?;
-    regions.push(region)?;
-    for number in 1..count {
+    for number in 0..count {
         let owner = Owner { number, count };
-        regions.push(empty_region(alloc, checked, table, owner)?)?;
+        let region = Region::new(alloc, checked, table, owner)?;
+        regions.push(Mutex::new(region))?;
     }
     Ok(regions)
-}
-
-// How many states are listed by their owners.
-fn own_count<U: Realm>(regions: &[Region<'_, U>]) -> u64 {
-    regions.iter().fold(0u64, |count, region| {
-        count.saturating_add(region.own_count() as u64)
-    })
-}
-
-// A lock for each region.
-fn locked<'a, U: Realm>(
-    alloc: Global,
-    regions: Vec<Region<'a, U>>,
-) -> Result<Vec<Mutex<Region<'a, U>>>, AllocError> {
-    let mut locks = Vec::new(alloc);
-    for region in regions {
-        locks.push(Mutex::new(region))?;
-    }
-    Ok(locks)
 }
 
 // The regions without their locks.
@@ -112,13 +69,13 @@ fn parcels_for<'a, U: Realm>(
     Ok(parcels)
 }
 
-// Lets the workers work regions, which list so many states, until no state is left to work: whether it came to that.
+// Lets the workers work regions, from the first states on, until no state is left to work: whether it came to that.
 fn go_on<'a, U: Realm + Send + Sync, R: Threads + Wait + Sync, W: Watch + Sync>(
     rt: &R,
     alloc: Global,
     checked: &'a Checked,
+    first: &Parcel<'_, U>,
     regions: &[Mutex<Region<'a, U>>],
-    own: u64,
     workers: u64,
     limit: u32,
     watch: &W,
@@ -127,12 +84,13 @@ fn go_on<'a, U: Realm + Send + Sync, R: Threads + Wait + Sync, W: Watch + Sync>(
 {
     let count = regions.len() as u64;
     let parcels = parcels_for(alloc, checked, count)?;
-    let pile = Mutex::new(Pile::new(alloc, count, own)?);
+    let pile = Mutex::new(Pile::new(alloc, count, first.count() as u64)?);
     let woken = Condvar::new();
     let team = Team {
         rt,
         alloc,
         checked,
+        first,
         regions,
         parcels: parcels.as_slice(),
         pile: &pile,
@@ -239,15 +197,26 @@ fn finished<'c>(gathered: Gathered<'c>, limit: u32) -> Result<Option<Store<'c>>,
     }
 }
 
-// Marks the states with numbers below this one.
-fn marked(alloc: Global, worked: u32) -> Result<Marks, AllocError>
-    ensures { IfOk result (λ marks. (n : ℕ) → IsTrue (is_marked marks n) → n < worked) }
+// The regions in which all is worked that comes of the first states, if it came to that.
+fn worked_regions<'a, U: Realm + Send + Sync, R: Threads + Wait + Sync, W: Watch + Sync>(
+    rt: &R,
+    alloc: Global,
+    checked: &'a Checked,
+    table: &'a Table,
+    first: &Parcel<'_, U>,
+    workers: u64,
+    limit: u32,
+    watch: &W,
+) -> Result<Option<Vec<Region<'a, U>>>, AllocError>
+    requires client { U.client ≡ Some checked.now.client }
+    requires table { U.table ≡ Some table.now }
 {
-    let mut marks = Marks::new(alloc);
-    for number in 0..worked {
-        marks.mark(number)?;
+    let locks = regions_of(alloc, checked, table, workers)?;
+    let regions = locks.as_slice();
+    if go_on(rt, alloc, checked, first, regions, workers, limit, watch)? {
+        return Ok(Some(unlocked(alloc, locks)?));
     }
-    Ok(marks)
+    Ok(None)
 }
 
 // What a search by regions finds, where the realm is this.
@@ -257,7 +226,6 @@ fn run_as<'c, U: Realm + Send + Sync, R: Threads + Wait + Sync, W: Watch + Sync>
     checked: &'c Checked,
     table: &Table,
     first: Store<'c>,
-    worked: u32,
     workers: u64,
     limit: u32,
     watch: &W,
@@ -268,34 +236,22 @@ fn run_as<'c, U: Realm + Send + Sync, R: Threads + Wait + Sync, W: Watch + Sync>
     requires limit { limit ≤ 4194304 }
     requires client { first.client ≡ checked.now.client }
     requires sound { AreSound checked.now.client first.states }
-    requires worked { (n : ℕ) → n < worked → IsDone checked.now.client table.now first.states n }
     ensures client { IfOk result (λ found. IfSome found (λ store. store.client ≡ checked.now.client)) }
     ensures searched { IfOk result (λ found. IfSome found (λ store. AreSearched checked.now.client table.now store.states)) }
     ensures few { IfOk result (λ found. IfSome found (λ store. length store.states ≤ limit)) }
 {
-    let marks = marked(alloc, worked)?;
-    let made = regions_of::<U>(alloc, checked, table, first, marks, workers)?;
-    let own = own_count(made.as_slice());
-    let locks = locked(alloc, made)?;
-    if !go_on(
-        rt,
-        alloc,
-        checked,
-        locks.as_slice(),
-        own,
-        workers,
-        limit,
-        watch,
-    )? {
-        return Ok(None);
+    let first = Parcel::<U>::of(first);
+    let worked = worked_regions(rt, alloc, checked, table, &first, workers, limit, watch);
+    drop(first);
+    match worked? {
+        Some(regions) => concluded(rt, alloc, checked, table, regions, workers, limit),
+        None => Ok(None),
     }
-    let regions = unlocked(alloc, locks)?;
-    concluded(rt, alloc, checked, table, regions, workers, limit)
 }
 
-/// Lets so many workers, from 1 to 64, search on from states of which those with numbers below one are worked: all states that there are
-/// then, each worked, in one store that is read by their numbers. Each state belongs to one of as many regions, which its
-/// history tells, and is worked there alone. A worker takes a region that has something to do, works some of its states, what was met last
+/// Lets so many workers, from 1 to 64, search on from the first states: all states that there are then, each worked, in one store that is
+/// read by their numbers. Each state belongs to one of as many regions, which its history tells, and is worked there alone; a region
+/// begins with those of the first states that belong to it. A worker takes a region that has something to do, works some of its states, what was met last
 /// first, and hands on what belongs to others. `None` where a run is met that is not good, where there are more states than the limit, or
 /// where there are too many for numbers: that tells nothing.
 ///
@@ -306,7 +262,6 @@ pub fn by_regions<'c, R: Threads + Wait + Sync, W: Watch + Sync>(
     checked: &'c Checked,
     table: &Table,
     first: Store<'c>,
-    worked: u32,
     workers: u64,
     limit: u32,
     watch: &W,
@@ -315,12 +270,9 @@ pub fn by_regions<'c, R: Threads + Wait + Sync, W: Watch + Sync>(
     requires limit { limit ≤ 4194304 }
     requires client { first.client ≡ checked.now.client }
     requires sound { AreSound checked.now.client first.states }
-    requires worked { (n : ℕ) → n < worked → IsDone checked.now.client table.now first.states n }
     ensures client { IfOk result (λ found. IfSome found (λ store. store.client ≡ checked.now.client)) }
     ensures searched { IfOk result (λ found. IfSome found (λ store. AreSearched checked.now.client table.now store.states)) }
     ensures few { IfOk result (λ found. IfSome found (λ store. length store.states ≤ limit)) }
 {
-    run_as::<Brand, R, W>(
-        rt, alloc, checked, table, first, worked, workers, limit, watch,
-    )
+    run_as::<Brand, R, W>(rt, alloc, checked, table, first, workers, limit, watch)
 }

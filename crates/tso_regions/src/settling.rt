@@ -1,18 +1,16 @@
 //! Whether regions have all that they lead to, and have worked it.
 
-ghost use Rattle.std.specs.Prelude.{◌≡◌, ◌<◌, ℕ, IfOk, IsTrue, Some, true, length, map, slice_get};
+ghost use Rattle.std.specs.Prelude.{◌≡◌, ◌<◌, ℕ, IfOk, IsTrue, Some, true, slice_get};
 ghost use Rattle.tso_parts.specs.Numbers.{IsNowhere};
 ghost use Rattle.tso_regions.specs.Gathering.{AreOwners, AreSettledBetween, CanBeAsked, IsHeldAbroad, IsNextOwn, IsSettled};
-ghost use Rattle.tso_regions.specs.Owners.{owner_of};
 ghost use Rattle.tso_regions.specs.declared.settling.Standing.TheVariants as standings;
 ghost use Rattle.tso_search.specs.Marking.{is_marked};
 
-use crate::owner::owner_of;
+use crate::owner::owners_of;
 use crate::realm::Realm;
 use crate::region::Region;
 use std::alloc::{AllocError, Global};
 use tso_cert::Task;
-use tso_hist::History;
 use tso_keys::{Key, View};
 use tso_parts::Pool;
 
@@ -25,17 +23,6 @@ enum Standing {
     Held,
     // None of these.
     Open,
-}
-
-// The owners, of so many, of states with these histories.
-fn owners_of(alloc: Global, histories: &[History], count: u64) -> Result<Vec<u64>, AllocError>
-    requires { 0 < count }
-    ensures { IfOk result (λ owners. owners.items ≡ map (owner_of count) histories.now) }
-{
-    histories
-        .iter()
-        .map(|history| owner_of(history, count))
-        .collect(alloc)
 }
 
 // How state `number` of the region of owner `place` stands, where so many of its own come before; the owner of each history is known.

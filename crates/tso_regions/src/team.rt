@@ -18,13 +18,14 @@ use tso_flow::Checked;
 /// How many states a region works before it hands on what belongs to others.
 const TURNS: u32 = 4_096;
 
-/// What the workers of one search share: the regions, for each the parcel of states that come to it, and the pile of those that have something to
+/// What the workers of one search share: the first states, the regions, for each the parcel of states that come to it, and the pile of those that have something to
 /// do. Whoever holds the lock of a region takes locks of parcels and then the pile's; who holds one of these takes no other.
 #[derive(Drop)]
 pub struct Team<'t, 'a, U: Realm, R: Wait, W: Watch> {
     pub rt: &'t R,
     pub alloc: Global,
     pub checked: &'a Checked,
+    pub first: &'t Parcel<'t, U>,
     pub regions: &'t [Mutex<Region<'a, U>>],
     pub parcels: &'t [Mutex<Parcel<'a, U>>],
     pub pile: &'t Mutex<Pile>,
@@ -114,6 +115,7 @@ fn turn<'a, U: Realm, R: Wait, W: Watch>(team: &Team<'_, 'a, U, R, W>, number: u
         return;
     };
     let mut region = lock.lock(team.rt);
+    region.begin(team.alloc, team.first);
     let before = region.own_count();
     receive(team, number, &mut *region);
     region.turn(team.alloc, TURNS);

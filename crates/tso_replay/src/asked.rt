@@ -1,5 +1,7 @@
 //! What a replay is asked to show.
 
+ghost use Rattle.std.specs.Prelude.{◌≡◌, ◌||◌, not};
+
 use clap::ArgMatches;
 use std::alloc::Global;
 use tso_front::{Failure, JSON, Variant, Word, read_apart, variant_of, written_apart};
@@ -29,7 +31,9 @@ pub struct Replay<'a> {
 
 impl Replay<'_> {
     /// Whether nothing is printed beyond labels, the state and what is wrong.
-    pub fn is_plain(&self) -> bool {
+    pub fn is_plain(&self) -> bool
+        ensures { result ≡ not (self.now.show.source || self.now.show.registers || self.now.show.buffers || self.now.brief || self.now.history) }
+    {
         let Show {
             source,
             registers,

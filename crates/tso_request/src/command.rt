@@ -1,5 +1,8 @@
 //! The words of the command line.
 
+ghost use Rattle.std.specs.Prelude.{◌≡◌, ◌↔◌, ◌⊎◌, IsTrue, Some, option_map};
+ghost use Rattle.tso_front.specs.declared.files.TheConstants.{STREAM as stream};
+
 use crate::coverage::{Covering, coverage_command, covering_of};
 use crate::fences::{FenceSearch, fence_search_of, fences_command};
 use crate::form::{Form, form_argument, form_of};
@@ -42,7 +45,9 @@ pub struct Search<'a> {
 
 impl Search<'_> {
     /// Whether a file that it may write is standard output.
-    pub fn is_piped(&self) -> bool {
+    pub fn is_piped(&self) -> bool
+        ensures { IsTrue result ↔ ((option_map (λ p. p.now) self.now.cert ≡ Some stream.now) ⊎ (option_map (λ p. p.now) self.now.trace ≡ Some stream.now)) }
+    {
         self.cert == Some(STREAM) || self.trace == Some(STREAM)
     }
 }

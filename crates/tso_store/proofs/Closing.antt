@@ -12,7 +12,7 @@ use Rattle.tso_store.specs.Remembered.{AreKnown}
 use Rattle.tso_keys.specs.Running.{AreRunning}
 use Rattle.tso_store.specs.Sheets.{IsSheet}
 use Rattle.tso_store.proofs.Recalls.{known_grows}
-use Rattle.tso_keys.proofs.FoundLemmas.{still_running}
+use Rattle.tso_keys.proofs.Procedures.{running_grows}
 use Rattle.tso_keys.proofs.StateLemmas.{added_kept, kept_stay}
 
 pub sheet_grows : (c : Client) (old new : Parts) (ks : List Key) (ds es : List Known) (rs ts : List Running) → IsSheet c old ks ds rs → Grows old new → AreKnown c new.threads es → AreRunning new.histories ts → IsSheet c new ks es ts
@@ -26,7 +26,7 @@ still_known c old new ds grows known = known_grows c old.threads new.threads ds 
 
 -- the same where nothing more is known than before
 pub sheet_stays : (c : Client) (old new : Parts) (ks : List Key) (ds : List Known) (rs : List Running) → IsSheet c old ks ds rs → Grows old new → IsSheet c new ks ds rs
-sheet_stays c old new ks ds rs sheet grows = sheet_grows c old new ks ds ds rs rs sheet grows (still_known c old new ds grows sheet.recalls) (still_running old new rs grows sheet.running)
+sheet_stays c old new ks ds rs sheet grows = sheet_grows c old new ks ds ds rs rs sheet grows (still_known c old new ds grows sheet.recalls) (running_grows old.histories new.histories rs grows.histories sheet.running)
 
 pub sheet_with : (c : Client) (old new : Parts) (ks after : List Key) (ds : List Known) (rs : List Running) (k : Key) (s : State) (b : Bool) → IsSheet c old ks ds rs → Grows old new → IsKeyOf new k s → FitsClient c s → after ≡ grown ks k b → IsSheet c new after ds rs
-sheet_with c old new ks after ds rs k s b sheet grows is fits e = sheet_added c old new ks after ds ds rs rs k s b sheet grows (still_known c old new ds grows sheet.recalls) (still_running old new rs grows sheet.running) is fits e
+sheet_with c old new ks after ds rs k s b sheet grows is fits e = sheet_added c old new ks after ds ds rs rs k s b sheet grows (still_known c old new ds grows sheet.recalls) (running_grows old.histories new.histories rs grows.histories sheet.running) is fits e

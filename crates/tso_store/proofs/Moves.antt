@@ -11,8 +11,8 @@ use Rattle.tso_store.specs.declared.known.Known.{Known}
 use Rattle.tso_keys.specs.declared.running.Running.{Running}
 use Rattle.tso_keys.specs.declared.moved.PartNumbers.{PartNumbers}
 use Rattle.tso_keys.specs.declared.parts.Parts.{Parts}
-use Rattle.tso_keys.proofs.FoundLemmas.{still_running}
 use Rattle.tso_store.proofs.Closing.{still_known}
+use Rattle.tso_keys.proofs.Procedures.{running_grows}
 use Rattle.tso_keys.proofs.Moves.{IsMove, kept_after, within_none}
 use Rattle.tso_keys.proofs.StateLemmas.{states_stay}
 
@@ -24,7 +24,7 @@ move_of c d old new others ks ls r ds es rs ts sheet other same grows numbers =
 
 pub sheet_moved : (c : Client) (old new others : Parts) (ks ls after : List Key) (r : PartNumbers) (ds : List Known) (rs : List Running) → IsSheet c old ks ds rs → IsMove c old new others ks ls r → IsWithinUnion ks (map (moved_key r) ls) after → IsSheet c new after ds rs
 sheet_moved c old new others ks ls after r ds rs sheet move within =
-    record { kept = kept_after c old new others ks ls after r move within; small = move.small; recalls = still_known c old new ds move.grows sheet.recalls; running = still_running old new rs move.grows sheet.running }
+    record { kept = kept_after c old new others ks ls after r move within; small = move.small; recalls = still_known c old new ds move.grows sheet.recalls; running = running_grows old.histories new.histories rs move.grows.histories sheet.running }
 
 -- where only parts have come
 pub states_same : (c : Client) (old new : Parts) (ks : List Key) (ds : List Known) (rs : List Running) (others : List State) → IsSheet c old ks ds rs → Grows old new → IsWithinUnion (states_at old ks) others (states_at new ks)

@@ -150,7 +150,7 @@ pub fn next_thread(
     ensures more { length threads.new ≤ length threads.old + 1 }
     ensures full { result ≡ Err reasons.Full → 4294967295 ≤ length threads.new }
 {
-    if let Some(found) = find_thread(threads, number, motion, word) {
+    if let Some(found) = find_thread(threads, number, motion, word, NONE) {
         return Ok(found);
     }
     let Some(thread) = threads.get(number) else {
@@ -321,7 +321,7 @@ fn learn_run(
     if !is_own(motion) {
         return remember_run(client, threads, known, procedure, number, Run::Does(motion));
     }
-    match find_thread(threads, number, motion, 0) {
+    match find_thread(threads, number, motion, 0, NONE) {
         Some(next) => remember_run(client, threads, known, procedure, number, Run::Leaves(next)),
         None => Ok(()),
     }

@@ -20,7 +20,7 @@ use std::alloc::{AllocError, Global};
 use std::marker::Model;
 use tso_flow::Checked;
 use tso_keys::{
-    Forms, Key, Parts, Running, Standings, View, add_keys, add_parts, copy_of, find_key,
+    Forms, Key, NO_KEY, Parts, Running, Standings, View, add_keys, add_parts, copy_of, find_key,
     find_view_key, fits_client, forms_of, key_at, key_of, key_of_view, key_or_none, learn_running,
     number_risen, standings_of, view_fits_client,
 };
@@ -305,6 +305,7 @@ impl<'a> Store<'a> {
             &self.keys,
             number,
             actor,
+            &NO_KEY,
         ) {
             Sought::Disabled => Found::Disabled,
             Sought::Absent => Found::Absent,
@@ -316,7 +317,7 @@ impl<'a> Store<'a> {
     }
 
     /// The same in a store whose states rise, which needs no index of them: the state is looked for first at the number `near` and
-    /// the next ones, which need not be those of states, and then by halves.
+    /// the next ones, which need not be those of states, and then by halves; its parts first where state `near` has them.
     pub fn find_risen_successor(&self, number: u32, actor: Actor, near: u32) -> Found
         requires rising { IsRising self.now.states }
         ensures { IsFound self.now.client self.now.states number actor result }
@@ -332,6 +333,7 @@ impl<'a> Store<'a> {
             &self.keys,
             number,
             actor,
+            &self.key(near),
         ) {
             Sought::Disabled => Found::Disabled,
             Sought::Absent => Found::Absent,

@@ -12,7 +12,7 @@ use crate::known::{Known, known_drain, known_run};
 use crate::lookup::{find_history, find_memory, find_thread};
 use crate::stepped::{own_number, plan, with_thread, word_at, written_at};
 use tso_compact::Motion;
-use tso_keys::{Key, Parts, Running, key_at, procedure_at};
+use tso_keys::{Key, Parts, Running, key_at, number_at, procedure_at};
 use tso_list::Seq;
 use tso_parts::{Catalog, Pool};
 use tso_prog::Client;
@@ -48,6 +48,7 @@ fn find_moved(
     number: u32,
     motion: Motion,
     word: u64,
+    near: u32,
 ) -> Option<u32>
     requires known { AreKnown client.now threads.now known.now }
     requires fits { FitsAt threads.now number motion }
@@ -58,7 +59,7 @@ fn find_moved(
             return Some(next);
         }
     }
-    find_thread(threads, number, motion, word)
+    find_thread(threads, number, motion, word, near)
 }
 
 // The key of the state after this step, if its parts are kept.
@@ -70,6 +71,7 @@ fn find_by_motion(
     actor: Actor,
     own: u32,
     motion: Motion,
+    near: &Key,
 ) -> Option<Key>
     requires kept { IsKept client.now parts.now key.now }
     requires small { length parts.now.threads < 2 ^ 32 }
@@ -80,10 +82,12 @@ fn find_by_motion(
 {
     let word = word_at(&parts.memories, key.memory, motion);
     let entry = written_at(&parts.threads, own, motion, word);
-    let memory = find_memory(&parts.memories, key.memory, entry)?;
-    let history = find_history(&parts.histories, key.history, actor.thread(), motion)?;
-    let number = find_moved(client, &parts.threads, known, own, motion, word)?;
-    let next = with_thread(key, actor.thread(), number);
+    let thread = actor.thread();
+    let memory = find_memory(&parts.memories, key.memory, entry, near.memory)?;
+    let history = find_history(&parts.histories, key.history, thread, motion, near.history)?;
+    let place = number_at(&near.threads, thread);
+    let number = find_moved(client, &parts.threads, known, own, motion, word, place)?;
+    let next = with_thread(key, thread, number);
     let threads = next.threads;
     Some(Key {
         memory,
@@ -101,6 +105,7 @@ fn find_by_plan(
     key: &Key,
     actor: Actor,
     own: u32,
+    near: &Key,
 ) -> Sought
     requires kept { IsKept client.now parts.now key.now }
     requires small { length parts.now.threads < 2 ^ 32 }
@@ -112,7 +117,7 @@ fn find_by_plan(
     let Some(motion) = plan(client, parts, known, running, key, actor, own) else {
         return Sought::Disabled;
     };
-    match find_by_motion(client, parts, known, key, actor, own, motion) {
+    match find_by_motion(client, parts, known, key, actor, own, motion, near) {
         Some(next) => Sought::At(next),
         None => Sought::Absent,
     }
@@ -151,6 +156,7 @@ fn find_core(
     key: &Key,
     thread: usize,
     own: u32,
+    near: &Key,
 ) -> Sought
     requires kept { IsKept client.now parts.now key.now }
     requires small { length parts.now.threads < 2 ^ 32 }
@@ -161,7 +167,16 @@ fn find_core(
 {
     match find_run(client, parts, known, running, key, thread, own) {
         Some(next) => Sought::At(next),
-        None => find_by_plan(client, parts, known, running, key, Actor::Exec(thread), own),
+        None => find_by_plan(
+            client,
+            parts,
+            known,
+            running,
+            key,
+            Actor::Exec(thread),
+            own,
+            near,
+        ),
     }
 }
 
@@ -173,6 +188,7 @@ fn find_step(
     running: &Seq<Running>,
     key: &Key,
     actor: Actor,
+    near: &Key,
 ) -> Sought
     requires kept { IsKept client.now parts.now key.now }
     requires small { length parts.now.threads < 2 ^ 32 }
@@ -184,12 +200,13 @@ fn find_step(
         return Sought::Disabled;
     };
     match actor {
-        Actor::Exec(thread) => find_core(client, parts, known, running, key, thread, own),
-        Actor::Drain(_) => find_by_plan(client, parts, known, running, key, actor, own),
+        Actor::Exec(thread) => find_core(client, parts, known, running, key, thread, own, near),
+        Actor::Drain(_) => find_by_plan(client, parts, known, running, key, actor, own, near),
     }
 }
 
 /// The key of the state after the actor's next step from the state with this number, if there is such a step and its parts are kept.
+/// Each part is looked for first at the number that `near` has for it, which need not be that of anything.
 pub fn find_from(
     client: &Client,
     parts: &Parts,
@@ -198,6 +215,7 @@ pub fn find_from(
     keys: &Pool<Key>,
     number: u32,
     actor: Actor,
+    near: &Key,
 ) -> Sought
     requires kept { AreKept client.now parts.now keys.now }
     requires small { length parts.now.threads < 2 ^ 32 }
@@ -206,7 +224,7 @@ pub fn find_from(
     ensures { IsSoughtFrom client.now parts.now keys.now number actor result }
 {
     match key_at(keys, number) {
-        Some(key) => find_step(client, parts, known, running, &key, actor),
+        Some(key) => find_step(client, parts, known, running, &key, actor, near),
         None => Sought::Disabled,
     }
 }

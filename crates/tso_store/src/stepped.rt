@@ -20,7 +20,7 @@ use crate::lookup::{find_history, find_memory};
 use std::alloc::Global;
 use tso_compact::{Motion, history_after, memory_with, planned, word_read, written};
 use tso_hist::History;
-use tso_keys::{Key, Parts, Running, View, procedure_at};
+use tso_keys::{Key, NONE, Parts, Running, View, procedure_at};
 use tso_list::Seq;
 use tso_machine::Entry;
 use tso_parts::{Catalog, Refused};
@@ -39,7 +39,7 @@ fn next_memory(
     ensures more { length memories.new ≤ length memories.old + 1 }
     ensures full { result ≡ Err reasons.Full → 4294967295 ≤ length memories.new }
 {
-    if let Some(found) = find_memory(memories, number, entry) {
+    if let Some(found) = find_memory(memories, number, entry, NONE) {
         return Ok(found);
     }
     let Some(memory) = memories.get(number) else {
@@ -63,7 +63,7 @@ fn next_history(
     ensures more { length histories.new ≤ length histories.old + 1 }
     ensures full { result ≡ Err reasons.Full → 4294967295 ≤ length histories.new }
 {
-    if let Some(found) = find_history(histories, number, thread, motion) {
+    if let Some(found) = find_history(histories, number, thread, motion, NONE) {
         return Ok(found);
     }
     let Some(history) = histories.get(number) else {

@@ -16,7 +16,7 @@ use Rattle.std.specs.declared.cmp.Ordering.{Ordering}
 use Rattle.std.specs.declared.cmp.Ordering.TheVariants.{Less, Equal, Greater}
 use Rattle.tso_cert.proofs.LookupLemmas.{is_there}
 use Rattle.tso_state.proofs.RisingLemmas.{total}
-use Rattle.tso_cert.specs.Lookup.{ForksSplit, tree_states}
+use Rattle.tso_cert.specs.Lookup.{tree_states}
 use Rattle.tso_state.specs.Rising.{IsAtMost, IsBelow, IsRising}
 use Rattle.tso_cert.specs.Trees.{IsWithin, IsWithinLimits, Tree, fork, leaf, record_count, records_of}
 use Rattle.tso_choose.proofs.ChoiceLemmas.{chosen_are_valid}

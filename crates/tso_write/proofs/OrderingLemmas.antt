@@ -1,5 +1,5 @@
 -- States in their order, group by group.
-use Rattle.std.proofs.Common.{arith, ◌≡◌, ◌∙◌, ℕ, zero, suc, ◌+◌, ◌<◌, ◌≤◌, ◌++◌, ◌∷◌, ◌⊎◌, inl, inr, Bool, false, get_or, set, List, [], Option, Some, length, map, refl, slice_get, slice_index_or, take, drop, sym, ap, subst}
+use Rattle.std.proofs.Common.{arith, ◌≡◌, ◌∙◌, ℕ, zero, suc, ◌+◌, ◌<◌, ◌≤◌, ◌++◌, ◌∷◌, ◌⊎◌, inl, inr, Bool, false, get_or, set, List, [], None, Option, Some, length, map, option_map, refl, slice_get, slice_index_or, take, drop, sym, ap, subst}
 use Rattle.std.proofs.Math.Seq.{take-suc}
 use Rattle.std.proofs.lemmas.Bool.Decides.{nat_tests}
 use Rattle.std.proofs.lemmas.Grind.{flat_map-append}
@@ -15,7 +15,7 @@ use Rattle.std.specs.declared.cmp.Ordering.{Ordering}
 use Rattle.std.specs.declared.cmp.Ordering.TheVariants.{Less, Equal, Greater}
 use Rattle.tso_cells.proofs.ListLemmas.{set_cases}
 use Rattle.tso_write.proofs.CuttingLemmas.{from_drop, from_take, got_either}
-use Rattle.tso_write.specs.Ordering.{AreAmong, AreGrouped, AreGroups, AreHalvesGrouped, AreNumbered, AreOrdered, ArePlaced, CanBeOrdered, IsAmong, IsAt, IsOrderedBehind, row_lt}
+use Rattle.tso_write.specs.Ordering.{AreAmong, AreGrouped, AreGroups, AreHalvesGrouped, AreNumbered, AreOrdered, ArePlaced, CanBeOrdered, IsAmong, IsOrderedBehind, IsRankedAt, row_lt}
 use Rattle.tso_write.specs.contracts.ordering.PlacedOrd.TheImpl as placed_impl
 use Rattle.tso_write.specs.declared.ordering.Placed.{Placed}
 use Rattle.tso_state.specs.Order.{state_cmp}
@@ -254,8 +254,8 @@ put_shuffles (g ∷ gs) (suc m) n d lt =
     subst (λ (l : List ℕ). IsPermutation l (g ++ flat_map (λ g. g) (set gs m (get_or gs m d ++ n ∷ [])))) (sym (append_assoc g F (n ∷ [])))
     (IsPermutation-append_right g (F ++ n ∷ []) _ (put_shuffles gs m n d (omega (arith, lt))))
 
-pub put_grouped : (rows : List Row) (row : Row) (n : ℕ) (old mid new : List (List ℕ)) (d : List ℕ) → row.memory < length mid → flat_map (λ g. g) mid ≡ flat_map (λ g. g) old → AreGroups rows 0 mid
-    → new ≡ set mid row.memory (get_or mid row.memory d ++ n ∷ []) → IsAt rows n row → AreGrouped rows n old → AreGrouped rows (n + 1) new
+put_grouped : (rows : List Row) (row : Row) (n : ℕ) (old mid new : List (List ℕ)) (d : List ℕ) → row.memory < length mid → flat_map (λ g. g) mid ≡ flat_map (λ g. g) old → AreGroups rows 0 mid
+    → new ≡ set mid row.memory (get_or mid row.memory d ++ n ∷ []) → slice_get rows n ≡ Some row → AreGrouped rows n old → AreGrouped rows (n + 1) new
 put_grouped rows row n old mid new d within same groups is at grouped =
     let m = row.memory in
     let g = get_or mid m d in record {
@@ -278,6 +278,17 @@ put_grouped rows row n old mid new d within same groups is at grouped =
         let these : AreAmong rows (0 + m) (0 + m + 1) (g ++ n ∷ []) = each_joined (IsAmong rows (0 + m) (0 + m + 1)) g (n ∷ []) (groups m g (slice_get-get_or mid m d within)) one in
         subst (λ (k : ℕ). AreAmong rows (0 + k) (0 + k + 1) h) (sym e.0) (subst (AreAmong rows (0 + m) (0 + m + 1)) (sym e.1) these)
     by i h (inr e) = groups i h e.1
+
+-- the row of this number is told by its rank
+pub put_ranked : (rows : List Row) (rank n : ℕ) (old mid new : List (List ℕ)) (d : List ℕ) → rank < length mid → flat_map (λ g. g) mid ≡ flat_map (λ g. g) old → AreGroups rows 0 mid
+    → new ≡ set mid rank (get_or mid rank d ++ n ∷ []) → IsRankedAt rows n rank → AreGrouped rows n old → AreGrouped rows (n + 1) new
+put_ranked rows rank n old mid new d within same groups is at grouped = by (slice_get rows n) refl at
+  where
+    by : (o : Option Row) → slice_get rows n ≡ o → option_map (λ (r : Row). r.memory) o ≡ Some rank → AreGrouped rows (n + 1) new
+    by None here e = absurd (none-some rank e)
+    by (Some row) here e =
+        let ranked : row.memory ≡ rank = same_Some row.memory rank e in
+        put_grouped rows row n old mid new d (subst (λ (m : ℕ). m < length mid) (sym ranked) within) same groups (subst (λ (m : ℕ). new ≡ set mid m (get_or mid m d ++ n ∷ [])) (sym ranked) is) here grouped
 
 -- ---- all states
 

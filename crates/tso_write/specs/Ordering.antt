@@ -1,5 +1,5 @@
 -- States in their order, by rows that are ordered as they are. Nothing here need be believed: it serves the code.
-use Rattle.std.specs.Prelude.{◌≡◌, ◌+◌, ◌<◌, ◌≤◌, ◌++◌, ◌^◌, ℕ, Bool, List, length, map, Some, slice_get}
+use Rattle.std.specs.Prelude.{◌≡◌, ◌+◌, ◌<◌, ◌≤◌, ◌++◌, ◌^◌, ℕ, Bool, List, length, map, Some, option_map, slice_get}
 use Rattle.std.specs.List.{flat_map}
 use Rattle.std.specs.List.Sorted.{IsPermutation, IsSortedBy}
 use Rattle.std.specs.Option.{option_cmp}
@@ -9,9 +9,9 @@ use Rattle.tso_keys.specs.Orders.{numbers_below}
 use Rattle.tso_keys.specs.contracts.rank_rows.RowOrd.TheImpl as row_impl
 use Rattle.tso_keys.specs.declared.rank_rows.Row.{Row}
 
--- this is the row with this number
-abbrev pub IsAt : List Row → ℕ → Row → Type 0
-IsAt rows n r = slice_get rows n ≡ Some r
+-- there is a row with this number, whose memory has this rank
+abbrev pub IsRankedAt : List Row → ℕ → ℕ → Type 0
+IsRankedAt rows n rank = option_map (λ r. r.memory) (slice_get rows n) ≡ Some rank
 
 -- there is a row with this number, and the rank of its memory lies between two
 pub record IsAmong (rows : List Row) (low high n : ℕ) : Type 0 where

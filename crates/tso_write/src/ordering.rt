@@ -2,7 +2,7 @@
 
 ghost use Rattle.std.specs.List.{flat_map};
 ghost use Rattle.std.specs.Prelude.{◌≡◌, ◌+◌, ◌<◌, ◌≤◌, ◌++◌, ℕ, List, IfOk, OnOk, length, map};
-ghost use Rattle.tso_write.specs.Ordering.{AreAmong, AreGrouped, AreGroups, AreNumbered, ArePlaced, IsAt, IsOrderedBehind};
+ghost use Rattle.tso_write.specs.Ordering.{AreAmong, AreGrouped, AreGroups, AreNumbered, ArePlaced, IsOrderedBehind, IsRankedAt};
 ghost use Rattle.tso_keys.specs.Orders.{IsRising};
 ghost use Rattle.tso_keys.specs.declared.rank_rows.Row.{Row as RowValue};
 
@@ -32,12 +32,12 @@ fn make_room(alloc: Global, groups: &mut Seq<Seq<u32>>, at: u32) -> Result<(), A
     Ok(())
 }
 
-// Puts the number of a state into the group of its memory.
-fn put(alloc: Global, groups: &mut Seq<Seq<u32>>, row: Row, number: u32) -> Result<(), AllocError>
-    ensures { OnOk result ((rows : List RowValue) → IsAt rows number row → AreGrouped rows number groups.old → AreGrouped rows (number + 1) groups.new) }
+// Puts the number of a state into the group of its memory, which has this rank.
+fn put(alloc: Global, groups: &mut Seq<Seq<u32>>, rank: u32, number: u32) -> Result<(), AllocError>
+    ensures { OnOk result ((rows : List RowValue) → IsRankedAt rows number rank → AreGrouped rows number groups.old → AreGrouped rows (number + 1) groups.new) }
 {
-    make_room(alloc, groups, row.memory)?;
-    groups.at_mut(row.memory as usize).push(number)?;
+    make_room(alloc, groups, rank)?;
+    groups.at_mut(rank as usize).push(number)?;
     Ok(())
 }
 
@@ -48,10 +48,10 @@ fn grouped(alloc: Global, standings: &Standings<'_>) -> Result<Seq<Seq<u32>>, Al
 {
     let mut groups = Seq::new(alloc);
     for number in 0..standings.len() as u32 {
-        let Some(row) = standings.get(number) else {
+        let Some(rank) = standings.memory(number) else {
             unreachable!()
         };
-        put(alloc, &mut groups, row, number)?;
+        put(alloc, &mut groups, rank, number)?;
     }
     Ok(groups)
 }

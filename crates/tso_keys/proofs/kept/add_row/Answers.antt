@@ -1,6 +1,6 @@
 use Rattle.std.proofs.Common.{◌∙◌, arith}
 use Rattle.std.proofs.lemmas.List.{length-set}
-use Rattle.tso_keys.proofs.FoundLemmas.{on_err}
+use Rattle.tso_parts.proofs.Outcomes.{on_err}
 use Rattle.tso_keys.proofs.Rows.{no_row, row_step, was_nowhere}
 use Rattle.tso_keys.proofs.kept.add_row.Goals as goal
 

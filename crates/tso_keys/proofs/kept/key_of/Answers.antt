@@ -1,5 +1,6 @@
 use Rattle.std.specs.List.{each_same}
-use Rattle.tso_keys.proofs.FoundLemmas.{no_history_key, no_memory_key, no_threads_key, on_err}
+use Rattle.tso_keys.proofs.FoundLemmas.{no_history_key, no_memory_key, no_threads_key}
+use Rattle.tso_parts.proofs.Outcomes.{on_err}
 use Rattle.tso_keys.proofs.kept.key_of.Goals as goal
 
 pub add_near-requires : goal.add_near-requires

@@ -1,7 +1,7 @@
 use Rattle.std.proofs.Common.{◌<◌, ◌∙◌, arith, length, sym}
 use Rattle.std.proofs.lemmas.List.{length-set}
 use Rattle.std.proofs.lemmas.Option.{get_or_from_slice_get}
-use Rattle.tso_keys.proofs.FoundLemmas.{on_err}
+use Rattle.tso_parts.proofs.Outcomes.{on_err}
 use Rattle.tso_keys.proofs.Rows.{no_row, row_step, was_nowhere}
 use Rattle.tso_keys.proofs.viewed_key.add_viewed.Goals as goal
 

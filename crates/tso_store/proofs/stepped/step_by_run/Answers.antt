@@ -1,5 +1,5 @@
 use Rattle.tso_keys.specs.declared.parts.Parts.{Parts}
-use Rattle.tso_keys.proofs.FoundLemmas.{on_err}
+use Rattle.tso_parts.proofs.Outcomes.{on_err}
 use Rattle.tso_store.proofs.Performed.{can_run, ran}
 use Rattle.tso_store.proofs.stepped.step_by_run.Goals as goal
 

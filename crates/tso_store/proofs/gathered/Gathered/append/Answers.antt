@@ -2,7 +2,7 @@ use Rattle.std.proofs.Common.{◌∙◌, ◌++◌, ap, map, sym}
 use Rattle.tso_store.specs.Gathering.{Gathering}
 use Rattle.tso_keys.specs.Keys.{states_at}
 use Rattle.tso_keys.specs.Moving.{moved_key}
-use Rattle.tso_keys.proofs.FoundLemmas.{on_err}
+use Rattle.tso_parts.proofs.Outcomes.{on_err}
 use Rattle.tso_store.proofs.Gatherings.{appended_kept, appended_states, gathered_grows, gathered_stay}
 use Rattle.tso_store.proofs.gathered.Gathered.append.Goals as goal
 

@@ -2,7 +2,7 @@ use Rattle.std.proofs.Common.{◌∙◌, ap, sym, subst, List}
 use Rattle.tso_state.specs.declared.state.State.{State}
 use Rattle.tso_store.specs.Gathering.{AreThere, Gathering}
 use Rattle.tso_keys.specs.Keys.{states_at}
-use Rattle.tso_keys.proofs.FoundLemmas.{on_err}
+use Rattle.tso_parts.proofs.Outcomes.{on_err}
 use Rattle.tso_store.proofs.Gatherings.{gathered_grows, gathered_kept, gathered_states, gathered_stay, gathering_move}
 use Rattle.tso_store.proofs.gathered.Gathered.take.Goals as goal
 

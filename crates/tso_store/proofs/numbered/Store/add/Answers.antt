@@ -1,6 +1,6 @@
 use Rattle.std.proofs.Common.{ap, arith, ◌∙◌}
 use Rattle.tso_keys.specs.Keys.{states_at}
-use Rattle.tso_keys.proofs.FoundLemmas.{on_err}
+use Rattle.tso_parts.proofs.Outcomes.{on_err}
 use Rattle.tso_store.proofs.Closing.{sheet_stays, sheet_with}
 use Rattle.tso_keys.proofs.StateLemmas.{kept_stay, no_key, no_misfit, no_state, states_stay}
 use Rattle.tso_store.proofs.Sheeted.{added}
