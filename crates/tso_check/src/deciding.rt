@@ -14,6 +14,7 @@ ghost use Rattle.tso_check.specs.declared.verdict.Verdict.TheVariants as verdict
 ghost use Rattle.tso_judge.specs.Valid.{IsValidCertificate};
 ghost use Rattle.tso_prog.specs.declared.client.Client.{Client};
 ghost use Rattle.tso_prog.specs.declared.fault.Fault.{Fault as AFault};
+ghost use Rattle.tso_scan.specs.Parts.{text_of, whole_of};
 ghost use Rattle.tso_scan.specs.Scanned.{IsScanned};
 
 use crate::halved::{TreePart, Whole, decide_tree, tree_fault};
@@ -28,7 +29,8 @@ use tso_cert::{DecodeError, Fault, Watch, Workers, decode};
 use tso_client::{CheckError, checked_of};
 use tso_flow::Checked;
 use tso_judge::Code;
-use tso_scan::{Scanned, scan, scan_with};
+use tso_list::Seq;
+use tso_scan::{Scanned, put_together, scan, scan_with};
 
 // The code of a fault of bytes.
 fn code_of(fault: Fault) -> Code
@@ -194,25 +196,49 @@ fn decide_bytes_with<R: Threads + Wait + Sync, N: Notice + Sync>(
     }
 }
 
-// The verdict on bytes, by several threads.
+// The verdict on bytes that may lie in several parts, by their tree and by several threads. They are put together first.
+fn decide_parts_with<R: Threads + Wait + Sync, N: Notice + Sync>(
+    rt: &R,
+    alloc: Global,
+    checked: &Checked,
+    bytes: &[u8],
+    more: &[Seq<u8>],
+    workers: Workers,
+    notice: &N,
+) -> Result<Verdict, AllocError>
+    ensures { IfOk result (IsVerdict checked.now.client (text_of bytes.now more.now)) }
+{
+    match more {
+        [] => decide_bytes_with(rt, alloc, checked, bytes, workers, notice),
+        [_, ..] => {
+            let all = put_together(alloc, bytes, more)?;
+            let found = decide_bytes_with(rt, alloc, checked, all.as_slice(), workers, notice);
+            drop(all);
+            found
+        }
+    }
+}
+
+// The verdict on bytes that may lie in several parts, by several threads.
 fn verdict_with<R: Threads + Wait + Sync, W: Watch + Sync>(
     rt: &R,
     alloc: Global,
     checked: &Checked,
     bytes: &[u8],
+    more: &[Seq<u8>],
     workers: Workers,
     watch: &W,
 ) -> Result<Verdict, AllocError>
-    ensures { IfOk result (IsVerdict checked.now.client bytes.now) }
+    ensures { IfOk result (IsVerdict checked.now.client (text_of bytes.now more.now)) }
 {
     let told = Told { rt, watch };
-    match scan_with(rt, alloc, checked, bytes, workers.count())? {
+    match scan_with(rt, alloc, checked, bytes, more, workers.count())? {
         Some(scanned) => {
             let found = decide_stored_with(rt, alloc, checked, &scanned, workers, &told);
             scanned.let_go(rt, workers.count());
             found
         }
-        None => decide_bytes_with(rt, alloc, checked, bytes, workers, &told),
+        None => decide_parts_with(rt, alloc, checked, bytes, more, workers, &told),
     }
 }
 
@@ -225,20 +251,41 @@ fn answer(alloc: Global, program: &[u8], cert: &[u8]) -> Result<Verdict, CheckEr
     Ok(verdict)
 }
 
-// The same, by several threads.
+// The same of bytes that may lie in several parts, by several threads.
 fn answer_with<R: Threads + Wait + Sync, W: Watch + Sync>(
     rt: &R,
     alloc: Global,
     program: &[u8],
     cert: &[u8],
+    more: &[Seq<u8>],
     workers: Workers,
     watch: &W,
 ) -> Result<Verdict, CheckError>
-    ensures { IsAnswer program.now cert.now result }
+    ensures { IsAnswer program.now (text_of cert.now more.now) result }
 {
     let checked = checked_of(alloc, program)?;
-    let verdict = verdict_with(rt, alloc, &checked, cert, workers, watch)?;
+    let verdict = verdict_with(rt, alloc, &checked, cert, more, workers, watch)?;
     Ok(verdict)
+}
+
+// The same of all parts of a certificate.
+fn answer_parts<R: Threads + Wait + Sync, W: Watch + Sync>(
+    rt: &R,
+    alloc: Global,
+    program: &[u8],
+    parts: &[Seq<u8>],
+    workers: Workers,
+    watch: &W,
+) -> Result<Verdict, CheckError>
+    ensures { IsAnswer program.now (whole_of parts.now) result }
+{
+    match parts.split_first() {
+        None => answer_with(rt, alloc, program, &[], &[], workers, watch),
+        Some((first, more)) => {
+            let first = first.as_slice();
+            answer_with(rt, alloc, program, first, more, workers, watch)
+        }
+    }
 }
 
 /// Decides a certificate for the client of a program text. Nothing is trusted: where it accepts, the text denotes a client, with
@@ -281,5 +328,27 @@ pub fn check_with<R: Threads + Wait + Sync, W: Watch + Sync>(
     ensures refused { (fault : AFault) → IsRefused program.now fault → (result ≡ Err (errors.Program fault)) ⊎ (result ≡ Err errors.Memory) }
     ensures valid { (c : Client) → DenotesChecked program.now c → IsValidCertificate c cert.now → (result ≡ Ok verdicts.Accepted) ⊎ (result ≡ Err errors.Memory) }
 {
-    answer_with(rt, alloc, program, cert, workers, watch)
+    answer_with(rt, alloc, program, cert, &[], workers, watch)
+}
+
+/// The same, of a certificate that lies in several parts, one behind another: its answer is that of `check` on all of them put together.
+/// It is sooner where the parts are as many as there are workers, or half or a quarter as many, and the right half of each of the
+/// certificate's first forks begins one (`tso_scan::seam_in`). Where they begin elsewhere they are put together first.
+///
+/// Errors: those of `check`.
+pub fn check_parts<R: Threads + Wait + Sync, W: Watch + Sync>(
+    rt: &R,
+    alloc: Global,
+    program: &[u8],
+    parts: &[Seq<u8>],
+    workers: Workers,
+    watch: &W,
+) -> Result<Verdict, CheckError>
+    ensures answer { IsAnswer program.now (whole_of parts.now) result }
+    ensures headline { result ≡ Ok verdicts.Accepted → IsVerified program.now }
+    ensures exact { (other : Result AVerdict AnError) → IsAnswer program.now (whole_of parts.now) other → IsSameButMemory result other }
+    ensures refused { (fault : AFault) → IsRefused program.now fault → (result ≡ Err (errors.Program fault)) ⊎ (result ≡ Err errors.Memory) }
+    ensures valid { (c : Client) → DenotesChecked program.now c → IsValidCertificate c (whole_of parts.now) → (result ≡ Ok verdicts.Accepted) ⊎ (result ≡ Err errors.Memory) }
+{
+    answer_parts(rt, alloc, program, parts, workers, watch)
 }

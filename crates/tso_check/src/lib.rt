@@ -15,7 +15,7 @@ mod trail;
 mod upgrading;
 mod verdict;
 
-pub use deciding::{check, check_client, check_with};
+pub use deciding::{check, check_client, check_parts, check_with};
 pub use laws::{accepted_runs_are_good, answers_are_unique, verdicts_are_unique};
 pub use tso_client::CheckError;
 pub use upgrading::{Renewed, UpgradeError, upgrade, upgrade_counted};

@@ -38,8 +38,11 @@ pub trait Files {
     fn create_folder(&mut self, path: &str) -> io::Result<()>;
 }
 
-// The first `limit` bytes that a reader gives, all of them where it has fewer. A read that is interrupted is tried again.
-fn read_bytes<R: Read>(
+/// The first `limit` bytes that a reader of the file at a path gives, all of them where it has fewer. A read that is interrupted is
+/// tried again.
+///
+/// Errors: `CannotRead` where a read failed; `Memory`.
+pub fn read_bytes<R: Read>(
     alloc: Global,
     reader: &mut R,
     path: &str,

@@ -13,7 +13,7 @@ mod words;
 
 pub use draft::Draft;
 pub use failure::{Failure, cannot_read, cannot_write, misused};
-pub use files::{Files, STREAM, read_up_to};
+pub use files::{Files, STREAM, read_bytes, read_up_to};
 pub use host::HostFiles;
 pub use json::{Members, json_line, number_or_null, violation_words};
 pub use paths::{both_apart, read_apart, written_apart};

@@ -1,5 +1,5 @@
 -- The order of states by their parts.
-use Rattle.std.proofs.Common.{◌≡◌, ℕ, Bool, true, List, [], ◌∷◌, length, Some, refl, sym, ap, ◌∙◌, arith, slice_get}
+use Rattle.std.proofs.Common.{◌≡◌, ℕ, zero, suc, Bool, true, List, [], ◌∷◌, length, None, Option, Some, refl, replicate, sym, ap, ◌∙◌, arith, slice_get}
 use Rattle.std.proofs.lemmas.Bool.{false≢true}
 use Rattle.std.specs.Cmp.Lexicographic.{slice_cmp}
 use Rattle.std.specs.Ordering.{is_eq, nat_cmp, ordering_then}
@@ -92,3 +92,11 @@ by_threads p k l memory o a b wide mem mem_is threads other =
     let all : ordering_then M (ordering_then T H) ≡ state_cmp s t = state_alike s t in
     let step : ordering_then M (ordering_then T H) ≡ o = ap (λ (x : Ordering). ordering_then x (ordering_then T H)) first ∙ ap (λ (x : Ordering). ordering_then x H) (sym second) ∙ decides o H other in
     sym step ∙ all
+
+-- ---- pairs of histories that are remembered
+
+-- at first there is none
+pub no_pair : {X : Type 0} (none : Option X) (n i : ℕ) (x : X) → none ≡ None → slice_get (replicate n none) i ≡ Some (Some x) → ⊥
+no_pair none zero i x is e = absurd cc
+no_pair none (suc n) zero x is e = absurd (let f : Some (Some x) ≡ Some None = sym e ∙ ap Some is in cc)
+no_pair none (suc n) (suc i) x is e = no_pair none n i x is e

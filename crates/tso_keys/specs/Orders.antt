@@ -15,6 +15,7 @@ use Rattle.tso_keys.specs.contracts.rank_rows.RowOrd.TheImpl as row_impl
 use Rattle.tso_keys.specs.Keys.{state_at}
 use Rattle.tso_keys.specs.Numbers.{AreNumbersOf}
 use Rattle.tso_keys.specs.declared.key.Key.{Key}
+use Rattle.tso_keys.specs.declared.orders.Pair.{Pair}
 use Rattle.tso_keys.specs.declared.parts.Parts.{Parts}
 use Rattle.tso_keys.specs.declared.ranks.Ranks.{Ranks}
 use Rattle.tso_keys.specs.declared.rank_rows.Row.{Row}
@@ -34,6 +35,14 @@ IsOrderOfParts {X} R pool n m o = (x y : X) → slice_get pool n ≡ Some x → 
 -- this is the order of two lists of as many values with these numbers
 abbrev pub IsOrderOfRows : {X : Type 0} → (X → X → Ordering) → List X → List ℕ → List ℕ → Ordering → Type 0
 IsOrderOfRows {X} R pool ns ms o = (xs ys : List X) → AreNumbersOf pool ns xs → AreNumbersOf pool ms ys → length xs ≡ length ys → o ≡ slice_cmp R xs ys
+
+-- states whose keys are alike in memory and in threads are ordered as their histories
+abbrev pub AreOrderedBehind : Parts → Key → Key → Type 0
+AreOrderedBehind p a b = (o : Ordering) → IsOrderOfParts history_cmp p.histories a.history b.history o → o ≡ state_cmp (state_at p a) (state_at p b)
+
+-- of each of these pairs the first history is below the second
+abbrev pub AreBelow : List (List (List Call)) → List (Option Pair) → Type 0
+AreBelow histories pairs = (i : ℕ) (p : Pair) → slice_get pairs i ≡ Some (Some p) → IsOrderOfParts history_cmp histories p.low p.high Less
 
 -- this is the order of the states with these numbers
 pub record IsOrderOf (states : List State) (n m : ℕ) (o : Ordering) : Type 0 where

@@ -22,7 +22,7 @@ pub use halving::number_risen;
 pub use kept::{find_key, find_near, fits_client, key_of, number_at};
 pub use key::{Key, NO_KEY, NONE, WIDTH};
 pub use moved::{PartNumbers, add_keys, add_parts, moved_key, take_parts};
-pub use orders::compare_keys;
+pub use orders::{OrderMemo, compare_keys, compare_with};
 pub use parts::Parts;
 pub use rank_rows::Row;
 pub use ranking::{key_at, key_or_none};

@@ -1,6 +1,7 @@
 -- Trees that are read by themselves, and forks of them.
-use Rattle.std.proofs.Common.{Box, Global, ◌≡◌, ◌∙◌, ℕ, ◌+◌, ◌-◌, ◌≤◌, List, [], ◌∷◌, ◌++◌, drop, length, Some, Ok, refl, sym, ap, append_assoc, arith, slice_get, subst, take}
-use Rattle.std.proofs.lemmas.List.{length-append, length-drop, map-append, nil_from_length, take-append-drop}
+use Rattle.std.proofs.Common.{Bool, Box, Global, None, Option, ◌≡◌, ◌∙◌, ℕ, ◌+◌, ◌-◌, ◌<◌, ◌≤◌, List, [], ◌∷◌, ◌++◌, drop, length, Some, Ok, false, refl, sym, ap, append_assoc, arith, slice_get, subst, take, true}
+use Rattle.std.specs.Prelude.{IfSome}
+use Rattle.std.proofs.lemmas.List.{length-append, length-drop, map-append, nil_from_length, take-append-drop, take_all}
 use Rattle.tso_cert.proofs.Opening.{opens_fork}
 use Rattle.tso_cert.proofs.TreeCode.{tree_again, tree_take}
 use Rattle.tso_cert.specs.Certificates.{fork_at, tree_at}
@@ -14,12 +15,15 @@ use Rattle.tso_prog.specs.declared.client.Client.{Client}
 use Rattle.tso_rec.specs.Records.{ends_of}
 use Rattle.tso_rec.specs.declared.record.End.{End}
 use Rattle.tso_rec.specs.declared.record.Record.{Record}
+use Rattle.tso_scan.proofs.PartLemmas.{state_before, text_behind, tree_before}
 use Rattle.tso_scan.proofs.TreeLemmas.{first_behind}
-use Rattle.tso_scan.specs.Halves.{AreGrafted, AreHalvesOf, IsEnd, IsForkOf, IsForkShape, IsHalfOf, IsOfWhole, IsStored, IsTreeRead, IsTwig, Stretch, stretch_of}
+use Rattle.tso_scan.specs.Halves.{AreApart, AreBehind, AreGrafted, AreHalvesOf, AreWithin, IsEnd, IsForkOf, IsForkShape, IsHalfOf, IsOfWhole, IsSeam, IsStored, IsTreeRead, IsTwig, Meet, Stretch, are_some, is_apart, stretch_at, stretch_of}
+use Rattle.tso_scan.specs.Parts.{text_of}
 use Rattle.tso_scan.specs.Scanned.{IsScannedBehind, IsShapeOf, scanned_states}
 use Rattle.tso_scan.specs.declared.halves.Half.{Half}
 use Rattle.tso_scan.specs.declared.halves.Records.{Records}
 use Rattle.tso_scan.specs.declared.halves.Twig.{Twig}
+use Rattle.tso_scan.specs.declared.halves.Unread.{Unread}
 use Rattle.tso_scan.specs.declared.whole.Whole.{Whole}
 use Rattle.tso_scan.specs.declared.scanned.Scanned.{Scanned}
 use Rattle.tso_scan.specs.declared.shape.Shape.{Shape}
@@ -27,6 +31,58 @@ use Rattle.tso_scan.specs.declared.shape.Shape.TheViews.{Fork}
 use Rattle.tso_scan.specs.declared.states.Scan.{Scan}
 use Rattle.tso_state.specs.declared.state.State.{State}
 use Rattle.tso_store.specs.Gathering.{Gathering}
+
+-- ---- halves
+
+-- behind the byte of a fork
+opens_behind : (depth room : ℕ) (behind : List ℕ) → (depth ≡ 0 → ⊥) → tree_at depth room (1 ∷ behind) ≡ fork_at (tree_at (depth - 1)) room behind
+opens_behind depth room behind deep =
+    let all : take (length (1 ∷ behind) - 1) behind ≡ behind = take_all (length (1 ∷ behind) - 1) behind (omega arith) in
+    opens_fork depth room (1 ∷ behind) (omega arith) refl deep ∙ ap (fork_at (tree_at (depth - 1)) room) all
+
+-- where parts lie behind the bytes or not, the halves are those of the fork at the front
+pub halves_of : (u : Unread) (behind : List ℕ) (halves : Unread × Unread) → (u.depth ≡ 0 → ⊥) → u.bytes.now ≡ 1 ∷ behind → u.more.now ≡ [] → AreWithin u behind halves → AreHalvesOf (is_apart u) (stretch_at u) (stretch_at halves.0) (stretch_at halves.1)
+halves_of u behind halves deep front none are =
+    let one : (stretch_at halves.0).bytes ≡ behind = ap (λ (s : Stretch). s.bytes) are.left in
+    let two : (stretch_at halves.1).bytes ≡ are.second = ap (λ (s : Stretch). s.bytes) are.right in
+    record {
+      deep = deep;
+      behind = behind;
+      fork = ap (λ (l : List (List ℕ)). text_of u.bytes.now l) none ∙ front;
+      left_is = are.left ∙ ap (stretch_of u.checked.now.client (u.depth - 1) u.room) (sym one);
+      right_is = are.right ∙ ap (stretch_of u.checked.now.client (u.depth - 1) u.room) (sym two);
+      are = rw none (one, rw two are.ends);
+    }
+
+pub halves_apart : (u : Unread) (behind : List ℕ) (halves : Unread × Unread) → (u.depth ≡ 0 → ⊥) → u.bytes.now ≡ 1 ∷ behind → is_apart u ≡ true → AreApart u behind halves → AreHalvesOf (is_apart u) (stretch_at u) (stretch_at halves.0) (stretch_at halves.1)
+halves_apart u behind halves deep front some are =
+    let one : (stretch_at halves.0).bytes ≡ are.first = ap (λ (s : Stretch). s.bytes) are.left in
+    let two : (stretch_at halves.1).bytes ≡ are.second = ap (λ (s : Stretch). s.bytes) are.right in
+    record {
+      deep = deep;
+      behind = text_of behind u.more.now;
+      fork = ap (λ (l : List ℕ). text_of l u.more.now) front ∙ text_behind (1 ∷ []) behind u.more.now;
+      left_is = are.left ∙ ap (stretch_of u.checked.now.client (u.depth - 1) u.room) (sym one);
+      right_is = are.right ∙ ap (stretch_of u.checked.now.client (u.depth - 1) u.room) (sym two);
+      are = rw some (are.are ∙ (λ i. sym one i ++ sym two i));
+    }
+
+-- what the lengths of patterns tell
+pub no_parts : (parts : List (List ℕ)) → length parts < 1 → parts ≡ []
+no_parts [] less = refl
+no_parts (part ∷ parts) less = absurd (omega (arith, less))
+
+pub some_parts : (parts : List (List ℕ)) → 1 ≤ length parts → are_some parts ≡ true
+some_parts [] less = absurd (omega (arith, less))
+some_parts (part ∷ parts) less = refl
+
+pub if_within : (u : Unread) (behind : List ℕ) (o : Option (Unread × Unread)) → (u.depth ≡ 0 → ⊥) → u.bytes.now ≡ 1 ∷ behind → u.more.now ≡ [] → IfSome o (AreWithin u behind) → IfSome o (λ h. AreHalvesOf (is_apart u) (stretch_at u) (stretch_at h.0) (stretch_at h.1) × Unit {0} × Unit {0})
+if_within u behind None deep front none are = tt
+if_within u behind (Some halves) deep front none are = (halves_of u behind halves deep front none are, tt, tt)
+
+pub if_apart : (u : Unread) (behind : List ℕ) (o : Option (Unread × Unread)) → (u.depth ≡ 0 → ⊥) → u.bytes.now ≡ 1 ∷ behind → is_apart u ≡ true → IfSome o (AreApart u behind) → IfSome o (λ h. AreHalvesOf (is_apart u) (stretch_at u) (stretch_at h.0) (stretch_at h.1) × Unit {0} × Unit {0})
+if_apart u behind None deep front some are = tt
+if_apart u behind (Some halves) deep front some are = (halves_apart u behind halves deep front some are, tt, tt)
 
 -- ---- ends of bytes
 
@@ -89,44 +145,70 @@ meets bytes end right rest after t s spelled same reads behind long =
     let whole : bytes ≡ (spelling_of t ++ state s) ++ after = spelled ∙ ap (λ l. spelling_of t ++ l) (sym same ∙ takes) ∙ sym (append_assoc (spelling_of t) (state s) after) in
     same_ends bytes after right (record { front = spelling_of t ++ state s; is = whole }) behind long
 
--- a fork of two trees that were read by themselves
-pub forked : (whole left right : Stretch) (first second h : Half) (new : Gathering) (room : ℕ) → AreHalvesOf whole left right → IsTreeRead left first → IsTreeRead right second → AreGrafted left right first.records second first.states new room
-    → (h.states ≡ new) × IsForkOf first.records second.records room h.records → IsTreeRead whole h
-forked whole left right first second h new room halves one two graft (same, is) =
+-- behind a fork's byte its left half is read, its state, and the bytes of its right half are left
+record AreReadTo (depth room middle : ℕ) (bytes right : List ℕ) (one : Tree) (s : State) : Type 0 where
+  after : List ℕ
+  left : tree_at depth room bytes ≡ Ok (one, middle, after)
+  state : state_at after ≡ Some (s, right)
+
+read_to : (apart : Bool) (depth room middle : ℕ) (behind left right rest end after : List ℕ) (one : Tree) (s : State) → AreBehind apart behind left right → tree_at depth room left ≡ Ok (one, middle, rest) → IsEnd left end → length end ≡ length rest → state_at end ≡ Some (s, after) → Meet apart after right
+    → AreReadTo depth room middle behind right one s
+read_to false depth room middle behind left right rest end after one s are reads ends long reads_state meet =
+    let took = tree_take depth room left (one, middle, rest) reads in
+    let end_is : end ≡ rest = same_ends left end rest ends (record { front = spelling_of one; is = took.0 }) long in
+    let right_ends : IsEnd left right = record { front = are.1.front; is = are.0 ∙ are.1.is } in
+    let same : after ≡ right = meets left end right rest after one s took.0 end_is reads_state right_ends meet in
+    record {
+      after = rest;
+      left = ap (tree_at depth room) (sym are.0) ∙ reads;
+      state = ap state_at (sym end_is) ∙ reads_state ∙ ap (λ (w : List ℕ). Some (s, w)) same;
+    }
+read_to true depth room middle behind left right rest end after one s are reads ends long reads_state meet =
+    let took = tree_take depth room left (one, middle, rest) reads in
+    let end_is : end ≡ rest = same_ends left end rest ends (record { front = spelling_of one; is = took.0 }) long in
+    let alone : state_at rest ≡ Some (s, []) = ap state_at (sym end_is) ∙ reads_state ∙ ap (λ (w : List ℕ). Some (s, w)) meet in
+    record {
+      after = rest ++ right;
+      left = ap (tree_at depth room) are ∙ tree_before depth room middle left rest right one reads;
+      state = state_before rest [] right s alone;
+    }
+
+-- the tree of a fork whose halves were read by themselves
+forked_tree : (apart : Bool) (whole left right : Stretch) (first second : Half) (room : ℕ) (middle : State) (halves : AreHalvesOf apart whole left right) (one : IsTreeRead left first) (two : IsTreeRead right second) → IsSeam apart left right first.records second.records middle room
+    → tree_at whole.depth whole.room whole.bytes ≡ Ok (fork one.tree middle two.tree, room, two.rest)
+forked_tree apart whole left right first second room middle halves one two seam =
     let d = whole.depth - 1 in
-    let inner = take (length whole.bytes - 1) (drop 1 whole.bytes) in
-    let bytes_left : left.bytes ≡ inner = ap (λ (s : Stretch). s.bytes) halves.left_is in
     let reads_left : tree_at d whole.room left.bytes ≡ Ok (one.tree, first.records.room, one.rest) =
     sym (ap (λ (s : Stretch). tree_at s.depth s.room left.bytes) halves.left_is) ∙ one.reads in
     let reads_right : tree_at d whole.room right.bytes ≡ Ok (two.tree, second.records.room, two.rest) =
     sym (ap (λ (s : Stretch). tree_at s.depth s.room right.bytes) halves.right_is) ∙ two.reads in
     let all : right.room ≡ whole.room = ap (λ (s : Stretch). s.room) halves.right_is in
+    let to = read_to apart d whole.room first.records.room halves.behind left.bytes right.bytes one.rest seam.end seam.rest one.tree middle halves.are reads_left seam.ends (seam.long ∙ one.behind) seam.reads seam.meet in
+    let fits : first.records.room ≡ room + (whole.room - second.records.room) = seam.fits.is ∙ ap (λ n. room + (n - second.records.room)) all in
+    let reads_rest : tree_at d first.records.room right.bytes ≡ Ok (two.tree, room, two.rest) = less_room d whole.room first.records.room second.records.room room right.bytes two.rest two.tree reads_right fits in
+    let reads_fork = fork_reads d whole.room first.records.room room halves.behind to.after right.bytes two.rest one.tree two.tree middle to.left to.state reads_rest in
+    ap (tree_at whole.depth whole.room) halves.fork ∙ opens_behind whole.depth whole.room halves.behind halves.deep ∙ reads_fork
+
+-- a fork of two trees that were read by themselves
+pub forked : (apart : Bool) (whole left right : Stretch) (first second h : Half) (new : Gathering) (room : ℕ) → AreHalvesOf apart whole left right → IsTreeRead left first → IsTreeRead right second → AreGrafted apart left right first.records second first.states new room
+    → (h.states ≡ new) × IsForkOf first.records second.records room h.records → IsTreeRead whole h
+forked apart whole left right first second h new room halves one two graft (same, is) =
     let c_left : left.client ≡ whole.client = ap (λ (s : Stretch). s.client) halves.left_is in
-    let took = tree_take d whole.room left.bytes (one.tree, first.records.room, one.rest) reads_left in
-    let end_is : graft.seam.end ≡ one.rest = same_ends left.bytes graft.seam.end one.rest graft.seam.ends (record { front = spelling_of one.tree; is = took.0 }) (graft.seam.long ∙ one.behind) in
-    let reads_state : state_at one.rest ≡ Some (graft.middle, graft.seam.rest) = ap state_at (sym end_is) ∙ graft.seam.reads in
-    let behind : graft.seam.rest ≡ right.bytes = meets left.bytes graft.seam.end right.bytes one.rest graft.seam.rest one.tree graft.middle took.0 end_is graft.seam.reads halves.behind graft.seam.meets in
-    let fits : first.records.room ≡ room + (whole.room - second.records.room) = graft.seam.fits.is ∙ ap (λ n. room + (n - second.records.room)) all in
-    let reads_rest : tree_at d first.records.room graft.seam.rest ≡ Ok (two.tree, room, two.rest) = ap (tree_at d first.records.room) behind ∙ less_room d whole.room first.records.room second.records.room room right.bytes two.rest two.tree reads_right fits in
-    let reads_fork = fork_reads d whole.room first.records.room room left.bytes one.rest graft.seam.rest two.rest one.tree two.tree graft.middle reads_left reads_state reads_rest in
-    let reads_whole : tree_at whole.depth whole.room whole.bytes ≡ Ok (fork one.tree graft.middle two.tree, room, two.rest) =
-    opens_fork whole.depth whole.room whole.bytes halves.some halves.first halves.deep ∙ ap (fork_at (tree_at d) whole.room) (sym bytes_left) ∙ reads_fork in
     let both : new.states ≡ tree_states one.tree ++ tree_states two.tree = graft.taken.states ∙ (λ i. one.states i ++ two.states i) in
     let many : length first.states.states ≡ length (tree_states one.tree) = ap length one.states in
     let begins : slice_get (tree_states two.tree) 0 ≡ Some graft.middle =
     sym (first_behind (tree_states one.tree) (tree_states two.tree) (length first.states.states) many) ∙ ap (λ l. slice_get l (length first.states.states)) (sym both) ∙ graft.taken.at in
     let a : tree_states (fork one.tree graft.middle two.tree) ≡ tree_states one.tree ++ tree_states two.tree = map-append (λ (r : Record). r.state) (records_of one.tree) (records_of two.tree) in
     let b : ends_of (records_of (fork one.tree graft.middle two.tree)) ≡ ends_of (records_of one.tree) ++ ends_of (records_of two.tree) = map-append (λ (r : Record). r.end) (records_of one.tree) (records_of two.tree) in
-    let shape = is.shape one.tree two.tree graft.middle one.shape two.shape in
     record {
       tree = fork one.tree graft.middle two.tree;
       rest = two.rest;
       behind = is.behind ∙ two.behind;
-      reads = reads_whole ∙ ap (λ n. Ok (fork one.tree graft.middle two.tree, n, two.rest)) (sym is.room_is);
+      reads = forked_tree apart whole left right first second room graft.middle halves one two graft.seam ∙ ap (λ n. Ok (fork one.tree graft.middle two.tree, n, two.rest)) (sym is.room_is);
       client = ap (λ (x : Gathering). x.client) same ∙ graft.client ∙ one.client ∙ c_left;
       states = ap (λ (x : Gathering). x.states) same ∙ both ∙ sym a;
       ends = is.ends ∙ (λ i. one.ends i ++ two.ends i) ∙ sym b;
-      shape = shape;
+      shape = is.shape one.tree two.tree graft.middle one.shape two.shape;
       forks = (one.forks, two.forks, begins);
     }
 

@@ -1,3 +1,4 @@
+pub mod PartLemmas
 pub mod ScrollLemmas
 pub mod RowLemmas
 pub mod HistoryLemmas

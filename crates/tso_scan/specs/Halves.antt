@@ -1,5 +1,5 @@
 -- Trees that are read by themselves and put together. Nothing here need be believed: it serves the code.
-use Rattle.std.specs.Prelude.{◌≡◌, ◌+◌, ◌-◌, ◌≤◌, ◌++◌, ℕ, List, drop, get_or, length, Ok, Some, slice_get, take}
+use Rattle.std.specs.Prelude.{◌≡◌, ◌+◌, ◌-◌, ◌≤◌, ◌++◌, ◌∷◌, ℕ, Bool, List, [], false, length, Ok, Some, slice_get, true}
 use Rattle.tso_cert.specs.Certificates.{tree_at}
 use Rattle.tso_cert.specs.Lookup.{tree_states}
 use Rattle.tso_state.specs.Rising.{IsRising}
@@ -12,6 +12,8 @@ use Rattle.tso_scan.specs.Scanned.{ForksBegin, IsBranchScanned, IsShapeOf, scann
 use Rattle.tso_scan.specs.declared.halves.Half.{Half}
 use Rattle.tso_scan.specs.declared.halves.Records.{Records}
 use Rattle.tso_scan.specs.declared.halves.Twig.{Twig}
+use Rattle.tso_scan.specs.declared.halves.Unread.{Unread}
+use Rattle.tso_scan.specs.Parts.{text_of}
 use Rattle.tso_scan.specs.declared.whole.Whole.{Whole}
 use Rattle.tso_scan.specs.declared.scanned.Scanned.{Scanned}
 use Rattle.tso_scan.specs.declared.shape.Shape.{Shape}
@@ -36,14 +38,51 @@ pub record Stretch : Type 0 where
 abbrev pub stretch_of : Client → ℕ → ℕ → List ℕ → Stretch
 stretch_of c depth room bytes = record { client = c; depth = depth; room = room; bytes = bytes }
 
--- a fork stands at the front, behind whose byte the left half begins; the right half begins somewhere further on
-pub record AreHalvesOf (whole left right : Stretch) : Type 0 where
+-- what an unread tree is read from
+abbrev pub stretch_at : Unread → Stretch
+stretch_at u = stretch_of u.checked.now.client u.depth u.room (text_of u.bytes.now u.more.now)
+
+abbrev pub are_some : List (List ℕ) → Bool
+are_some [] = false
+are_some (part ∷ parts) = true
+
+-- whether it lies in several parts
+abbrev pub is_apart : Unread → Bool
+is_apart u = are_some u.more.now
+
+-- half of what is behind a fork's byte, which lies there
+abbrev pub IsHalfAt : Unread → List ℕ → Unread → Type 0
+IsHalfAt u text half = stretch_at half ≡ stretch_of u.checked.now.client (u.depth - 1) u.room text
+
+-- the left half is all that is behind a fork's byte, and the right one begins somewhere in it
+pub record AreWithin (u : Unread) (behind : List ℕ) (halves : Unread × Unread) : Type 0 where
+  pub left : IsHalfAt u behind halves.0
+  pub second : List ℕ
+  pub right : IsHalfAt u second halves.1
+  pub ends : IsEnd behind second
+
+-- the halves are what is behind a fork's byte
+pub record AreApart (u : Unread) (behind : List ℕ) (halves : Unread × Unread) : Type 0 where
+  pub first : List ℕ
+  pub left : IsHalfAt u first halves.0
+  pub second : List ℕ
+  pub right : IsHalfAt u second halves.1
+  pub are : text_of behind u.more.now ≡ first ++ second
+
+-- what lies behind the byte of a fork; where its halves lie apart, they are what lies there, and else the left half is all of that, and
+-- the right half begins somewhere further on
+abbrev pub AreBehind : Bool → (behind left right : List ℕ) → Type 0
+AreBehind false behind left right = (left ≡ behind) × IsEnd behind right
+AreBehind true behind left right = behind ≡ left ++ right
+
+-- a fork stands at the front, behind whose byte the halves lie
+pub record AreHalvesOf (apart : Bool) (whole left right : Stretch) : Type 0 where
   pub deep : whole.depth ≡ 0 → ⊥
-  pub some : 1 ≤ length whole.bytes
-  pub first : get_or whole.bytes 0 0 ≡ 1
-  pub left_is : left ≡ stretch_of whole.client (whole.depth - 1) whole.room (take (length whole.bytes - 1) (drop 1 whole.bytes))
+  pub behind : List ℕ
+  pub fork : whole.bytes ≡ 1 ∷ behind
+  pub left_is : left ≡ stretch_of whole.client (whole.depth - 1) whole.room left.bytes
   pub right_is : right ≡ stretch_of whole.client (whole.depth - 1) whole.room right.bytes
-  pub behind : IsEnd left.bytes right.bytes
+  pub are : AreBehind apart behind left.bytes right.bytes
 
 -- the tree at the front of the bytes, so many of which are behind it, is that of the last records
 pub record IsTwig (c : Client) (old new : Scan) (depth room : ℕ) (bytes : List ℕ) (t : Twig) : Type 0 where
@@ -84,20 +123,25 @@ pub record IsRoom (all first second room : ℕ) : Type 0 where
   pub enough : second ≤ all
   pub is : first ≡ room + (all - second)
 
+-- where halves lie apart, nothing is left of the left one, and else as much as there is of the right one
+abbrev pub Meet : Bool → (rest right : List ℕ) → Type 0
+Meet false rest right = length rest ≡ length right
+Meet true rest right = rest ≡ []
+
 -- where a fork's halves meet stands its state, and so many records may still come
-pub record IsSeam (left right : Stretch) (first second : Records) (middle : State) (room : ℕ) : Type 0 where
+pub record IsSeam (apart : Bool) (left right : Stretch) (first second : Records) (middle : State) (room : ℕ) : Type 0 where
   pub end : List ℕ
   pub ends : IsEnd left.bytes end
   pub long : length end ≡ first.behind
   pub rest : List ℕ
   pub reads : state_at end ≡ Some (middle, rest)
-  pub meets : length rest ≡ length right.bytes
+  pub meet : Meet apart rest right.bytes
   pub fits : IsRoom right.room first.room second.room room
 
 -- a fork's state stands between what the halves were read from, and the states of the second are behind those of the first
-pub record AreGrafted (left right : Stretch) (first : Records) (second : Half) (old new : Gathering) (room : ℕ) : Type 0 where
+pub record AreGrafted (apart : Bool) (left right : Stretch) (first : Records) (second : Half) (old new : Gathering) (room : ℕ) : Type 0 where
   pub middle : State
-  pub seam : IsSeam left right first second.records middle room
+  pub seam : IsSeam apart left right first second.records middle room
   pub client : new.client ≡ old.client
   pub taken : AreTakenIn old.states second.states.states middle new.states
 

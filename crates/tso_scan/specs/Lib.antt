@@ -1,3 +1,4 @@
+pub mod Parts
 pub mod Scrolls
 pub mod Sources
 pub mod Scanned

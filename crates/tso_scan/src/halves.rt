@@ -1,11 +1,13 @@
 //! Trees that are read by themselves, and put together as the halves of a fork.
 ghost use Rattle.std.specs.Prelude.{◌≡◌, ◌++◌, IfOk, IfSome, IsTrue, Some, length};
 ghost use Rattle.tso_code.specs.States.{state_at};
-ghost use Rattle.tso_scan.specs.Halves.{AreGrafted, AreHalvesOf, AreTakenIn, IsEnd, IsForkOf, IsForkShape, IsHalfOf, IsRoom, IsSeam, IsTreeRead, IsTwig, stretch_of};
+ghost use Rattle.tso_scan.specs.Halves.{AreApart, AreGrafted, AreHalvesOf, AreTakenIn, AreWithin, IsEnd, IsForkOf, IsForkShape, IsHalfAt, IsHalfOf, IsRoom, IsSeam, IsTreeRead, IsTwig, Meet, is_apart, stretch_at, stretch_of};
+ghost use Rattle.tso_scan.specs.Parts.{text_of};
 ghost use Rattle.tso_scan.specs.Scanned.{IsScan};
 ghost use Rattle.tso_scan.specs.Sources.{parts_of};
 ghost use Rattle.tso_keys.specs.Keys.{AreKept};
 
+use crate::parts::put_together;
 use crate::seams::right_half;
 use crate::shape::Shape;
 use crate::states::Scan;
@@ -52,7 +54,8 @@ pub struct Twig {
     pub behind: usize,
 }
 
-/// Bytes, at whose front a tree is to be read: with at most `depth` forks inside one another and at most `room` records.
+/// Bytes, at whose front a tree is to be read: with at most `depth` forks inside one another and at most `room` records. They may lie in
+/// several parts; then the right half of each fork that has some of them is guessed to begin one.
 #[derive(Drop)]
 pub struct Unread<'c, 'b> {
     pub alloc: Global,
@@ -60,7 +63,9 @@ pub struct Unread<'c, 'b> {
     pub depth: u8,
     pub room: u32,
     pub bytes: &'b [u8],
-    /// So many of the bytes the tree is guessed to take.
+    /// The parts behind these bytes.
+    pub more: &'b [Seq<u8>],
+    /// So many of the bytes the tree is guessed to take, where there are no parts behind them.
     pub taken: usize,
 }
 
@@ -141,23 +146,39 @@ fn read_half<'c>(
     }
 }
 
-/// The tree at the front of the bytes, read by the thread that asks alone. `None` where there is none, where a state does not fit
-/// the client, where a fork's state is not the first one of its right half, or where there are as many parts as numbers.
-///
-/// Errors: where a growth was refused.
-pub fn read_alone<'c>(unread: &Unread<'c, '_>) -> Result<Option<Half<'c>>, AllocError>
-    ensures { IfOk result (λ o. IfSome o (IsTreeRead (stretch_of unread.now.checked.now.client unread.now.depth unread.now.room unread.now.bytes.now))) }
+// The same, where as many parts as numbers are no tree either.
+fn read_bytes<'c>(unread: &Unread<'c, '_>, bytes: &[u8]) -> Result<Option<Half<'c>>, AllocError>
+    ensures { IfOk result (λ o. IfSome o (IsTreeRead (stretch_of unread.now.checked.now.client unread.now.depth unread.now.room bytes.now))) }
 {
     match read_half(
         unread.alloc,
         unread.checked,
         unread.depth,
         unread.room,
-        unread.bytes,
+        bytes,
     ) {
         Ok(found) => Ok(found),
         Err(Refused::Memory) => Err(AllocError),
         Err(Refused::Full) => Ok(None),
+    }
+}
+
+/// The tree at the front of the bytes, read by the thread that asks alone. `None` where there is none, where a state does not fit
+/// the client, where a fork's state is not the first one of its right half, or where there are as many parts as numbers. Bytes in several
+/// parts are put together first.
+///
+/// Errors: where a growth was refused.
+pub fn read_alone<'c>(unread: &Unread<'c, '_>) -> Result<Option<Half<'c>>, AllocError>
+    ensures { IfOk result (λ o. IfSome o (IsTreeRead (stretch_at unread.now))) }
+{
+    match unread.more {
+        [] => read_bytes(unread, unread.bytes),
+        [_, ..] => {
+            let all = put_together(unread.alloc, unread.bytes, unread.more)?;
+            let found = read_bytes(unread, all.as_slice());
+            drop(all);
+            found
+        }
     }
 }
 
@@ -215,22 +236,36 @@ fn take_in(
     Ok(states.is_at(first, middle))
 }
 
+// Whether the bytes behind a fork's state are those of its right half.
+fn do_meet(apart: bool, rest: &[u8], right: &Unread<'_, '_>) -> bool
+    ensures { IsTrue result → Meet apart rest.now (stretch_at right.now).bytes }
+{
+    if apart {
+        return rest.is_empty();
+    }
+    match right.more {
+        [] => rest.len() == right.bytes.len(),
+        [_, ..] => false,
+    }
+}
+
 // The state of a fork of these halves, and how many records may still come. `None` where the halves do not fit together.
 fn seam_of(
+    apart: bool,
     left: &Unread<'_, '_>,
     right: &Unread<'_, '_>,
     first: &Records,
     second: &Records,
 ) -> Result<Option<(State, u32)>, AllocError>
-    ensures { IfOk result (λ o. IfSome o (λ x. IsSeam (stretch_of left.now.checked.now.client left.now.depth left.now.room left.now.bytes.now) (stretch_of right.now.checked.now.client right.now.depth right.now.room right.now.bytes.now) first.now second.now x.0 x.1)) }
+    ensures { IfOk result (λ o. IfSome o (λ x. IsSeam apart (stretch_at left.now) (stretch_at right.now) first.now second.now x.0 x.1)) }
 {
-    let Some(end) = last_bytes(left.bytes, first.behind) else {
+    let Some(end) = last_bytes(left.last_part(), first.behind) else {
         return Ok(None);
     };
     let Some((middle, rest)) = read_middle(left.alloc, end)? else {
         return Ok(None);
     };
-    if rest.len() != right.bytes.len() {
+    if !do_meet(apart, rest, right) {
         return Ok(None);
     }
     match room_behind(right.room, first.room, second.room) {
@@ -242,6 +277,7 @@ fn seam_of(
 // Puts the states of a fork's second half behind those of its first, and tells how many records may still come, and what else there
 // is of the second. `None` where the two do not fit together: then nothing is said of the states.
 fn graft(
+    apart: bool,
     left: &Unread<'_, '_>,
     right: &Unread<'_, '_>,
     states: &mut Gathered<'_>,
@@ -249,14 +285,14 @@ fn graft(
     second: Half<'_>,
 ) -> Result<Option<(u32, Records)>, Refused>
     requires { second.states.client ≡ states.old.client }
-    ensures grafted { IfOk result (λ o. IfSome o (λ x. AreGrafted (stretch_of left.now.checked.now.client left.now.depth left.now.room left.now.bytes.now) (stretch_of right.now.checked.now.client right.now.depth right.now.room right.now.bytes.now) first.now second.entry states.old states.new x.0)) }
+    ensures grafted { IfOk result (λ o. IfSome o (λ x. AreGrafted apart (stretch_at left.now) (stretch_at right.now) first.now second.entry states.old states.new x.0)) }
     ensures records { IfOk result (λ o. IfSome o (λ x. x.1 ≡ second.entry.records)) }
 {
     let Half {
         states: others,
         records,
     } = second;
-    let (middle, room) = match seam_of(left, right, first, &records) {
+    let (middle, room) = match seam_of(apart, left, right, first, &records) {
         Ok(Some(seam)) => seam,
         Ok(None) => {
             drop(others);
@@ -343,16 +379,17 @@ fn read_joined<'c>(
     first: Half<'c>,
     second: Half<'c>,
 ) -> Result<Option<Half<'c>>, AllocError>
-    requires halves { AreHalvesOf (stretch_of whole.now.checked.now.client whole.now.depth whole.now.room whole.now.bytes.now) (stretch_of left.now.checked.now.client left.now.depth left.now.room left.now.bytes.now) (stretch_of right.now.checked.now.client right.now.depth right.now.room right.now.bytes.now) }
-    requires first { IsTreeRead (stretch_of left.now.checked.now.client left.now.depth left.now.room left.now.bytes.now) first }
-    requires second { IsTreeRead (stretch_of right.now.checked.now.client right.now.depth right.now.room right.now.bytes.now) second }
-    ensures { IfOk result (λ o. IfSome o (IsTreeRead (stretch_of whole.now.checked.now.client whole.now.depth whole.now.room whole.now.bytes.now))) }
+    requires halves { AreHalvesOf (is_apart whole.now) (stretch_at whole.now) (stretch_at left.now) (stretch_at right.now) }
+    requires first { IsTreeRead (stretch_at left.now) first }
+    requires second { IsTreeRead (stretch_at right.now) second }
+    ensures { IfOk result (λ o. IfSome o (IsTreeRead (stretch_at whole.now))) }
 {
     let Half {
         mut states,
         records,
     } = first;
-    match graft(left, right, &mut states, &records, second) {
+    let apart = whole.is_apart();
+    match graft(apart, left, right, &mut states, &records, second) {
         Ok(Some((room, others))) => {
             let half = half_with(whole.alloc, states, records, others, room)?;
             Ok(Some(half))
@@ -373,17 +410,80 @@ fn read_joined<'c>(
     }
 }
 
+impl<'c, 'b> Unread<'c, 'b> {
+    // Whether there are parts behind the bytes.
+    fn is_apart(&self) -> bool
+        ensures { result ≡ is_apart self.now }
+    {
+        match self.more {
+            [] => false,
+            [_, ..] => true,
+        }
+    }
+
+    // The last of the parts.
+    fn last_part(&self) -> &'b [u8]
+        ensures { IsEnd (stretch_at self.now).bytes result.now }
+    {
+        match self.more.split_last() {
+            Some((last, _)) => last.as_slice(),
+            None => self.bytes,
+        }
+    }
+
+    // A half of a fork, which lies in these bytes and parts.
+    fn half(&self, bytes: &'b [u8], more: &'b [Seq<u8>], taken: usize) -> Self
+        requires { self.now.depth ≡ 0 → ⊥ }
+        ensures { IsHalfAt self.now (text_of bytes.now more.now) result }
+    {
+        Unread {
+            alloc: self.alloc,
+            checked: self.checked,
+            depth: self.depth - 1,
+            room: self.room,
+            bytes,
+            more,
+            taken,
+        }
+    }
+
+    // The halves, where the right one is guessed to begin somewhere in these bytes.
+    fn halves_within(&self, behind: &'b [u8]) -> Option<(Self, Self)>
+        requires { self.now.depth ≡ 0 → ⊥ }
+        ensures { IfSome result (AreWithin self.now behind.now) }
+    {
+        let second = right_half(self.alloc, behind, self.taken)?;
+        let taken = behind.len().saturating_sub(second.len());
+        let left = self.half(behind, &[], taken);
+        let right = self.half(second, &[], self.taken.saturating_sub(taken));
+        Some((left, right))
+    }
+
+    // The halves, where the right one is guessed to begin one of the parts.
+    fn halves_apart(&self, behind: &'b [u8]) -> Option<(Self, Self)>
+        requires { self.now.depth ≡ 0 → ⊥ }
+        ensures { IfSome result (AreApart self.now behind.now) }
+    {
+        let (before, from) = self.more.split_at(self.more.len() / 2);
+        let (first, more) = from.split_first()?;
+        let second = first.as_slice();
+        let left = self.half(behind, before, behind.len());
+        let right = self.half(second, more, second.len());
+        Some((left, right))
+    }
+}
+
 impl<'c, 'b> Task for Unread<'c, 'b> {
     ghost use Rattle.std.specs.Prelude.{IfSome};
-    ghost use Rattle.tso_scan.specs.Halves.{AreHalvesOf, IsTreeRead, stretch_of};
+    ghost use Rattle.tso_scan.specs.Halves.{AreHalvesOf, IsTreeRead, is_apart, stretch_at};
 
     type Output = Option<Half<'c>>;
 
     ghost is_ready = { λ p. Unit {0} };
 
-    ghost is_output = { λ p o. IfSome o (IsTreeRead (stretch_of p.checked.now.client p.depth p.room p.bytes.now)) };
+    ghost is_output = { λ p o. IfSome o (IsTreeRead (stretch_at p)) };
 
-    ghost are_halves = { λ p left right. AreHalvesOf (stretch_of p.checked.now.client p.depth p.room p.bytes.now) (stretch_of left.checked.now.client left.depth left.room left.bytes.now) (stretch_of right.checked.now.client right.depth right.room right.bytes.now) };
+    ghost are_halves = { λ p left right. AreHalvesOf (is_apart p) (stretch_at p) (stretch_at left) (stretch_at right) };
 
     fn run(&self) -> Result<Option<Half<'c>>, AllocError> {
         read_alone(self)
@@ -391,32 +491,13 @@ impl<'c, 'b> Task for Unread<'c, 'b> {
 
     fn halves(&self) -> Option<(Self, Self)> {
         match self.bytes {
-            [1, rest @ ..] => {
+            [1, behind @ ..] => {
                 if self.depth == 0 {
                     return None;
                 }
-                match right_half(self.alloc, rest, self.taken) {
-                    Some(behind) => {
-                        let taken = rest.len().saturating_sub(behind.len());
-                        let left = Unread {
-                            alloc: self.alloc,
-                            checked: self.checked,
-                            depth: self.depth - 1,
-                            room: self.room,
-                            bytes: rest,
-                            taken,
-                        };
-                        let right = Unread {
-                            alloc: self.alloc,
-                            checked: self.checked,
-                            depth: self.depth - 1,
-                            room: self.room,
-                            bytes: behind,
-                            taken: self.taken.saturating_sub(taken),
-                        };
-                        Some((left, right))
-                    }
-                    None => None,
+                match self.more {
+                    [] => self.halves_within(behind),
+                    [_, ..] => self.halves_apart(behind),
                 }
             }
             _ => None,

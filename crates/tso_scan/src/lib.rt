@@ -4,6 +4,7 @@
 mod halves;
 mod histories;
 mod neighbours;
+mod parts;
 mod rows;
 mod scanned;
 mod scroll;
@@ -14,5 +15,7 @@ mod states;
 mod trees;
 mod whole;
 
+pub use parts::put_together;
 pub use scanned::{Scanned, scan, scan_with};
+pub use seams::{forks_at, seam_in};
 pub use shape::Shape;

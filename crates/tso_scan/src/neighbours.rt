@@ -10,11 +10,12 @@ use std::alloc::AllocError;
 use std::thread::Threads;
 use tso_cert::{ALONE, Task, run_by};
 use tso_state::is_less;
-use tso_store::Gathered;
+use tso_store::{Gathered, Rising};
 
 // Whether a state is above the one before.
-fn is_above(states: &Gathered<'_>, number: usize) -> bool
-    ensures { IsTrue result ↔ IsOrderOf states.now.states (number - 1) number Less }
+fn is_above(states: &mut Rising<'_>, number: usize) -> bool
+    ensures order { IsTrue result ↔ IsOrderOf states.old (number - 1) number Less }
+    ensures stays { states.new ≡ states.old }
 {
     match states.compare(number.saturating_sub(1), number) {
         Some(order) => is_less(order),
@@ -26,8 +27,9 @@ fn is_above(states: &Gathered<'_>, number: usize) -> bool
 fn rises_between(states: &Gathered<'_>, from: usize, to: usize) -> bool
     ensures { IsTrue result ↔ RisesBetween states.now.states from to }
 {
+    let mut rising = states.rising();
     for number in from..to {
-        if !is_above(states, number) {
+        if !is_above(&mut rising, number) {
             return false;
         }
     }

@@ -3,6 +3,7 @@ ghost use Rattle.std.specs.Option.{option_copied};
 ghost use Rattle.std.specs.Prelude.{◌≡◌, IfOk, IfSome, List, slice_get, ℕ};
 ghost use Rattle.tso_scan.specs.Halves.{IsOfWhole, IsStored, IsTreeRead, stretch_of};
 ghost use Rattle.tso_scan.specs.Scanned.{IsScanned, IsScannedBehind};
+ghost use Rattle.tso_scan.specs.Parts.{text_of};
 ghost use Rattle.tso_prog.specs.declared.client.Client.{Client};
 
 use crate::halves::{Half, RECORDS, Records, Unread, read_alone};
@@ -121,20 +122,22 @@ fn read_tree<'c>(
         depth: FORKS,
         room: RECORDS,
         bytes,
+        more: &[],
         taken: bytes.len(),
     };
     read_alone(&unread)
 }
 
-// The same, read by so many workers.
+// The same of bytes in several parts, read by so many workers.
 fn read_tree_with<'c, R: Threads + Sync>(
     rt: &R,
     alloc: Global,
     checked: &'c Checked,
     bytes: &[u8],
+    more: &[Seq<u8>],
     workers: u64,
 ) -> Result<Option<Half<'c>>, AllocError>
-    ensures { IfOk result (λ o. IfSome o (IsTreeRead (stretch_of checked.now.client 64 4194304 bytes.now))) }
+    ensures { IfOk result (λ o. IfSome o (IsTreeRead (stretch_of checked.now.client 64 4194304 (text_of bytes.now more.now)))) }
 {
     let unread = Unread {
         alloc,
@@ -142,6 +145,7 @@ fn read_tree_with<'c, R: Threads + Sync>(
         depth: FORKS,
         room: RECORDS,
         bytes,
+        more,
         taken: bytes.len(),
     };
     run_by(rt, &unread, workers)
@@ -165,18 +169,19 @@ fn scan_tree<'a>(
     }
 }
 
-// The same, read by so many workers.
+// The same of bytes in several parts, read by so many workers.
 fn scan_tree_with<'a, R: Threads + Sync>(
     rt: &R,
     alloc: Global,
     checked: &'a Checked,
     table: Table,
     bytes: &[u8],
+    more: &[Seq<u8>],
     workers: u64,
 ) -> Result<Option<Scanned<'a>>, AllocError>
-    ensures { IfOk result (λ o. IfSome o (IsScannedBehind checked.now.client table bytes.now)) }
+    ensures { IfOk result (λ o. IfSome o (IsScannedBehind checked.now.client table (text_of bytes.now more.now))) }
 {
-    let Some(half) = read_tree_with(rt, alloc, checked, bytes, workers)? else {
+    let Some(half) = read_tree_with(rt, alloc, checked, bytes, more, workers)? else {
         return Ok(None);
     };
     match whole_by(rt, half, workers)? {
@@ -204,8 +209,9 @@ pub fn scan<'a>(
     }
 }
 
-/// The same, read by so many workers. Where the right half of a fork begins is known only once the left half was read: so it is
-/// guessed, and read by another worker meanwhile. Where the left half ends elsewhere, the fork is read once more by one worker.
+/// The same of bytes that may lie in several parts, read by so many workers. Where the right half of a fork begins is known only once the
+/// left half was read: so it is guessed, and read by another worker meanwhile. Where bytes lie in parts it is guessed to begin one, of as
+/// many of them as go to each half. Where the left half ends elsewhere, the fork is read once more by one worker.
 ///
 /// Errors: those of `scan`.
 pub fn scan_with<'a, R: Threads + Sync>(
@@ -213,12 +219,13 @@ pub fn scan_with<'a, R: Threads + Sync>(
     alloc: Global,
     checked: &'a Checked,
     bytes: &[u8],
+    more: &[Seq<u8>],
     workers: u64,
 ) -> Result<Option<Scanned<'a>>, AllocError>
-    ensures { IfOk result (λ o. IfSome o (IsScanned checked.now.client bytes.now)) }
+    ensures { IfOk result (λ o. IfSome o (IsScanned checked.now.client (text_of bytes.now more.now))) }
 {
     match read_table(alloc, bytes) {
-        Ok((table, rest)) => scan_tree_with(rt, alloc, checked, table, rest, workers),
+        Ok((table, rest)) => scan_tree_with(rt, alloc, checked, table, rest, more, workers),
         Err(DecodeError::Fault(_)) => Ok(None),
         Err(DecodeError::Memory) => Err(AllocError),
     }

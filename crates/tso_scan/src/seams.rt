@@ -5,6 +5,7 @@ ghost use Rattle.std.specs.Prelude.{IfSome};
 ghost use Rattle.tso_scan.specs.Halves.{IsEnd};
 
 use std::alloc::Global;
+use tso_cert::read_table;
 use tso_code::Code;
 use tso_state::State;
 
@@ -52,6 +53,10 @@ fn forks_before(bytes: &[u8], most: usize) -> usize {
 fn tree_around(bytes: &[u8], forks: usize, place: usize) -> Option<&[u8]>
     ensures { IfSome result (λ end. IsEnd bytes.now end.now) }
 {
+    // Of most places this is all that is asked.
+    if bytes.get(place) != Some(&1) {
+        return None;
+    }
     let behind = from_place(bytes, place)?;
     let ahead = forks_before(behind, forks);
     if ahead == 0 {
@@ -86,6 +91,41 @@ fn is_led(alloc: Global, bytes: &[u8], tree: &[u8], forks: usize) -> bool {
     }
 }
 
+// The bytes from where a tree may begin with so many forks on the way to its first leaf, before which the state of its first record stands:
+// the first such place from one up to another, in steps of as many bytes as there are forks.
+fn tree_between(alloc: Global, bytes: &[u8], forks: usize, from: usize, to: usize) -> Option<&[u8]>
+    ensures { IfSome result (λ end. IsEnd bytes.now end.now) }
+{
+    let mut tries = TRIES;
+    for step in from..to {
+        if tries == 0 {
+            return None;
+        }
+        if let Some(tree) = tree_around(bytes, forks, step.saturating_mul(forks)) {
+            if is_led(alloc, bytes, tree, forks) {
+                return Some(tree);
+            }
+            tries = tries.saturating_sub(1);
+        }
+    }
+    None
+}
+
+// The same from a place on to the end, and then from the front.
+fn tree_from(alloc: Global, bytes: &[u8], forks: usize, place: usize) -> Option<&[u8]>
+    ensures { IfSome result (λ end. IsEnd bytes.now end.now) }
+{
+    if forks == 0 {
+        return None;
+    }
+    let steps = bytes.len() / forks;
+    let first = place / forks;
+    match tree_between(alloc, bytes, forks, first, steps) {
+        Some(tree) => Some(tree),
+        None => tree_between(alloc, bytes, forks, 0, first.min(steps)),
+    }
+}
+
 /// The bytes from where the right half of a fork may begin, behind whose own byte these stand: a tree with as many forks on the
 /// way to its first leaf as the left half has, and before it the state of its first record. Both halves are guessed to take so many
 /// bytes: half of the records are mostly half of these, so it is looked for from a little before their middle on.
@@ -96,21 +136,31 @@ pub fn right_half(alloc: Global, bytes: &[u8], taken: usize) -> Option<&[u8]>
     if forks < FEWEST {
         return None;
     }
-    let mut tries = TRIES;
-    let turns = bytes.len() / forks;
-    let first = taken / forks / 16 * 7;
-    for step in 0..turns {
-        if tries == 0 {
-            return None;
-        }
-        // From there to the end, and then from the front.
-        let turn = first.saturating_add(step) % turns;
-        if let Some(tree) = tree_around(bytes, forks, turn.saturating_mul(forks)) {
-            if is_led(alloc, bytes, tree, forks) {
-                return Some(tree);
+    tree_from(alloc, bytes, forks, taken / 16 * 7)
+}
+
+/// How many forks a certificate has on the way to its first leaf, if its table is at the front of these bytes, and the forks too.
+pub fn forks_at(alloc: Global, bytes: &[u8]) -> Option<usize> {
+    match read_table(alloc, bytes) {
+        Ok((table, rest)) => {
+            drop(table);
+            let forks = forks_before(rest, MOST);
+            if forks < rest.len() {
+                Some(forks)
+            } else {
+                None
             }
-            tries = tries.saturating_sub(1);
         }
+        Err(_) => None,
     }
-    None
+}
+
+/// Where in the bytes a tree may begin that has so many forks on the way to its first leaf, and before it the state of its first record:
+/// so does the right half of a fork.
+pub fn seam_in(alloc: Global, bytes: &[u8], forks: usize) -> Option<usize> {
+    if forks < FEWEST {
+        return None;
+    }
+    let tree = tree_from(alloc, bytes, forks, 0)?;
+    Some(bytes.len().saturating_sub(tree.len()))
 }

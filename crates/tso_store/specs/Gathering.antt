@@ -1,5 +1,6 @@
 -- Some of the states of several stores, one behind another.
 use Rattle.std.specs.Prelude.{◌≡◌, ◌<◌, ◌^◌, ℕ, List, [], map, length, Some, slice_get, slice_index_or}
+use Rattle.tso_hist.specs.declared.call.Call.{Call}
 use Rattle.tso_prog.specs.declared.client.Client.{Client}
 use Rattle.tso_state.specs.declared.state.State.{State}
 use Rattle.tso_keys.specs.Keys.{AreKept}
@@ -19,6 +20,11 @@ pub record Gathering : Type 0 where
 pub record AreGathered (c : Client) (parts : Parts) (keys : List Key) : Type 0 where
   pub kept : AreKept c parts keys
   pub small : length parts.threads < 2 ^ 32
+
+-- the same, where the histories are those of a memo
+pub record AreCompared (c : Client) (parts : Parts) (keys : List Key) (histories : List (List (List Call))) : Type 0 where
+  pub are : AreGathered c parts keys
+  pub memo : histories ≡ parts.histories
 
 -- each number is that of a state
 abbrev pub AreThere : List State → List ℕ → Type 0

@@ -5,16 +5,14 @@ ghost use Rattle.tso_parts.specs.declared.refused.Refused.TheVariants as reasons
 ghost use Rattle.tso_store.specs.Gathering.{AreThere, moved_from, picked};
 ghost use Rattle.tso_keys.specs.Keys.{AreKept, part_count, states_at};
 ghost use Rattle.tso_keys.specs.Moving.{moved_key};
-ghost use Rattle.tso_keys.specs.Orders.{IsCompared};
 
 use crate::numbered::Store;
+use crate::rising::{Rising, kept_at};
 use std::alloc::{AllocError, Global};
-use std::cmp::Ordering;
 use std::marker::Model;
 use tso_flow::Checked;
 use tso_keys::{
-    Key, PartNumbers, Parts, compare_keys, find_key, fits_client, key_or_none, moved_key,
-    take_parts,
+    Key, PartNumbers, Parts, find_key, fits_client, key_or_none, moved_key, take_parts,
 };
 use tso_list::{Exact, Seq};
 use tso_parts::{Pool, Refused};
@@ -77,13 +75,6 @@ fn push_all_moved(
         keys.push_reserved(moved_key(numbers, key));
     }
     Ok(())
-}
-
-// The key at this place.
-fn kept_at(keys: &[Key], place: usize) -> Option<Key>
-    ensures { result ≡ slice_get keys.now place }
-{
-    keys.get(place).copied()
 }
 
 // Whether two values are one.
@@ -192,17 +183,11 @@ impl<'a> Gathered<'a> {
         }
     }
 
-    /// How two states are ordered, if there are so many: memory, threads, history, each as lists are. It takes no memory.
-    pub fn compare(&self, a: usize, b: usize) -> Option<Ordering>
-        ensures { IsCompared self.now.states a b result }
+    /// Its states, to be compared with one another.
+    pub fn rising(&self) -> Rising<'_>
+        ensures { result ≡ self.now.states }
     {
-        match kept_at(self.keys.as_slice(), a) {
-            Some(first) => match kept_at(self.keys.as_slice(), b) {
-                Some(second) => Some(compare_keys(&self.parts, &first, &second)),
-                None => None,
-            },
-            None => None,
-        }
+        Rising::of(self.checked, &self.parts, self.keys.as_slice())
     }
 
     /// One store of these states, in this order. No state is compared, hashed or copied, and the store has no index of them, so

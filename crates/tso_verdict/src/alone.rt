@@ -12,6 +12,7 @@ use tso_front::{
     FILE, Failure, Files, Session, Streams, VERSION, ended_words, reported, started, with_word,
     with_words,
 };
+use tso_load::Source;
 use tso_survey::{COLLECTED, asking_of, survey};
 
 const HELP: &str =
@@ -55,7 +56,7 @@ fn command<'a>(alloc: Global) -> Result<Command<'a>, AllocError> {
 }
 
 // Decides the certificate that the words name, and gives the status.
-fn answer<R: Threads + Wait + Sync, S: Session>(
+fn answer<R: Threads + Wait + Source + Sync, S: Session>(
     rt: &R,
     session: &mut S,
     asked: &Check<'_>,
@@ -84,7 +85,7 @@ fn collect<R: Threads + Wait + Sync, S: Session>(
 }
 
 // Does what the words of a command ask for, and gives the status.
-fn answer_to<R: Threads + Wait + Sync, S: Session>(
+fn answer_to<R: Threads + Wait + Source + Sync, S: Session>(
     rt: &R,
     session: &mut S,
     matches: &ArgMatches<'_>,
@@ -105,7 +106,7 @@ fn print_help<S: Session>(session: &mut S, error: &Error) -> Result<u8, Failure>
 }
 
 // Does what the words ask for, and gives the status.
-fn perform<R: Threads + Wait + Sync, S: Session>(
+fn perform<R: Threads + Wait + Source + Sync, S: Session>(
     rt: &R,
     session: &mut S,
     words: &[String],
@@ -127,7 +128,7 @@ fn perform<R: Threads + Wait + Sync, S: Session>(
 
 /// Runs the program that decides certificates: its words, with its own name first; what opens its files; its standard output
 /// and error. It answers the status with which the process is to end.
-pub fn run_check<R: Threads + Wait + Sync, F: Files, O: Write, E: Write>(
+pub fn run_check<R: Threads + Wait + Source + Sync, F: Files, O: Write, E: Write>(
     rt: &R,
     alloc: Global,
     words: &[String],
@@ -149,7 +150,7 @@ pub fn run_check<R: Threads + Wait + Sync, F: Files, O: Write, E: Write>(
 
 /// Runs it with the words of the command line, also where a word is not UTF-8, or memory for the words is wanting.
 pub fn run_check_process<
-    R: Threads + Wait + Sync,
+    R: Threads + Wait + Source + Sync,
     S: Env + Alloc<A = Global>,
     F: Files,
     O: Write + Drop,

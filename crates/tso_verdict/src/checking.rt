@@ -11,11 +11,13 @@ use std::alloc::{AllocError, Global};
 use std::sync::Wait;
 use std::thread::Threads;
 use tso_cert::{NoWatch, Workers};
-use tso_check::{Verdict, check_with};
+use tso_check::{Verdict, check_parts, check_with};
 use tso_front::{
     FILE, Failure, JSON, Session, VARIANT, Variant, Word, misused, number_argument, number_or_null,
     read_apart, variant_of, with_word, with_words,
 };
+use tso_list::Seq;
+use tso_load::{Source, load};
 
 /// Which certificate is decided, for which program, by how many workers.
 #[derive(Clone, Copy)]
@@ -157,11 +159,25 @@ pub fn put_verdict<S: Session>(
     session.flush()
 }
 
+// The verdict on a certificate that lies in several parts.
+fn verdict_on_parts<R: Threads + Wait + Sync>(
+    rt: &R,
+    alloc: Global,
+    program: &[u8],
+    parts: &[Seq<u8>],
+    workers: Workers,
+) -> Result<Verdict, Failure>
+    ensures headline { result ≡ Ok verdicts.Accepted → IsVerified program.now }
+{
+    let verdict = check_parts(rt, alloc, program, parts, workers, &NoWatch)?;
+    Ok(verdict)
+}
+
 /// Decides a certificate, whose bytes are in a file, for a program text, prints the verdict and gives it: where it is accepted,
-/// the text denotes a client, and each of its runs is good.
+/// the text denotes a client, and each of its runs is good. By several workers a large file is read in parts (`tso_load`).
 ///
 /// Errors: `CannotRead`; `Program` with the first fault of the text; `CannotPrint`; `Memory`.
-pub fn check_bytes<R: Threads + Wait + Sync, S: Session>(
+pub fn check_bytes<R: Threads + Wait + Source + Sync, S: Session>(
     rt: &R,
     session: &mut S,
     program: &[u8],
@@ -169,8 +185,8 @@ pub fn check_bytes<R: Threads + Wait + Sync, S: Session>(
 ) -> Result<Verdict, Failure>
     ensures headline { result ≡ Ok verdicts.Accepted → IsVerified program.now }
 {
-    let cert = session.read(asked.cert, usize::MAX)?;
-    let verdict = verdict_on(rt, session.alloc(), program, &cert, asked.workers)?;
+    let parts = load(rt, session, asked.cert, asked.workers.count())?;
+    let verdict = verdict_on_parts(rt, session.alloc(), program, &parts, asked.workers)?;
     put_verdict(session, verdict, asked.json)?;
     Ok(verdict)
 }

@@ -14,6 +14,7 @@ use std::sync::Wait;
 use std::thread::Threads;
 use std::time::Duration;
 use tso_front::{Failure, Files, STREAM, Session, Streams, json_line, reported, started};
+use tso_load::Source;
 use tso_replay::{Listener, Progress, Sizes, Texts, limit_object, run_replay, tell_cause};
 use tso_request::{
     Asked, Covering, FenceSearch, Parsing, Request, Search, Survey, Upgrading, request_of,
@@ -21,7 +22,7 @@ use tso_request::{
 use tso_say::{Topic, explanation};
 use tso_verdict::{Check, check_bytes, put_verdict, verdict_status};
 
-fn check<R: Threads + Wait + Sync, S: Session>(
+fn check<R: Threads + Wait + Source + Sync, S: Session>(
     rt: &R,
     session: &mut S,
     texts: &mut Texts,
@@ -250,7 +251,7 @@ fn search<R: Threads + Wait + Sync, S: Session + Files, L: Listener + Sync>(
 }
 
 // Does what the words ask for, and gives the status.
-fn perform<R: Threads + Wait + Sync, S: Session + Files, L: Listener + Sync>(
+fn perform<R: Threads + Wait + Source + Sync, S: Session + Files, L: Listener + Sync>(
     rt: &R,
     session: &mut S,
     texts: &mut Texts,
@@ -275,7 +276,7 @@ fn perform<R: Threads + Wait + Sync, S: Session + Files, L: Listener + Sync>(
 }
 
 // The same, with all that was printed written out.
-fn perform_all<R: Threads + Wait + Sync, S: Session + Files, L: Listener + Sync>(
+fn perform_all<R: Threads + Wait + Source + Sync, S: Session + Files, L: Listener + Sync>(
     rt: &R,
     session: &mut S,
     texts: &mut Texts,
@@ -288,7 +289,7 @@ fn perform_all<R: Threads + Wait + Sync, S: Session + Files, L: Listener + Sync>
 }
 
 // Does what the words ask for, and where it does not succeed says why.
-fn answer<R: Threads + Wait + Sync, S: Session + Files, L: Listener + Sync>(
+fn answer<R: Threads + Wait + Source + Sync, S: Session + Files, L: Listener + Sync>(
     rt: &R,
     session: &mut S,
     listener: &L,
@@ -316,7 +317,7 @@ fn answer<R: Threads + Wait + Sync, S: Session + Files, L: Listener + Sync>(
 
 /// Runs the program: its words, with its own name first; what opens its files; what hears of a search; its standard output and
 /// error. It answers the status with which the process is to end.
-pub fn run<R: Threads + Wait + Sync, F: Files, L: Listener + Sync, O: Write, E: Write>(
+pub fn run<R: Threads + Wait + Source + Sync, F: Files, L: Listener + Sync, O: Write, E: Write>(
     rt: &R,
     alloc: Global,
     words: &[String],
@@ -340,7 +341,7 @@ pub fn run<R: Threads + Wait + Sync, F: Files, L: Listener + Sync, O: Write, E: 
 /// Runs the program with the words of the command line, and answers the status with which the process is to end: also where
 /// a word is not UTF-8, and where memory for the words is wanting.
 pub fn run_process<
-    R: Threads + Wait + Sync,
+    R: Threads + Wait + Source + Sync,
     S: Env + Alloc<A = Global>,
     F: Files,
     L: Listener + Sync,

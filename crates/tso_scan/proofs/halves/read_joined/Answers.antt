@@ -1,12 +1,14 @@
+use Rattle.std.proofs.Common.{Bool, subst, sym}
 use Rattle.tso_scan.proofs.HalfLemmas.{forked}
 use Rattle.tso_scan.proofs.halves.read_joined.Goals as goal
-use Rattle.tso_scan.specs.Halves.{stretch_of}
+use Rattle.tso_scan.specs.Halves.{AreHalvesOf, stretch_at}
 
 pub returns-in_ok-half-in-Ok-Some : goal.returns-in_ok-half-in-Ok-Some
 returns-in_ok-half-in-Ok-Some c =
-    let w = c.args.whole.now in
-    let l = c.args.left.now in
-    let r = c.args.right.now in
+    let whole = stretch_at c.args.whole.now in
+    let left = stretch_at c.args.left.now in
+    let right = stretch_at c.args.right.now in
+    let halves = subst (λ (b : Bool). AreHalvesOf b whole left right) (sym c.is_apart-apart.ensures) c.requires.halves in
     let grafted = rw c.in-Ok-Some.field-0-is at c.in-Ok-Some.ensures in
-    forked (stretch_of w.checked.now.client w.depth w.room w.bytes.now) (stretch_of l.checked.now.client l.depth l.room l.bytes.now) (stretch_of r.checked.now.client r.depth r.room r.bytes.now) c.args.first c.args.second c.in_ok-half-in-Ok-Some.half c.graft.new.states c.in-Ok-Some.room
-    c.requires.halves c.requires.first c.requires.second grafted.grafted (rw grafted.records at c.in_ok-half-in-Ok-Some.ensures)
+    forked c.is_apart-apart.result whole left right c.args.first c.args.second c.in_ok-half-in-Ok-Some.half c.graft.new.states c.in-Ok-Some.room
+    halves c.requires.first c.requires.second grafted.grafted (rw grafted.records at c.in_ok-half-in-Ok-Some.ensures)
