@@ -1,6 +1,6 @@
 //! Which call a case is.
 
-use crate::{choices, judged, leaf, meetings, runs, ticket};
+use crate::{choices, judged, leaf, meetings, parted, runs, ticket};
 use std::alloc::Global;
 use std::rt::Files;
 use std::sync::Wait;
@@ -67,6 +67,10 @@ fn answer_of_files<R: Files + AllocGlobal + Threads + Wait + Sync>(
     match word(call, 0) {
         "check" => meetings::put_check(alloc, &program, &cert, out),
         "check_client" => meetings::put_check_client(alloc, &program, &cert, out),
+        "check_parts" => {
+            let (size, workers) = (number_at(call, 3)?, number_at(call, 4)?);
+            parted::put_check_parts(rt, alloc, &program, &cert, size, workers, out)
+        }
         "leaf" => leaf::put_records(alloc, &program, &cert, call, out),
         _ => meetings::put_two_check(rt, alloc, &program, &cert, out),
     }
@@ -106,7 +110,9 @@ pub fn answer<R: Files + AllocGlobal + Threads + Wait + Sync>(
 ) -> Result<(), Failure> {
     let alloc = rt.alloc();
     match word(call, 0) {
-        "check" | "check_client" | "leaf" | "two_workers_check" => answer_of_files(rt, call, out),
+        "check" | "check_client" | "check_parts" | "leaf" | "two_workers_check" => {
+            answer_of_files(rt, call, out)
+        }
         "two_workers_find" => ticket::put_found_by_two(rt, alloc, call, out),
         "workers" => meetings::put_workers(number_at(call, 1)?, out),
         _ => {

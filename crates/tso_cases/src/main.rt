@@ -12,6 +12,7 @@ mod leaf;
 mod meeting;
 mod meetings;
 mod packed;
+mod parted;
 mod runs;
 mod ticket;
 

@@ -57,11 +57,21 @@ impl Watch for AtTickets {
 }
 
 // So many workers.
-fn workers_of(count: u64) -> Result<Workers, Failure> {
+pub fn workers_of(count: u64) -> Result<Workers, Failure> {
     match Workers::new(count) {
         Some(workers) => Ok(workers),
         None => Err(Failure::Unreadable),
     }
+}
+
+/// Writes what a check has answered.
+pub fn put_answer(answer: Result<Verdict, CheckError>, out: &mut String) -> Result<(), Failure> {
+    match answer {
+        Ok(verdict) => write!(out, "{verdict}")?,
+        Err(CheckError::Program(_)) => out.push_str("no program")?,
+        Err(CheckError::Memory) => return Err(Failure::Memory),
+    }
+    Ok(())
 }
 
 /// One thread checks a certificate for a program.
@@ -71,12 +81,7 @@ pub fn put_check(
     cert: &[u8],
     out: &mut String,
 ) -> Result<(), Failure> {
-    match check(alloc, program, cert) {
-        Ok(verdict) => write!(out, "{verdict}")?,
-        Err(CheckError::Program(_)) => out.push_str("no program")?,
-        Err(CheckError::Memory) => return Err(Failure::Memory),
-    }
-    Ok(())
+    put_answer(check(alloc, program, cert), out)
 }
 
 /// The same for the client of a program.
