@@ -1,7 +1,7 @@
 //! Where the right half of a fork may begin. What is found here is a guess, which costs time where it is wrong: whoever reads the
 //! left half finds out.
 
-ghost use Rattle.std.specs.Prelude.{IfSome};
+ghost use Rattle.std.specs.Prelude.{◌≤◌, IfSome, length};
 ghost use Rattle.tso_scan.specs.Halves.{IsEnd};
 
 use std::alloc::Global;
@@ -157,7 +157,9 @@ pub fn forks_at(alloc: Global, bytes: &[u8]) -> Option<usize> {
 
 /// Where in the bytes a tree may begin that has so many forks on the way to its first leaf, and before it the state of its first record:
 /// so does the right half of a fork.
-pub fn seam_in(alloc: Global, bytes: &[u8], forks: usize) -> Option<usize> {
+pub fn seam_in(alloc: Global, bytes: &[u8], forks: usize) -> Option<usize>
+    ensures { IfSome result (λ place. place ≤ length bytes.now) }
+{
     if forks < FEWEST {
         return None;
     }

@@ -1,6 +1,5 @@
 -- Worked states that are spelled as the records of a tree.
 use Rattle.std.proofs.Common.{◌≡◌, ◌∙◌, ℕ, ◌+◌, ◌/◌, ◌<◌, ◌≤◌, List, [], ◌∷◌, ◌++◌, length, take, drop, get_or, Some, slice_get, refl, sym, ap, subst, append_assoc, arith}
-use Rattle.std.proofs.lemmas.Grind.{flat_map-append}
 use Rattle.std.proofs.lemmas.List.{append-nil, flat_map_more, length-drop}
 use Rattle.std.specs.List.{flat_map}
 use Rattle.tso_cert.specs.Trees.{fork, leaf, spelling_of}
@@ -74,42 +73,12 @@ fork_behind u left right o a b d e ready halves one first middle second =
           ∙ append_assoc o (1 ∷ []) (L ++ (S ++ R));
     }
 
--- the pieces of a fork, put together
-pub fork_pieces : {V : Type 0} (items : V → List ℕ) (z a b d e low high : List V) (front middle : V) → z ≡ [] → a ≡ z ++ front ∷ [] → items front ≡ 1 ∷ [] → b ≡ a ++ low → d ≡ b ++ middle ∷ [] → e ≡ d ++ high
-    → flat_map items e ≡ 1 ∷ (flat_map items low ++ (items middle ++ flat_map items high))
-fork_pieces items z a b d e low high front middle none one byte first mid last =
-    let L = flat_map items low in
-    let H = flat_map items high in
-    let fronts : a ≡ front ∷ [] = one ∙ ap (λ l. l ++ front ∷ []) none in
-    let whole : e ≡ ((front ∷ low) ++ middle ∷ []) ++ high = last ∙ ap (λ l. l ++ high) (mid ∙ ap (λ l. l ++ middle ∷ []) (first ∙ ap (λ l. l ++ low) fronts)) in
-    ap (flat_map items) whole
-    ∙ flat_map-append items ((front ∷ low) ++ middle ∷ []) high
-    ∙ ap (λ (l : List ℕ). l ++ H) (flat_map-append items (front ∷ low) (middle ∷ []) ∙ ap (λ (l : List ℕ). (items front ++ L) ++ l) (append-nil (items middle)) ∙ ap (λ (l : List ℕ). (l ++ L) ++ items middle) byte)
-    ∙ ap (λ (l : List ℕ). 1 ∷ l) (append_assoc L (items middle) H)
-
--- the pieces of a leaf, or of what one thread has spelled
-pub one_piece : {V : Type 0} (items : V → List ℕ) (u : Numbered) (z a : List V) (bytes : V) → z ≡ [] → a ≡ z ++ bytes ∷ [] → IsSpelledCut u (items bytes) → IsSpelledCut u (flat_map items a)
-one_piece items u z a bytes none one is =
-    let whole : flat_map items a ≡ items bytes = ap (flat_map items) (one ∙ ap (λ l. l ++ bytes ∷ []) none) ∙ append-nil (items bytes) in
-    subst (IsSpelledCut u) (sym whole) is
-
 -- where nothing was there before
 pub spelled_alone : (u : Numbered) (o bytes : List ℕ) → o ≡ [] → IsSpelledBehind u o bytes → IsSpelledCut u bytes
 spelled_alone u o bytes none is = record { tree = is.tree; cut = is.cut; spelled = is.spelled ∙ ap (λ (w : List ℕ). w ++ spelling_of is.tree) none }
 
 pub state_alone : (states : List State) (n : ℕ) (o bytes : List ℕ) → o ≡ [] → IsStateBehind states n o bytes → IsStateBehind states n [] bytes
 state_alone states n o bytes none is = let P : List ℕ → Type 0 = λ l. IsStateBehind states n l bytes in subst P none is
-
-pub fork_spelled : (u left right : Numbered) (l r middle bytes : List ℕ) → CanBeCut u → AreHalvesCut u left right → IsSpelledCut left l → IsSpelledCut right r
-    → IsStateBehind u.states (get_or right.numbers 0 0) [] middle → bytes ≡ 1 ∷ (l ++ (middle ++ r)) → IsSpelledCut u bytes
-fork_spelled u left right l r middle bytes ready halves first second between is = record {
-  tree = fork first.tree between.spelled second.tree;
-  cut = fork_of_halves u left right first.tree second.tree between.spelled ready halves first.cut second.cut between.at;
-  spelled =
-      is ∙ ap (λ (w : List ℕ). 1 ∷ (w ++ (middle ++ r))) first.spelled
-      ∙ ap (λ (w : List ℕ). 1 ∷ (spelling_of first.tree ++ (w ++ r))) between.is
-      ∙ ap (λ (w : List ℕ). 1 ∷ (spelling_of first.tree ++ (state between.spelled ++ w))) second.spelled;
-}
 
 -- ---- records
 

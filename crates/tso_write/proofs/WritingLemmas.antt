@@ -1,10 +1,9 @@
 -- Worked states that are written as a tree, part by part.
-use Rattle.std.proofs.Common.{◌≡◌, ◌∙◌, ℕ, ◌-◌, ◌<◌, ◌≤◌, List, [], ◌∷◌, ◌++◌, length, take, drop, get_or, Option, Result, Ok, Err, sym, ap, subst, append_assoc, arith}
+use Rattle.std.proofs.Common.{◌≡◌, ◌∙◌, ℕ, List, [], ◌∷◌, ◌++◌, get_or, Option, sym, ap, subst, append_assoc}
 use Rattle.std.proofs.KnownBytes.{Appends-nil, Appends-trans}
-use Rattle.std.proofs.lemmas.List.{append-nil, take_rest}
+use Rattle.std.proofs.lemmas.List.{append-nil}
+use Rattle.std.proofs.lemmas.Option.{same_Some}
 use Rattle.std.specs.Io.KnownBytes.{Appends}
-use Rattle.std.specs.List.{flat_map}
-use Rattle.std.specs.Prelude.{OnErr, OnOk}
 use Rattle.tso_cert.specs.Certificates.{magic}
 use Rattle.tso_cert.specs.Trees.{fork, spelling_of}
 use Rattle.tso_code.specs.States.{state}
@@ -12,7 +11,7 @@ use Rattle.tso_code.specs.Tables.{table}
 use Rattle.tso_write.proofs.CuttingLemmas.{tree_of_worked}
 use Rattle.tso_write.proofs.Sorting.{order_is_there}
 use Rattle.tso_write.proofs.TaskLemmas.{fork_of_halves}
-use Rattle.tso_write.specs.Spelling.{InLeft, InRight, IsPut, IsPutBehind, IsPutInPart, IsPutInPartBehind, IsStateBehind, Nothing, Whole}
+use Rattle.tso_write.specs.Spelling.{AreBytesFor, AreOf, InLeft, InRight, IsPut, IsPutInPart, IsSpelledCut, IsStateBehind, Nothing, Whole}
 use Rattle.tso_write.specs.Tasks.{AreHalvesCut, CanBeCut, Numbered, uncut}
 use Rattle.tso_write.specs.Worked.{AreWorkedOut, IsWritten, IsWrittenInPart}
 use Rattle.tso_write.specs.declared.worked.Worked.{Worked}
@@ -25,49 +24,21 @@ use Rattle.tso_judge.specs.Certified.{CertificatesFit}
 use Rattle.tso_state.specs.declared.state.State.{State}
 use Rattle.tso_keys.specs.Orders.{IsRising}
 
--- ---- pieces
+-- ---- slabs
 
-split_first : {V : Type 0} (pieces : List V) (first : V) → 0 < length pieces → first ≡ get_or pieces 0 first → pieces ≡ first ∷ drop 1 pieces
-split_first [] first some is = absurd (omega (arith, some))
-split_first (x ∷ xs) first some is = ap (λ y. y ∷ xs) (sym is)
+pub slab_begun : (u : Numbered) (a b : Option (List ℕ)) (bytes slice : List ℕ) → slice ≡ bytes → IsSpelledCut u bytes → AppendsBeginning a b slice → IsPutInPart u a b
+slab_begun u a b bytes slice same is out = record { front = spelling_of is.tree; begun = Whole u is.tree is.cut; appended = subst (AppendsBeginning a b) (same ∙ is.spelled) out }
 
-module _ {V : Type 0} (items : V → List ℕ) (a b d : Option (List ℕ)) (first : V) (pieces : List V) (slice : List ℕ) (some : 1 ≤ length pieces) (is : first ≡ get_or pieces 0 first) (same : slice ≡ items first) where
-  abbrev others : List ℕ
-  others = flat_map items (take (length pieces - 1) (drop 1 pieces))
+pub slab_put : (u : Numbered) (a b : Option (List ℕ)) (bytes slice : List ℕ) → slice ≡ bytes → IsSpelledCut u bytes → Appends a b slice → IsPut u a b
+slab_put u a b bytes slice same is out = record { tree = is.tree; cut = is.cut; appended = subst (Appends a b) (same ∙ is.spelled) out }
 
-  pieces_from : flat_map items pieces ≡ slice ++ others
-  pieces_from = ap (flat_map items) (split_first pieces first (omega (arith, some)) is ∙ ap (λ l. first ∷ l) (sym (take_rest pieces 1))) ∙ ap (λ (l : List ℕ). l ++ others) (sym same)
-
-  -- of the first piece a beginning went out
-  pub piece_begun : AppendsBeginning a b slice → AppendsBeginning a b (flat_map items pieces)
-  piece_begun out = beginning_behind a a b (flat_map items pieces) [] slice others pieces_from (Appends-nil a) out
-
-  -- the first piece, and of the others a beginning
-  pub pieces_begun : Appends a b slice → AppendsBeginning b d others → AppendsBeginning a d (flat_map items pieces)
-  pieces_begun one out = beginning_behind a b d (flat_map items pieces) slice others [] (pieces_from ∙ ap (λ (l : List ℕ). slice ++ l) (sym (append-nil others))) one out
-
--- ---- pieces that wait
-
--- what is known of a result that is an error, and of one that is none
-module _ {A E : Type 0} {P : Type 0} (r : Result A E) where
-  pub of_err : (e : E) → r ≡ Err e → OnErr r P → P
-  of_err e is known = let Q : Result A E → Type 0 = λ x. OnErr x P in subst Q is known
-
-  pub of_ok : (x : A) → r ≡ Ok x → OnOk r P → P
-  of_ok x is known = let Q : Result A E → Type 0 = λ y. OnOk y P in subst Q is known
-
-module _ {V : Type 0} (items : V → List ℕ) (u : Numbered) (a b : Option (List ℕ)) (waiting slice : List V) (same : slice ≡ waiting) where
-  -- a beginning of what waited went out
-  pub slab_begun : AppendsBeginning a b (flat_map items slice) → IsPutInPartBehind u (flat_map items waiting) a b
-  slab_begun out = record { front = []; begun = Nothing u; appended = subst (AppendsBeginning a b) (ap (flat_map items) same ∙ sym (append-nil (flat_map items waiting))) out }
-
-  -- all that waited went out, and nothing was spelled
-  pub slab_unspelled : Appends a b (flat_map items slice) → IsPutInPartBehind u (flat_map items waiting) a b
-  slab_unspelled out = slab_begun (beginning_of_part a b b (flat_map items slice) (flat_map items slice) [] (sym (append-nil (flat_map items slice))) out)
-
--- nothing went out
-pub none_behind : (u : Numbered) (waiting : List ℕ) (a : Option (List ℕ)) → IsPutInPartBehind u waiting a a
-none_behind u waiting a = record { front = []; begun = Nothing u; appended = beginning_of_none a (waiting ++ []) }
+-- the bytes of states are theirs, whoever asks for them
+pub bytes_for : (source : Option Numbered) (w : Numbered) (bytes : List ℕ) → AreOf source w → IsSpelledCut w bytes → AreBytesFor source w.numbers bytes
+bytes_for source w bytes of is = λ u other same.
+    let p : uncut w.client w.table w.states [] ≡ uncut u.client u.table u.states [] = same_Some (uncut w.client w.table w.states []) (uncut u.client u.table u.states []) (sym of ∙ other) in
+    let P : Numbered → Type 0 = λ v. IsSpelledCut v bytes in
+    let e : w ≡ u = λ i. record { client = (p i).client; table = (p i).table; states = (p i).states; numbers = (sym same) i } in
+    subst P e is
 
 -- ---- a fork, part by part
 
@@ -77,101 +48,79 @@ of_whole u left right bytes halves is =
     let P : List State → Type 0 = λ states. IsStateBehind states (get_or right.numbers 0 0) [] bytes in
     subst P (ap (λ (x : Numbered). x.states) halves.right_is) is
 
--- the fork's byte and its left half are put behind what waits, and then its state
-module _ (waiting forked first halved gone L S : List ℕ) (one : forked ≡ waiting ++ 1 ∷ []) (split : forked ++ L ≡ gone ++ first) (two : halved ≡ first ++ S) where
-  left_split : (rest : List ℕ) → waiting ++ (1 ∷ (L ++ rest)) ≡ gone ++ (first ++ rest)
-  left_split rest =
-      sym (append_assoc waiting (1 ∷ []) (L ++ rest))
-      ∙ ap (λ (w : List ℕ). w ++ (L ++ rest)) (sym one)
-      ∙ sym (append_assoc forked L rest)
-      ∙ ap (λ (w : List ℕ). w ++ rest) split
-      ∙ append_assoc gone first rest
+module _ (u left right : Numbered) (halves : AreHalvesCut u left right) (a b : Option (List ℕ)) where
+  -- a beginning of the fork's byte went out
+  pub byte_begun : (byte : List ℕ) → byte ≡ 1 ∷ [] → AppendsBeginning a b byte → IsPutInPart u a b
+  byte_begun byte is out = record { front = 1 ∷ []; begun = InLeft u left right [] halves (Nothing left); appended = subst (AppendsBeginning a b) is out }
 
-  fork_split : (rest : List ℕ) → waiting ++ (1 ∷ (L ++ (S ++ rest))) ≡ gone ++ (halved ++ rest)
-  fork_split rest = left_split (S ++ rest) ∙ ap (λ (w : List ℕ). gone ++ w) (sym (append_assoc first S rest) ∙ ap (λ (w : List ℕ). w ++ rest) (sym two))
+  module _ (byte : List ℕ) (byte_is : byte ≡ 1 ∷ []) (byte_put : Appends a b byte) (c : Option (List ℕ)) where
+    begun_put : Appends a b (1 ∷ [])
+    begun_put = subst (Appends a b) byte_is byte_put
 
-module _ (u left right : Numbered) (halves : AreHalvesCut u left right) (a b : Option (List ℕ)) (waiting byte forked : List ℕ) (of : byte ≡ 1 ∷ []) (one : forked ≡ waiting ++ byte) where
-  -- the fork's byte is put behind what waits
-  put_byte : forked ≡ waiting ++ 1 ∷ []
-  put_byte = one ∙ ap (λ (l : List ℕ). waiting ++ l) of
+    -- its left half went out in part
+    pub part_of_left : IsPutInPart left b c → IsPutInPart u a c
+    part_of_left part = record {
+      front = 1 ∷ part.front;
+      begun = InLeft u left right part.front halves part.begun;
+      appended = beginning_behind a b c (1 ∷ part.front) (1 ∷ []) part.front [] (ap (λ (l : List ℕ). 1 ∷ l) (sym (append-nil part.front))) begun_put part.appended;
+    }
 
-  -- its left half went out in part
-  pub part_of_left : IsPutInPartBehind left forked a b → IsPutInPartBehind u waiting a b
-  part_of_left part = record {
-    front = 1 ∷ part.front;
-    begun = InLeft u left right part.front halves part.begun;
-    appended = subst (AppendsBeginning a b) (ap (λ (w : List ℕ). w ++ part.front) put_byte ∙ append_assoc waiting (1 ∷ []) part.front) part.appended;
-  }
+    module _ (first : IsPut left b c) where
+      abbrev L : List ℕ
+      L = spelling_of first.tree
 
-  module _ (first : List ℕ) (behind : IsPutBehind left forked first a b) where
-    -- its left half is put behind, and no more
-    pub part_before_state : IsPutInPartBehind u waiting a b
-    part_before_state =
-        let L = spelling_of behind.tree in
-        let put = behind.put in
-        let e : waiting ++ (1 ∷ L) ≡ put.gone ++ first =
-        sym (append_assoc waiting (1 ∷ []) L) ∙ ap (λ (w : List ℕ). w ++ L) (sym put_byte) ∙ put.split in
-        record {
-          front = 1 ∷ L;
-          begun = InLeft u left right L halves (Whole left behind.tree behind.cut);
-          appended = beginning_of_part a b b (waiting ++ (1 ∷ L)) put.gone first e put.appended;
+      half_put : Appends a c (1 ∷ L)
+      half_put = Appends-trans a b c (1 ∷ []) L begun_put first.appended
+
+      -- its left half, and no more
+      pub part_before_state : IsPutInPart u a c
+      part_before_state = record {
+        front = 1 ∷ L;
+        begun = InLeft u left right L halves (Whole left first.tree first.cut);
+        appended = beginning_of_part a c c (1 ∷ L) (1 ∷ L) [] (sym (append-nil (1 ∷ L))) half_put;
+      }
+
+      module _ (d : Option (List ℕ)) (bytes slice : List ℕ) (state_is : IsStateBehind right.states (get_or right.numbers 0 0) [] bytes) (same : slice ≡ bytes) where
+        middle : IsStateBehind u.states (get_or right.numbers 0 0) [] bytes
+        middle = of_whole u left right bytes halves state_is
+
+        abbrev S : List ℕ
+        S = state middle.spelled
+
+        -- its left half, and a beginning of its state
+        pub part_of_state : AppendsBeginning c d slice → IsPutInPart u a d
+        part_of_state out = record {
+          front = 1 ∷ (L ++ (S ++ []));
+          begun = InRight u left right first.tree middle.spelled [] halves first.cut middle.at (Nothing right);
+          appended = beginning_behind a c d (1 ∷ (L ++ (S ++ []))) (1 ∷ L) slice [] (ap (λ (w : List ℕ). 1 ∷ (L ++ (w ++ []))) (sym (same ∙ middle.is))) half_put out;
         }
 
-    module _ (c : Option (List ℕ)) (bytes halved : List ℕ) (state_is : IsStateBehind right.states (get_or right.numbers 0 0) [] bytes) (two : halved ≡ first ++ bytes) where
-      -- its left half and its state are put behind, and its right half went out in part
-      pub part_of_right : IsPutInPartBehind right halved b c → IsPutInPartBehind u waiting a c
-      part_of_right part =
-          let middle = of_whole u left right bytes halves state_is in
-          let L = spelling_of behind.tree in
-          let S = state middle.spelled in
-          let put = behind.put in
-          let front = 1 ∷ (L ++ (S ++ part.front)) in
-          let e : waiting ++ front ≡ put.gone ++ ((halved ++ part.front) ++ []) =
-          fork_split waiting forked first halved put.gone L S put_byte put.split (two ∙ ap (λ (w : List ℕ). first ++ w) middle.is) part.front
-          ∙ ap (λ (w : List ℕ). put.gone ++ w) (sym (append-nil (halved ++ part.front))) in
-          record {
-            front = front;
-            begun = InRight u left right behind.tree middle.spelled part.front halves behind.cut middle.at part.begun;
-            appended = beginning_behind a b c (waiting ++ front) put.gone (halved ++ part.front) [] e put.appended part.appended;
+        module _ (out : Appends c d slice) (e : Option (List ℕ)) where
+          state_put : Appends a d (1 ∷ (L ++ S))
+          state_put = let P : List ℕ → Type 0 = λ w. Appends a d (1 ∷ (L ++ w)) in subst P (same ∙ middle.is) (Appends-trans a c d (1 ∷ L) slice half_put out)
+
+          -- its left half and its state, and its right half in part
+          pub part_of_right : IsPutInPart right d e → IsPutInPart u a e
+          part_of_right part = record {
+            front = 1 ∷ (L ++ (S ++ part.front));
+            begun = InRight u left right first.tree middle.spelled part.front halves first.cut middle.at part.begun;
+            appended =
+                beginning_behind a d e (1 ∷ (L ++ (S ++ part.front))) (1 ∷ (L ++ S)) part.front []
+                (ap (λ (w : List ℕ). 1 ∷ w) (sym (append_assoc L S part.front) ∙ ap (λ (w : List ℕ). (L ++ S) ++ w) (sym (append-nil part.front)))) state_put part.appended;
           }
 
-      -- all of it is put behind
-      pub put_fork : (last : List ℕ) → CanBeCut u → IsPutBehind right halved last b c → IsPutBehind u waiting last a c
-      put_fork last ready second =
-          let middle = of_whole u left right bytes halves state_is in
-          let L = spelling_of behind.tree in
-          let S = state middle.spelled in
-          let R = spelling_of second.tree in
-          let put = behind.put in
-          let next = second.put in
-          let e : waiting ++ (1 ∷ (L ++ (S ++ R))) ≡ (put.gone ++ next.gone) ++ last =
-          fork_split waiting forked first halved put.gone L S put_byte put.split (two ∙ ap (λ (w : List ℕ). first ++ w) middle.is) R
-          ∙ ap (λ (w : List ℕ). put.gone ++ w) next.split
-          ∙ sym (append_assoc put.gone next.gone last) in
-          record {
-            tree = fork behind.tree middle.spelled second.tree;
-            cut = fork_of_halves u left right behind.tree second.tree middle.spelled ready halves behind.cut second.cut middle.at;
-            put = record { gone = put.gone ++ next.gone; appended = Appends-trans a b c put.gone next.gone put.appended next.appended; split = e };
+          -- all of it
+          pub put_fork : CanBeCut u → IsPut right d e → IsPut u a e
+          put_fork ready second = record {
+            tree = fork first.tree middle.spelled second.tree;
+            cut = fork_of_halves u left right first.tree second.tree middle.spelled ready halves first.cut second.cut middle.at;
+            appended = subst (Appends a e) (ap (λ (w : List ℕ). 1 ∷ w) (append_assoc L S (spelling_of second.tree))) (Appends-trans a d e (1 ∷ (L ++ S)) (spelling_of second.tree) state_put second.appended);
           }
 
 -- ---- the whole tree
 
 pub part_of_nothing : (u : Numbered) (a : Option (List ℕ)) → IsPutInPart u a a
 part_of_nothing u a = record { front = []; begun = Nothing u; appended = beginning_of_none a [] }
-
--- nothing waited: of the last pieces a beginning went out
-pub last_begun : {V : Type 0} (items : V → List ℕ) (u : Numbered) (a b c : Option (List ℕ)) (none last slice : List V) → none ≡ [] → slice ≡ last → IsPutBehind u (flat_map items none) (flat_map items last) a b
-    → AppendsBeginning b c (flat_map items slice) → IsPutInPart u a c
-last_begun items u a b c none last slice empty same behind out =
-    let put = behind.put in
-    let left = flat_map items last in
-    let e : spelling_of behind.tree ≡ put.gone ++ (left ++ []) =
-    ap (λ (l : List ℕ). l ++ spelling_of behind.tree) (sym (ap (flat_map items) empty)) ∙ put.split ∙ ap (λ (l : List ℕ). put.gone ++ l) (sym (append-nil left)) in
-    record {
-      front = spelling_of behind.tree;
-      begun = Whole u behind.tree behind.cut;
-      appended = beginning_behind a b c (spelling_of behind.tree) put.gone left [] e put.appended (subst (AppendsBeginning b c) (ap (flat_map items) same) out);
-    }
 
 -- ---- the whole
 

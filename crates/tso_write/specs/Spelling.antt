@@ -5,7 +5,7 @@ use Rattle.std.specs.Prelude.{◌≡◌, ℕ, List, [], ◌∷◌, ◌++◌, get
 use Rattle.tso_cert.specs.Trees.{Tree, spelling_of}
 use Rattle.tso_code.specs.States.{state}
 use Rattle.tso_write.specs.Cutting.{AreRecordsOf, IsRecordOf}
-use Rattle.tso_write.specs.Tasks.{AreHalvesCut, CanBeCut, IsCutOf, Numbered}
+use Rattle.tso_write.specs.Tasks.{AreHalvesCut, CanBeCut, IsCutOf, Numbered, uncut}
 use Rattle.tso_list.specs.Beginnings.{AppendsBeginning}
 use Rattle.tso_prog.specs.declared.client.Client.{Client}
 use Rattle.tso_rec.specs.Spelling.{a_record}
@@ -76,24 +76,6 @@ pub record IsPutInPart (u : Numbered) (old new : Option (List ℕ)) : Type 0 whe
   pub begun : IsFront u front
   pub appended : AppendsBeginning old new front
 
--- bytes are put behind those that wait: known bytes grow by the front of all these, and the rest of them is left to wait
-pub record ArePutBehind (bytes waiting left : List ℕ) (old new : Option (List ℕ)) : Type 0 where
-  pub gone : List ℕ
-  pub appended : Appends old new gone
-  pub split : waiting ++ bytes ≡ gone ++ left
-
--- the spelling of a tree that is cut of these states is put behind those that wait
-pub record IsPutBehind (u : Numbered) (waiting left : List ℕ) (old new : Option (List ℕ)) : Type 0 where
-  pub tree : Tree
-  pub cut : IsCutOf u tree
-  pub put : ArePutBehind (spelling_of tree) waiting left old new
-
--- known bytes grow by a beginning of those that wait and of one of such a spelling behind them, as far as it was made
-pub record IsPutInPartBehind (u : Numbered) (waiting : List ℕ) (old new : Option (List ℕ)) : Type 0 where
-  pub front : List ℕ
-  pub begun : IsFront u front
-  pub appended : AppendsBeginning old new (waiting ++ front)
-
 -- ---- spelling
 
 -- a store of this client has such states, which can be cut, and these are the spellings of their parts
@@ -101,3 +83,18 @@ pub record CanBeSpelled (u : Numbered) (kept : Client) (spelled : List State) : 
   pub client : kept ≡ u.client
   pub cut : CanBeCut u
   pub same : spelled ≡ u.states
+
+-- ---- slabs
+
+-- some of the states that threads spell for one another, without their numbers
+abbrev pub AreOf : Option Numbered → Numbered → Type 0
+AreOf source u = source ≡ Some (uncut u.client u.table u.states [])
+
+-- a slab of them
+pub record IsSlab (source : Option Numbered) (u : Numbered) (kept : Client) (spelled : List State) : Type 0 where
+  pub of : AreOf source u
+  pub ready : CanBeSpelled u kept spelled
+
+-- the bytes of those with these numbers
+abbrev pub AreBytesFor : Option Numbered → List ℕ → List ℕ → Type 0
+AreBytesFor source ns bytes = (u : Numbered) → AreOf source u → u.numbers ≡ ns → IsSpelledCut u bytes

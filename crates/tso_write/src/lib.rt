@@ -4,13 +4,17 @@
 mod cutting;
 mod enclosing;
 mod ends;
+mod helping;
 mod laws;
+mod line;
 mod lone;
 mod meanwhile;
 mod ordering;
 mod recorder;
+mod slab;
 mod speller;
 mod spelling;
+mod subject;
 mod trees;
 mod worked;
 mod writing;

@@ -184,6 +184,17 @@ fn put_list(spelled: &Paths, numbers: &[u32], out: &mut Vec<u8>) -> Result<(), A
     Ok(())
 }
 
+// How many bytes the spelling with this number has, if there are so many.
+fn length_of(spelled: &Paths, number: u32) -> usize {
+    match spelled.get(number as usize) {
+        Some(bytes) => bytes.len(),
+        None => 0,
+    }
+}
+
+// Most records have fewer bytes beside those of their state's history.
+const BESIDE: usize = 64;
+
 impl<'a> Speller<'a> {
     /// Of the states of a store, whose parts so many workers spell.
     ///
@@ -221,6 +232,19 @@ impl<'a> Speller<'a> {
             threads,
             histories,
         })
+    }
+
+    /// How many bytes the records of these states have, about: most have fewer. States that are neighbours in their order lie anywhere in
+    /// memory, and here those of several are waited for at one time; whoever asks before it spells them one by one waits less then.
+    pub fn room_for(&self, numbers: &[u32]) -> usize {
+        let mut room: usize = 0;
+        for number in numbers {
+            if let Some(key) = self.keys.get(*number) {
+                let length = length_of(&self.histories, key.history);
+                room = room.saturating_add(length).saturating_add(BESIDE);
+            }
+        }
+        room
     }
 
     /// Puts the spelling of state `number` at the end.

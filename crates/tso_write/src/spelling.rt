@@ -1,7 +1,6 @@
 //! The spelling of worked states as the records of a tree, before there is one.
 
-ghost use Rattle.std.specs.List.{flat_map};
-ghost use Rattle.std.specs.Prelude.{◌≡◌, ◌<◌, ◌≤◌, ◌++◌, ◌∷◌, [], get_or, IfOk, IfSome, OnOk, length};
+ghost use Rattle.std.specs.Prelude.{◌≡◌, ◌<◌, ◌≤◌, [], get_or, IfOk, IfSome, OnOk, length};
 ghost use Rattle.tso_write.specs.Spelling.{AreSpelledBehind, CanBeSpelled, IsRecordBehind, IsSpelledBehind, IsSpelledCut, IsStateBehind};
 ghost use Rattle.tso_write.specs.Cutting.{AreNumbers, AreRising};
 ghost use Rattle.tso_write.specs.Tasks.{AreHalvesCut, uncut};
@@ -12,15 +11,10 @@ ghost use Rattle.tso_search.specs.Searched.{AreSearched};
 use crate::cutting::{LEAF, end_at};
 use crate::speller::Speller;
 use std::alloc::{AllocError, Global};
-use std::thread::Threads;
-use tso_cert::{ALONE, Task};
 use tso_code::write_number;
 use tso_flow::Checked;
 use tso_foot::Table;
 use tso_store::Store;
-
-// Room for so many bytes is made for each record: most take some fewer.
-const RECORD: usize = 96;
 
 // Puts the record of a state at the end.
 fn put_record(
@@ -138,7 +132,7 @@ fn spelled(
     requires rising { AreRising store.now.states numbers.now }
     ensures { IfOk result (λ bytes. IsSpelledCut (uncut checked.now.client table.now store.now.states numbers.now) bytes.items) }
 {
-    let mut out = Vec::with_capacity(alloc, numbers.len().saturating_mul(RECORD))?;
+    let mut out = Vec::with_capacity(alloc, speller.room_for(numbers))?;
     put_tree(alloc, checked, table, store, speller, numbers, &mut out)?;
     Ok(out)
 }
@@ -153,27 +147,8 @@ fn state_bytes(alloc: Global, speller: &Speller<'_>, number: u32) -> Result<Vec<
     Ok(bytes)
 }
 
-// The pieces of a fork, from those of its halves and the bytes of its state.
-fn fork_of(
-    alloc: Global,
-    left: Vec<Vec<u8>>,
-    middle: Vec<u8>,
-    right: Vec<Vec<u8>>,
-) -> Result<Vec<Vec<u8>>, AllocError>
-    ensures { IfOk result (λ pieces. flat_map (λ v. v.items) pieces.items ≡ 1 ∷ (flat_map (λ v. v.items) left.items ++ (middle.items ++ flat_map (λ v. v.items) right.items))) }
-{
-    let (mut low, mut high) = (left, right);
-    let mut pieces = Vec::new(alloc);
-    let front = Vec::from_slice(alloc, &[1])?;
-    pieces.push(front)?;
-    pieces.append(&mut low)?;
-    pieces.push(middle)?;
-    pieces.append(&mut high)?;
-    Ok(pieces)
-}
-
 /// States that are to be spelled.
-#[derive(Drop)]
+#[derive(Clone, Copy)]
 pub struct Unspelled<'a> {
     pub alloc: Global,
     pub checked: &'a Checked,
@@ -213,6 +188,24 @@ impl<'a> Unspelled<'a> {
         Some((left, right))
     }
 
+    /// The spelling of their tree, by one thread.
+    ///
+    /// Errors: where a growth was refused.
+    pub fn spelled(&self) -> Result<Vec<u8>, AllocError>
+        requires ready { CanBeSpelled (numbers_of self.now) self.now.store.now.client self.now.speller.now }
+        ensures { IfOk result (λ bytes. IsSpelledCut (numbers_of self.now) bytes.items) }
+    {
+        let bytes = spelled(
+            self.alloc,
+            self.checked,
+            self.table,
+            self.store,
+            self.speller,
+            self.numbers,
+        )?;
+        Ok(bytes)
+    }
+
     /// The spelling of the first of these states.
     ///
     /// Errors: where a growth was refused.
@@ -223,54 +216,5 @@ impl<'a> Unspelled<'a> {
     {
         let bytes = state_bytes(self.alloc, self.speller, self.numbers[0])?;
         Ok(bytes)
-    }
-}
-
-impl<'a> Task for Unspelled<'a> {
-    ghost use Rattle.std.specs.List.{flat_map};
-    ghost use Rattle.tso_write.specs.Spelling.{CanBeSpelled, IsSpelledCut};
-    ghost use Rattle.tso_write.specs.Tasks.{AreHalvesCut};
-    ghost use Rattle.tso_write.specs.Unspelled.{numbers_of};
-
-    type Output = Vec<Vec<u8>>;
-
-    ghost is_ready = { λ p. CanBeSpelled (numbers_of p) p.store.now.client p.speller.now };
-
-    ghost is_output = { λ p pieces. IsSpelledCut (numbers_of p) (flat_map (λ v. v.items) pieces.items) };
-
-    ghost are_halves = { λ p left right. AreHalvesCut (numbers_of p) (numbers_of left) (numbers_of right) };
-
-    fn run(&self) -> Result<Vec<Vec<u8>>, AllocError> {
-        let mut pieces = Vec::new(self.alloc);
-        let bytes = spelled(
-            self.alloc,
-            self.checked,
-            self.table,
-            self.store,
-            self.speller,
-            self.numbers,
-        )?;
-        pieces.push(bytes)?;
-        Ok(pieces)
-    }
-
-    fn halves(&self) -> Option<(Self, Self)> {
-        if self.numbers.len() <= ALONE {
-            return None;
-        }
-        let (left, right) = self.in_turn()?;
-        Some((left, right))
-    }
-
-    fn joined(
-        &self,
-        _left: &Self,
-        right: &Self,
-        first: Vec<Vec<u8>>,
-        second: Vec<Vec<u8>>,
-    ) -> Result<Vec<Vec<u8>>, AllocError> {
-        let middle = state_bytes(self.alloc, self.speller, right.numbers[0])?;
-        let pieces = fork_of(self.alloc, first, middle, second)?;
-        Ok(pieces)
     }
 }

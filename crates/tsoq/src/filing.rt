@@ -12,6 +12,7 @@ use crate::counted::{Counted, Taken};
 use std::alloc::Global;
 use std::io;
 use std::io::{BufWriter, Write};
+use std::sync::Wait;
 use std::thread::Threads;
 use tso_cert::{Cert, Workers, WriteError};
 use tso_flow::Checked;
@@ -61,7 +62,7 @@ fn finished<W: Write + Drop>(mut out: Counted<W>) -> io::Result<Taken>
 }
 
 // Writes worked states as a certificate with this table, and says what the writer has taken.
-fn put_worked_bytes<R: Threads + Sync, W: Write + Drop>(
+fn put_worked_bytes<R: Threads + Wait + Sync, W: Write + Drop>(
     rt: &R,
     alloc: Global,
     checked: &Checked,
@@ -124,7 +125,7 @@ fn put_certificate<F: Files>(
 }
 
 // Writes worked states as a certificate to the draft of a file, and says what the file has taken.
-fn put_worked<R: Threads + Sync, F: Files>(
+fn put_worked<R: Threads + Wait + Sync, F: Files>(
     rt: &R,
     alloc: Global,
     files: &mut F,
@@ -207,7 +208,7 @@ pub fn file_certificate<F: Files>(
 /// what the file there has taken: the one spelling of the table and of such a tree.
 ///
 /// Errors: `CannotWrite`, and then what was there is as it was; `Memory`.
-pub fn file_worked<R: Threads + Sync, F: Files>(
+pub fn file_worked<R: Threads + Wait + Sync, F: Files>(
     rt: &R,
     alloc: Global,
     files: &mut F,

@@ -300,7 +300,7 @@ fn intervals_with(
 }
 
 // Writes worked states to this path with the table of their search.
-fn worked_searched<R: Threads + Sync, F: Files>(
+fn worked_searched<R: Threads + Wait + Sync, F: Files>(
     rt: &R,
     alloc: Global,
     files: &mut F,
@@ -318,7 +318,7 @@ fn worked_searched<R: Threads + Sync, F: Files>(
 }
 
 // Writes them with a table of intervals.
-fn worked_anew<R: Threads + Sync, F: Files>(
+fn worked_anew<R: Threads + Wait + Sync, F: Files>(
     rt: &R,
     alloc: Global,
     files: &mut F,
@@ -336,7 +336,7 @@ fn worked_anew<R: Threads + Sync, F: Files>(
 }
 
 // Writes them with the table that is asked for.
-fn worked_in_form<R: Threads + Sync, F: Files>(
+fn worked_in_form<R: Threads + Wait + Sync, F: Files>(
     rt: &R,
     alloc: Global,
     files: &mut F,
@@ -356,7 +356,7 @@ fn worked_in_form<R: Threads + Sync, F: Files>(
 }
 
 // Writes worked states to this path, if there is one, and says what the file has taken.
-fn write_worked<R: Threads + Sync, F: Files>(
+fn write_worked<R: Threads + Wait + Sync, F: Files>(
     rt: &R,
     alloc: Global,
     files: &mut F,
@@ -386,7 +386,7 @@ fn write_worked<R: Threads + Sync, F: Files>(
 }
 
 // Writes worked states to this path, if there is one, and no tree of their records is made.
-fn certified_worked<R: Threads + Sync, F: Files>(
+fn certified_worked<R: Threads + Wait + Sync, F: Files>(
     rt: &R,
     alloc: Global,
     files: &mut F,
@@ -412,7 +412,7 @@ fn certified_worked<R: Threads + Sync, F: Files>(
 }
 
 // The same with a tree of the records, and what they show in words.
-fn certified_told<R: Threads + Sync, F: Files>(
+fn certified_told<R: Threads + Wait + Sync, F: Files>(
     rt: &R,
     alloc: Global,
     files: &mut F,
@@ -442,7 +442,7 @@ fn certified_told<R: Threads + Sync, F: Files>(
 }
 
 // With a tree of the records only where words are asked for.
-fn certified_by<R: Threads + Sync, F: Files>(
+fn certified_by<R: Threads + Wait + Sync, F: Files>(
     rt: &R,
     alloc: Global,
     files: &mut F,
@@ -463,7 +463,7 @@ fn certified_by<R: Threads + Sync, F: Files>(
 }
 
 // What worked states take in memory is left to the system, as in `certified_last`.
-fn certified_all<R: Threads + Sync, F: Files>(
+fn certified_all<R: Threads + Wait + Sync, F: Files>(
     rt: &R,
     alloc: Global,
     files: &mut F,
