@@ -1,5 +1,8 @@
 //! Parts of a file, and where they begin.
 
+ghost use Rattle.std.specs.Prelude.{IfOk, IfSome};
+ghost use Rattle.tso_load.specs.Spans.{AreOfWhole};
+
 use crate::source::Source;
 use std::alloc::{AllocError, Global};
 use tso_front::Failure;
@@ -54,7 +57,9 @@ pub fn seam_from<S: Source>(
 /// The parts of a file that begin where these were found, the first at its front. `None` where one was not found, or stands before another.
 ///
 /// Errors: where a growth was refused.
-pub fn spans_of(alloc: Global, seams: &[Option<u64>]) -> Result<Option<Vec<Span>>, AllocError> {
+pub fn spans_of(alloc: Global, seams: &[Option<u64>]) -> Result<Option<Vec<Span>>, AllocError>
+    ensures { IfOk result (λ found. IfSome found (λ spans. AreOfWhole spans.items)) }
+{
     let mut spans = Vec::new(alloc);
     let mut start = 0;
     for seam in seams {

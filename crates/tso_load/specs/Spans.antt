@@ -1,0 +1,16 @@
+-- Parts of a file, one behind another.
+use Rattle.std.specs.Prelude.{◌≡◌, ◌+◌, ◌++◌, ℕ, List, [], ◌∷◌}
+use Rattle.tso_load.specs.declared.span.Span.{Span}
+
+-- the first begins at one place, each other where the one before ends, and the last ends at another place
+abbrev pub AreOneBehindAnother : ℕ → List Span → ℕ → Type 0
+AreOneBehindAnother start [] end = start ≡ end
+AreOneBehindAnother start (span ∷ rest) end = (span.start ≡ start) × AreOneBehindAnother (start + span.most) rest end
+
+-- the parts of a whole file: the first begins at its front, each other where the one before ends, and the last has no end
+pub record AreOfWhole (spans : List Span) : Type 0 where
+  pub front : List Span
+  pub last : Span
+  pub all : spans ≡ front ++ last ∷ []
+  pub behind : AreOneBehindAnother 0 front last.start
+  pub endless : last.most ≡ 18446744073709551615
