@@ -1,6 +1,8 @@
 -- Parts of a file, one behind another.
-use Rattle.std.proofs.Common.{◌≡◌, ◌∙◌, ℕ, ◌+◌, ◌-◌, ◌<◌, ◌++◌, List, [], ◌∷◌, ap, arith, subst, sym}
-use Rattle.tso_load.specs.Spans.{AreOneBehindAnother}
+use Rattle.std.proofs.Common.{◌≡◌, ◌∙◌, ℕ, suc, ◌+◌, ◌-◌, ◌<◌, ◌≤◌, ◌++◌, List, [], ◌∷◌, length, map, take, get_or, Option, None, Some, ap, arith, subst, sym}
+use Rattle.std.proofs.Math.Seq.{take-suc}
+use Rattle.std.proofs.lemmas.List.{map-append, take_all}
+use Rattle.tso_load.specs.Spans.{AreOneBehindAnother, BeginAt}
 use Rattle.tso_load.specs.declared.span.Span.{Span}
 
 -- one more, where the last ends
@@ -13,3 +15,18 @@ pub up_to : (b next : ℕ) (xs more : List Span) (s : Span) → AreOneBehindAnot
 up_to b next xs more s behind at most less is =
     let e : b + s.most ≡ next = omega (arith, most, less) in
     subst (λ (l : List Span). AreOneBehindAnother 0 l next) (sym is) (subst (AreOneBehindAnother 0 (xs ++ s ∷ [])) e (one_more 0 b xs s behind at))
+
+module _ (xs more : List Span) (s : Span) (seams : List (Option ℕ)) (i : ℕ) (begun : map (λ (x : Span). Some x.start) xs ++ Some s.start ∷ [] ≡ Some 0 ∷ take i seams) (is : more ≡ xs ++ s ∷ []) where
+  all_begun : map (λ (x : Span). Some x.start) more ≡ Some 0 ∷ take i seams
+  all_begun = ap (map (λ (x : Span). Some x.start)) is ∙ map-append (λ (x : Span). Some x.start) xs (s ∷ []) ∙ begun
+
+  -- one more begins at the next place, which was found
+  pub begin_more : (next : ℕ) → i < length seams → get_or seams i None ≡ Some next → map (λ (x : Span). Some x.start) more ++ Some next ∷ [] ≡ Some 0 ∷ take (i + 1) seams
+  begin_more next less at =
+      ap (λ (l : List (Option ℕ)). l ++ Some next ∷ []) all_begun
+      ∙ ap (λ (l : List (Option ℕ)). Some 0 ∷ l)
+      (ap (λ (x : Option ℕ). take i seams ++ x ∷ []) (sym at) ∙ sym (take-suc seams i None less) ∙ ap (λ (n : ℕ). take n seams) (let e : suc i ≡ i + 1 = omega arith in e))
+
+  -- all places are gone through
+  pub begin_all : length seams ≤ i → BeginAt seams more
+  begin_all past = all_begun ∙ ap (λ (l : List (Option ℕ)). Some 0 ∷ l) (take_all i seams past)

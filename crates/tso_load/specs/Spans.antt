@@ -1,5 +1,5 @@
 -- Parts of a file, one behind another.
-use Rattle.std.specs.Prelude.{◌≡◌, ◌+◌, ◌++◌, ℕ, List, [], ◌∷◌}
+use Rattle.std.specs.Prelude.{◌≡◌, ◌+◌, ◌++◌, ℕ, List, [], ◌∷◌, map, Option, Some}
 use Rattle.tso_load.specs.declared.span.Span.{Span}
 
 -- the first begins at one place, each other where the one before ends, and the last ends at another place
@@ -14,3 +14,7 @@ pub record AreOfWhole (spans : List Span) : Type 0 where
   pub all : spans ≡ front ++ last ∷ []
   pub behind : AreOneBehindAnother 0 front last.start
   pub endless : last.most ≡ 18446744073709551615
+
+-- the first begins at the front of the file, and the others just where these places were found
+abbrev pub BeginAt : List (Option ℕ) → List Span → Type 0
+BeginAt seams spans = map (λ (s : Span). Some s.start) spans ≡ Some 0 ∷ seams

@@ -1,7 +1,7 @@
 //! Parts of a file, and where they begin.
 
 ghost use Rattle.std.specs.Prelude.{IfOk, IfSome};
-ghost use Rattle.tso_load.specs.Spans.{AreOfWhole};
+ghost use Rattle.tso_load.specs.Spans.{AreOfWhole, BeginAt};
 
 use crate::source::Source;
 use std::alloc::{AllocError, Global};
@@ -58,7 +58,8 @@ pub fn seam_from<S: Source>(
 ///
 /// Errors: where a growth was refused.
 pub fn spans_of(alloc: Global, seams: &[Option<u64>]) -> Result<Option<Vec<Span>>, AllocError>
-    ensures { IfOk result (λ found. IfSome found (λ spans. AreOfWhole spans.items)) }
+    ensures whole { IfOk result (λ found. IfSome found (λ spans. AreOfWhole spans.items)) }
+    ensures seams { IfOk result (λ found. IfSome found (λ spans. BeginAt seams.now spans.items)) }
 {
     let mut spans = Vec::new(alloc);
     let mut start = 0;

@@ -2,7 +2,6 @@
 use Rattle.std.proofs.Common.{◌≡◌, ◌∙◌, ℕ, List, [], ◌∷◌, ◌++◌, get_or, Option, sym, ap, subst, append_assoc}
 use Rattle.std.proofs.KnownBytes.{Appends-nil, Appends-trans}
 use Rattle.std.proofs.lemmas.List.{append-nil}
-use Rattle.std.proofs.lemmas.Option.{same_Some}
 use Rattle.std.specs.Io.KnownBytes.{Appends}
 use Rattle.tso_cert.specs.Certificates.{magic}
 use Rattle.tso_cert.specs.Trees.{fork, spelling_of}
@@ -11,7 +10,7 @@ use Rattle.tso_code.specs.Tables.{table}
 use Rattle.tso_write.proofs.CuttingLemmas.{tree_of_worked}
 use Rattle.tso_write.proofs.Sorting.{order_is_there}
 use Rattle.tso_write.proofs.TaskLemmas.{fork_of_halves}
-use Rattle.tso_write.specs.Spelling.{AreBytesFor, AreOf, InLeft, InRight, IsPut, IsPutInPart, IsSpelledCut, IsStateBehind, Nothing, Whole}
+use Rattle.tso_write.specs.Spelling.{InLeft, InRight, IsPut, IsPutInPart, IsSpelledCut, IsStateBehind, Nothing, Whole}
 use Rattle.tso_write.specs.Tasks.{AreHalvesCut, CanBeCut, Numbered, uncut}
 use Rattle.tso_write.specs.Worked.{AreWorkedOut, IsWritten, IsWrittenInPart}
 use Rattle.tso_write.specs.declared.worked.Worked.{Worked}
@@ -31,14 +30,6 @@ slab_begun u a b bytes slice same is out = record { front = spelling_of is.tree;
 
 pub slab_put : (u : Numbered) (a b : Option (List ℕ)) (bytes slice : List ℕ) → slice ≡ bytes → IsSpelledCut u bytes → Appends a b slice → IsPut u a b
 slab_put u a b bytes slice same is out = record { tree = is.tree; cut = is.cut; appended = subst (Appends a b) (same ∙ is.spelled) out }
-
--- the bytes of states are theirs, whoever asks for them
-pub bytes_for : (source : Option Numbered) (w : Numbered) (bytes : List ℕ) → AreOf source w → IsSpelledCut w bytes → AreBytesFor source w.numbers bytes
-bytes_for source w bytes of is = λ u other same.
-    let p : uncut w.client w.table w.states [] ≡ uncut u.client u.table u.states [] = same_Some (uncut w.client w.table w.states []) (uncut u.client u.table u.states []) (sym of ∙ other) in
-    let P : Numbered → Type 0 = λ v. IsSpelledCut v bytes in
-    let e : w ≡ u = λ i. record { client = (p i).client; table = (p i).table; states = (p i).states; numbers = (sym same) i } in
-    subst P e is
 
 -- ---- a fork, part by part
 
