@@ -15,5 +15,5 @@ pub use decoding::{MAGIC, decode, read_table, read_tree};
 pub use encoding::{encode, encode_before, write};
 pub use fault::{DecodeError, Fault, WriteError};
 pub use intervals::{build_intervals, intervals_of, take_state};
-pub use task::{ALONE, Task, joined, run_by};
+pub use task::{ALONE, Task, run_by};
 pub use workers::{NoWatch, Watch, Workers};

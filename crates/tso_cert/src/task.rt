@@ -190,10 +190,8 @@ fn by_quarters<R: Threads + Sync, T: Task + Sync + Drop>(
     )
 }
 
-/// The output of a task from those of its halves, where both were found.
-///
-/// Errors: that of the first half, or else of the second, or where a growth was refused.
-pub fn joined<T: Task>(
+// The output of a task from those of its halves, where both were found.
+fn joined<T: Task>(
     task: &T,
     left: &T,
     right: &T,

@@ -2,6 +2,7 @@ pub mod Goodness
 pub mod NumberedLemmas
 pub mod OneAnswer
 pub mod OneVerdict
+pub mod PieceLemmas
 pub mod RisingLemmas
 pub mod SpanLemmas
 pub mod StoredLemmas

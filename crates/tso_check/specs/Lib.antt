@@ -1,6 +1,7 @@
 pub mod Halved
 pub mod Laws
 pub mod Numbered
+pub mod Pieces
 pub mod Risen
 pub mod Spans
 pub mod Trails

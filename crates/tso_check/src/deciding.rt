@@ -138,7 +138,7 @@ fn decide_stored_with<R: Threads + Wait + Sync, N: Notice + Sync>(
                 start: 0,
                 notice,
             };
-            let found = judge_with(rt, part, workers.count());
+            let found = judge_with(rt, alloc, part, workers.count());
             drop(forms);
             Ok(verdict_of(found?))
         }
@@ -164,7 +164,7 @@ fn decide_tree_with<R: Threads + Wait + Sync, N: Notice + Sync>(
                 start: 0,
                 notice,
             };
-            let found = judge_with(rt, part, workers.count())?;
+            let found = judge_with(rt, whole.alloc, part, workers.count())?;
             Ok(verdict_of(found))
         }
     }
@@ -309,9 +309,9 @@ pub fn check(alloc: Global, program: &[u8], cert: &[u8]) -> Result<Verdict, Chec
 /// record, want of memory aside, for every number of workers and every watch. Each record's number in the whole tree is told to
 /// the watch before it is judged, by the thread that judges it.
 ///
-/// The bytes are read first, and then the conditions of the bytes, the tree and the table are decided. The workers are halved at each
-/// fork, with one more for the left half of the tree where their number is odd, and a worker alone goes on alone; a half for
-/// which no thread can be started is judged by the thread at its fork.
+/// The bytes are read first, by the halves of forks, and then the conditions of the bytes, the tree and the table are decided. Several
+/// workers judge the records in pieces of the tree, some sixteen for each of them: who is done with one takes the next that nobody has
+/// taken. What none of them can be started for, the caller judges.
 ///
 /// Errors: those of `check`.
 pub fn check_with<R: Threads + Wait + Sync, W: Watch + Sync>(

@@ -2,12 +2,12 @@
 #![tactic(auto)]
 
 mod deciding;
-mod evenly;
 mod halved;
 mod halves;
 mod judging;
 mod laws;
 mod numbered;
+mod pieces;
 mod rising;
 mod stored;
 mod threads;

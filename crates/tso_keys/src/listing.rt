@@ -1,19 +1,15 @@
 //! Histories by the numbers of their lists of calls, of which there are few, and ranks of histories.
 
-ghost use Rattle.std.specs.Cmp.Lexicographic.{slice_cmp};
-ghost use Rattle.std.specs.Option.{option_cmp};
-ghost use Rattle.std.specs.Ordering.{nat_cmp};
 ghost use Rattle.std.specs.Prelude.{◌≡◌, ◌<◌, ◌≤◌, ◌^◌, ℕ, IfOk, IfSome, Some, length, slice_get};
 ghost use Rattle.tso_parts.specs.Numbers.{IsNumbered};
-ghost use Rattle.tso_keys.specs.Listing.{AreListed};
-ghost use Rattle.tso_keys.specs.Orders.{AreRanks, IsInOrder, history_cmp, ranks_in};
+ghost use Rattle.tso_keys.specs.Listing.{AreListed, ranked_row};
+ghost use Rattle.tso_keys.specs.Orders.{AreRanks, IsInOrder, history_cmp};
 
 use crate::kept::add_row;
 use crate::key::NO_KEY;
 use crate::rank_rows::ranks_in;
 use crate::ranks::{all_numbers, places_in, ranks_of};
 use std::alloc::{AllocError, Global};
-use std::cmp::Ordering;
 use std::marker::Model;
 use tso_hist::{Call, History};
 use tso_list::Seq;
@@ -71,50 +67,29 @@ fn listed_rows(
     Ok(Some(rows))
 }
 
-// How two rows are ordered.
-fn compare_rows(ranks: &[u32], a: [u32; 5], b: [u32; 5]) -> Ordering
-    ensures { result ≡ slice_cmp nat_cmp (ranks_in ranks.now a) (ranks_in ranks.now b) }
+// The ranks of the lists of the history with this number, if there are so many.
+fn ranked_row(ranks: &[u32], rows: &[[u32; 5]], number: u32) -> Option<[u32; 5]>
+    ensures { result ≡ ranked_row ranks.now rows.now number }
 {
-    let first = ranks_in(ranks, &a);
-    let second = ranks_in(ranks, &b);
-    first.as_slice().cmp(&second.as_slice())
+    match row_at(rows, number) {
+        Some(row) => Some(ranks_in(ranks, &row)),
+        None => None,
+    }
 }
 
 impl<'a> Listing<'a> {
-    // How many histories there are.
-    fn len(&self) -> usize
-        ensures { result ≡ length self.now }
+    // The numbers of all histories, in their order. Each history's ranks are looked up once.
+    fn order(&self, alloc: Global) -> Result<Vec<u32>, AllocError>
+        requires { length self.now < 2 ^ 32 }
+        ensures order { IfOk result (λ ns. IsInOrder history_cmp self.now ns.items) }
+        ensures few { IfOk result (λ ns. length ns.items < 2 ^ 32) }
     {
-        self.histories.len()
-    }
-
-    // How the histories with two numbers are ordered; no history is less than each.
-    fn compare(&self, a: u32, b: u32) -> Ordering
-        ensures { result ≡ option_cmp history_cmp (slice_get self.now a) (slice_get self.now b) }
-    {
+        let ranks = self.ranks.as_slice();
         let rows = self.rows.as_slice();
-        match row_at(rows, a) {
-            Some(first) => match row_at(rows, b) {
-                Some(second) => compare_rows(self.ranks.as_slice(), first, second),
-                None => Ordering::Greater,
-            },
-            None => match row_at(rows, b) {
-                Some(_) => Ordering::Less,
-                None => Ordering::Equal,
-            },
-        }
+        let mut numbers = all_numbers(alloc, self.histories.len())?;
+        numbers.sort_by_cached_key(|number: &u32| ranked_row(ranks, rows, *number))?;
+        Ok(numbers)
     }
-}
-
-// The numbers of all histories, in their order.
-fn listed_order(alloc: Global, listing: &Listing<'_>) -> Result<Vec<u32>, AllocError>
-    requires { length listing.now < 2 ^ 32 }
-    ensures order { IfOk result (λ ns. IsInOrder history_cmp listing.now ns.items) }
-    ensures few { IfOk result (λ ns. length ns.items < 2 ^ 32) }
-{
-    let mut numbers = all_numbers(alloc, listing.len())?;
-    numbers.sort_by(|a: &u32, b: &u32| listing.compare(*a, *b))?;
-    Ok(numbers)
 }
 
 // These histories with their rows, whose lists are ranked.
@@ -181,7 +156,7 @@ fn ranks_by_lists(alloc: Global, listing: Listing<'_>, count: usize) -> Result<V
     requires differ { IsNumbered listing }
     ensures { IfOk result (λ rs. AreRanks history_cmp listing.entry rs.items) }
 {
-    let made = listed_order(alloc, &listing);
+    let made = listing.order(alloc);
     drop(listing);
     let order = made?;
     let ranks = places_in(alloc, order.as_slice(), count)?;

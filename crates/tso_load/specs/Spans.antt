@@ -1,5 +1,5 @@
 -- Parts of a file, one behind another.
-use Rattle.std.specs.Prelude.{◌≡◌, ◌+◌, ◌++◌, ℕ, List, [], ◌∷◌, map, Option, Some}
+use Rattle.std.specs.Prelude.{◌≡◌, ◌+◌, ◌<◌, ◌++◌, ℕ, List, [], ◌∷◌, map, None, Option, Some}
 use Rattle.tso_load.specs.declared.span.Span.{Span}
 
 -- the first begins at one place, each other where the one before ends, and the last ends at another place
@@ -18,3 +18,9 @@ pub record AreOfWhole (spans : List Span) : Type 0 where
 -- the first begins at the front of the file, and the others just where these places were found
 abbrev pub BeginAt : List (Option ℕ) → List Span → Type 0
 BeginAt seams spans = map (λ (s : Span). Some s.start) spans ≡ Some 0 ∷ seams
+
+-- each place was found, and is above the one before it, the first above a number
+abbrev pub RiseFrom : ℕ → List (Option ℕ) → Type 0
+RiseFrom start [] = Unit {0}
+RiseFrom start (None ∷ seams) = ⊥
+RiseFrom start (Some place ∷ seams) = (start < place) × RiseFrom place seams

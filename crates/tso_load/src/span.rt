@@ -1,7 +1,7 @@
 //! Parts of a file, and where they begin.
 
-ghost use Rattle.std.specs.Prelude.{IfOk, IfSome};
-ghost use Rattle.tso_load.specs.Spans.{AreOfWhole, BeginAt};
+ghost use Rattle.std.specs.Prelude.{◌≡◌, IfOk, IfSome, None, Ok};
+ghost use Rattle.tso_load.specs.Spans.{AreOfWhole, BeginAt, RiseFrom};
 
 use crate::source::Source;
 use std::alloc::{AllocError, Global};
@@ -54,12 +54,14 @@ pub fn seam_from<S: Source>(
     Ok(None)
 }
 
-/// The parts of a file that begin where these were found, the first at its front. `None` where one was not found, or stands before another.
+/// The parts of a file that begin where these were found, the first at its front. `None` only where one was not found, or does not stand
+/// behind those before it.
 ///
 /// Errors: where a growth was refused.
 pub fn spans_of(alloc: Global, seams: &[Option<u64>]) -> Result<Option<Vec<Span>>, AllocError>
     ensures whole { IfOk result (λ found. IfSome found (λ spans. AreOfWhole spans.items)) }
     ensures seams { IfOk result (λ found. IfSome found (λ spans. BeginAt seams.now spans.items)) }
+    ensures none { result ≡ Ok None → RiseFrom 0 seams.now → ⊥ }
 {
     let mut spans = Vec::new(alloc);
     let mut start = 0;

@@ -1,6 +1,6 @@
 -- Trees that are read by themselves, and forks of them.
 use Rattle.std.proofs.Common.{Bool, Box, Global, None, Option, ◌≡◌, ◌∙◌, ℕ, ◌+◌, ◌-◌, ◌<◌, ◌≤◌, List, [], ◌∷◌, ◌++◌, drop, length, Some, Ok, false, refl, sym, ap, append_assoc, arith, slice_get, subst, take, true}
-use Rattle.std.specs.Prelude.{IfSome}
+use Rattle.std.specs.Prelude.{IfSome, IsTrue}
 use Rattle.std.proofs.lemmas.List.{length-append, length-drop, map-append, nil_from_length, take-append-drop, take_all}
 use Rattle.tso_cert.proofs.Opening.{opens_fork}
 use Rattle.tso_cert.proofs.TreeCode.{tree_again, tree_take}
@@ -112,6 +112,7 @@ half_read c begun scan depth room bytes t h no_states no_ends half is = record {
   reads = is.is.reads ∙ ap (λ n. Ok (is.is.tree, n, is.rest)) (sym half.room);
   client = half.client;
   states = half.states ∙ is.is.more.states ∙ ap (λ (l : List State). l ++ tree_states is.is.tree) no_states;
+  rises = half.rises;
   ends = half.ends ∙ is.is.more.ends ∙ ap (λ (l : List End). l ++ ends_of (records_of is.is.tree)) no_ends;
   shape = let S : Shape → Type 0 = λ x. IsShapeOf x is.is.tree in subst S (sym half.shape) is.is.shape;
   forks = is.is.forks;
@@ -191,8 +192,8 @@ forked_tree apart whole left right first second room middle halves one two seam 
 
 -- a fork of two trees that were read by themselves
 pub forked : (apart : Bool) (whole left right : Stretch) (first second h : Half) (new : Gathering) (room : ℕ) → AreHalvesOf apart whole left right → IsTreeRead left first → IsTreeRead right second → AreGrafted apart left right first.records second first.states new room
-    → (h.states ≡ new) × IsForkOf first.records second.records room h.records → IsTreeRead whole h
-forked apart whole left right first second h new room halves one two graft (same, is) =
+    → (h.states ≡ new) × IsForkOf first.records second.records room h.records → (IsTrue h.rises → IsRising new.states) → IsTreeRead whole h
+forked apart whole left right first second h new room halves one two graft (same, is) rises =
     let c_left : left.client ≡ whole.client = ap (λ (s : Stretch). s.client) halves.left_is in
     let both : new.states ≡ tree_states one.tree ++ tree_states two.tree = graft.taken.states ∙ (λ i. one.states i ++ two.states i) in
     let many : length first.states.states ≡ length (tree_states one.tree) = ap length one.states in
@@ -207,6 +208,7 @@ forked apart whole left right first second h new room halves one two graft (same
       reads = forked_tree apart whole left right first second room graft.middle halves one two graft.seam ∙ ap (λ n. Ok (fork one.tree graft.middle two.tree, n, two.rest)) (sym is.room_is);
       client = ap (λ (x : Gathering). x.client) same ∙ graft.client ∙ one.client ∙ c_left;
       states = ap (λ (x : Gathering). x.states) same ∙ both ∙ sym a;
+      rises = λ e. subst (λ (x : Gathering). IsRising x.states) (sym same) (rises e);
       ends = is.ends ∙ (λ i. one.ends i ++ two.ends i) ∙ sym b;
       shape = is.shape one.tree two.tree graft.middle one.shape two.shape;
       forks = (one.forks, two.forks, begins);

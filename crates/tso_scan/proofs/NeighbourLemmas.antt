@@ -1,6 +1,6 @@
--- The order of neighbours, from halves, and of all states, from neighbours.
-use Rattle.std.proofs.Common.{◌≡◌, ◌∙◌, ℕ, suc, ◌+◌, ◌-◌, ◌<◌, ◌≤◌, Bool, List, [], ◌∷◌, length, inl, inr, Some, refl, slice_get, sym, ap, subst, arith}
-use Rattle.std.specs.Prelude.{◌↔◌, Err, IfOk, IsTrue, Ok, Result}
+-- The order of all states, from that of neighbours.
+use Rattle.std.proofs.Common.{◌≡◌, ◌∙◌, ℕ, suc, ◌+◌, ◌-◌, ◌<◌, ◌≤◌, Bool, List, [], ◌∷◌, ◌++◌, length, inl, inr, Some, refl, slice_get, sym, ap, subst, arith}
+use Rattle.std.specs.Prelude.{◌↔◌, IsTrue}
 use Rattle.std.proofs.lemmas.Bool.{cases_lt}
 use Rattle.std.proofs.lemmas.Option.{same_Some, slice_get_within}
 use Rattle.std.specs.List.{AllByRecursion}
@@ -10,7 +10,7 @@ use Rattle.tso_state.proofs.RisingLemmas.{not_itself, rises, total}
 use Rattle.tso_state.specs.Rising.{IsBelow, IsRising}
 use Rattle.tso_parts.proofs.Marked.{item_at}
 use Rattle.tso_parts.specs.Numbers.{IsNumbered}
-use Rattle.tso_scan.specs.Neighbours.{AreHalved, RisesBetween, Stairs}
+use Rattle.tso_scan.specs.Neighbours.{RisesBetween}
 use Rattle.tso_state.specs.Order.{state_cmp}
 use Rattle.tso_state.specs.declared.state.State.{State}
 use Rattle.tso_keys.specs.Orders.{IsOrderOf}
@@ -33,28 +33,6 @@ rises_more states from to so_far next = λ k le lt. elim (cases_lt k to) [
   | inl less ↦ so_far k le less
   | inr ge ↦ let same : to ≡ k = omega (arith, lt, ge) in subst (λ n. IsOrderOf states (n - 1) n Less) same next
 ]
-
-pub both_rise : (whole left right : Stairs) → AreHalved whole left right → RisesBetween left.states left.from left.to → RisesBetween right.states right.from right.to → RisesBetween whole.states whole.from whole.to
-both_rise whole left right halves first second =
-    let P : Stairs → Type 0 = λ s. RisesBetween s.states s.from s.to in
-    let one = subst P halves.left_is first in
-    let two = subst P halves.right_is second in
-    λ k le lt. elim (cases_lt k halves.middle) [
-      | inl less ↦ one k le less
-      | inr ge ↦ two k ge lt
-    ]
-
-pub left_rises : (whole left right : Stairs) → AreHalved whole left right → RisesBetween whole.states whole.from whole.to → RisesBetween left.states left.from left.to
-left_rises whole left right halves all =
-    let P : Stairs → Type 0 = λ s. RisesBetween s.states s.from s.to in
-    let ends = halves.ends in
-    subst P (sym halves.left_is) (λ k le lt. all k le (omega (arith, lt, ends)))
-
-pub right_rises : (whole left right : Stairs) → AreHalved whole left right → RisesBetween whole.states whole.from whole.to → RisesBetween right.states right.from right.to
-right_rises whole left right halves all =
-    let P : Stairs → Type 0 = λ s. RisesBetween s.states s.from s.to in
-    let begins = halves.begins in
-    subst P (sym halves.right_is) (λ k le lt. all k (omega (arith, le, begins)) lt)
 
 -- ---- all states
 
@@ -92,9 +70,24 @@ rising_by_neighbours states n r long found = (
   λ rising. found.1 (λ k some lt. above_last states rising k some (omega (arith, lt, long))),
 )
 
-pub rising_told : {E : Type 0} (states : List State) (n : ℕ) (result : Result Bool E) → n ≡ length states → IfOk result (λ b. IsTrue b ↔ RisesBetween states 1 n) → IfOk result (λ b. IsTrue b ↔ IsRising states)
-rising_told states n (Ok b) long found = rising_by_neighbours states n b long found
-rising_told states n (Err e) long found = tt
+joined_rises : (xs ys : List State) → IsRising xs → IsRising ys → ((n : ℕ) (a b : State) → suc n ≡ length xs → slice_get (xs ++ ys) n ≡ Some a → slice_get (xs ++ ys) (suc n) ≡ Some b → IsBelow a b) → IsRising (xs ++ ys)
+joined_rises [] ys one two meet = two
+joined_rises (x ∷ []) [] one two meet = (tt, tt)
+joined_rises (x ∷ []) (y ∷ ys) one two meet = let below = meet 0 x y refl refl refl in ((below, all_above x y ys below two.0), two)
+joined_rises (x ∷ z ∷ xs) ys one two meet =
+    let rest = joined_rises (z ∷ xs) ys one.1 two (λ n a b e at there. meet (suc n) a b (ap suc e) at there) in
+    ((one.0.0, all_above x z (xs ++ ys) one.0.0 rest.0), rest)
+
+-- states rise that were put behind others, where both do, and the first of them is above the last of those
+pub rises_behind : (old others new : List State) (n : ℕ) → new ≡ old ++ others → n ≡ length old → IsRising old → IsRising others → (0 < n → IsOrderOf new (n - 1) n Less) → IsRising new
+rises_behind old others new n is long one two meet =
+    subst IsRising (sym is) (joined_rises old others one two (λ m a b e at there.
+    let o = meet (omega (arith, long, e)) in
+    let p : n - 1 ≡ m = omega (arith, long, e) in
+    let q : n ≡ suc m = omega (arith, long, e) in
+    let left : o.first ≡ a = same_Some o.first a (sym o.first_at ∙ (λ i. slice_get (is i) (p i)) ∙ at) in
+    let right : o.second ≡ b = same_Some o.second b (sym o.second_at ∙ (λ i. slice_get (is i) (q i)) ∙ there) in
+    subst (λ u. IsBelow u b) left (subst (IsBelow o.first) right (sym o.order))))
 
 -- states that rise are all different
 pub rising_differ : (states : List State) → IsRising states → IsNumbered states

@@ -1,5 +1,5 @@
 -- Trees that are read by themselves and put together. Nothing here need be believed: it serves the code.
-use Rattle.std.specs.Prelude.{◌≡◌, ◌+◌, ◌-◌, ◌≤◌, ◌++◌, ◌∷◌, ℕ, Bool, List, [], false, length, Ok, Some, slice_get, true}
+use Rattle.std.specs.Prelude.{◌≡◌, ◌+◌, ◌-◌, ◌≤◌, ◌++◌, ◌∷◌, ℕ, Bool, IsTrue, List, [], false, length, Ok, Some, slice_get, true}
 use Rattle.tso_cert.specs.Certificates.{tree_at}
 use Rattle.tso_cert.specs.Lookup.{tree_states}
 use Rattle.tso_state.specs.Rising.{IsRising}
@@ -94,12 +94,13 @@ pub record IsTwig (c : Client) (old new : Scan) (depth room : ℕ) (bytes : List
 pub record IsHalfOf (c : Client) (scan : Scan) (t : Twig) (h : Half) : Type 0 where
   pub client : h.states.client ≡ c
   pub states : h.states.states ≡ scanned_states scan
+  pub rises : IsTrue h.rises → IsRising h.states.states
   pub ends : h.records.ends ≡ scan.ends
   pub shape : h.records.shape ≡ t.shape
   pub room : h.records.room ≡ t.room
   pub behind : h.records.behind ≡ t.behind
 
--- the states and the ends are those of the records of the tree at the front of the bytes
+-- the states and the ends are those of the records of the tree at the front of the bytes; the states rise where that is known
 pub record IsTreeRead (s : Stretch) (h : Half) : Type 0 where
   pub tree : Tree
   pub rest : List ℕ
@@ -107,6 +108,7 @@ pub record IsTreeRead (s : Stretch) (h : Half) : Type 0 where
   pub reads : tree_at s.depth s.room s.bytes ≡ Ok (tree, h.records.room, rest)
   pub client : h.states.client ≡ s.client
   pub states : h.states.states ≡ tree_states tree
+  pub rises : IsTrue h.rises → IsRising h.states.states
   pub ends : h.records.ends ≡ ends_of (records_of tree)
   pub shape : IsShapeOf h.records.shape tree
   pub forks : ForksBegin tree

@@ -7,6 +7,7 @@ ghost use Rattle.tso_scan.specs.Scanned.{IsScan};
 ghost use Rattle.tso_scan.specs.Sources.{parts_of};
 ghost use Rattle.tso_keys.specs.Keys.{AreKept};
 
+use crate::neighbours::{is_rising, rise_joined};
 use crate::parts::put_together;
 use crate::seams::right_half;
 use crate::shape::Shape;
@@ -27,10 +28,12 @@ use tso_store::Gathered;
 /// The most records that a certificate has.
 pub const RECORDS: u32 = 4_194_304;
 
-/// A tree that was read by itself: its records' states with parts of their own, and what else was read of them in the same order.
+/// A tree that was read by itself: its records' states with parts of their own, whether they are known to rise, and what else was read of
+/// them in the same order.
 #[derive(Drop)]
 pub struct Half<'c> {
     pub states: Gathered<'c>,
+    pub rises: bool,
     pub records: Records,
 }
 
@@ -111,13 +114,18 @@ fn half_of<'c>(checked: &'c Checked, scan: Scan, twig: Twig) -> Half<'c>
         behind,
     } = twig;
     let states = Gathered::of_parts(checked, sources.into_parts(), keys.into_vec());
+    let rises = is_rising(&states);
     let records = Records {
         ends,
         shape,
         room,
         behind,
     };
-    Half { states, records }
+    Half {
+        states,
+        rises,
+        records,
+    }
 }
 
 // The tree at the front of the bytes. `None` where there is none, where a state does not fit the client, or where a fork's state is
@@ -290,6 +298,7 @@ fn graft(
 {
     let Half {
         states: others,
+        rises: _rises,
         records,
     } = second;
     let (middle, room) = match seam_of(apart, left, right, first, &records) {
@@ -351,18 +360,24 @@ fn fork_of(alloc: Global, first: Records, second: Records, room: u32) -> Result<
     })
 }
 
-// A fork, from the states of both halves, and from their records.
+// A fork, from the states of both halves, of which it is known whether they rise, and from their records.
 fn half_with<'c>(
     alloc: Global,
     states: Gathered<'c>,
+    rises: bool,
     first: Records,
     second: Records,
     room: u32,
 ) -> Result<Half<'c>, AllocError>
-    ensures { IfOk result (λ h. (h.states ≡ states.entry) × IsForkOf first second room h.records) }
+    ensures fork { IfOk result (λ h. (h.states ≡ states.entry) × IsForkOf first second room h.records) }
+    ensures rises { IfOk result (λ h. h.rises ≡ rises) }
 {
     match fork_of(alloc, first, second, room) {
-        Ok(records) => Ok(Half { states, records }),
+        Ok(records) => Ok(Half {
+            states,
+            rises,
+            records,
+        }),
         Err(reason) => {
             drop(states);
             Err(reason)
@@ -386,12 +401,16 @@ fn read_joined<'c>(
 {
     let Half {
         mut states,
+        rises,
         records,
     } = first;
     let apart = whole.is_apart();
+    let count = states.len();
+    let others_rise = second.rises;
     match graft(apart, left, right, &mut states, &records, second) {
         Ok(Some((room, others))) => {
-            let half = half_with(whole.alloc, states, records, others, room)?;
+            let all_rise = rise_joined(&states, count, rises, others_rise);
+            let half = half_with(whole.alloc, states, all_rise, records, others, room)?;
             Ok(Some(half))
         }
         Ok(None) => {

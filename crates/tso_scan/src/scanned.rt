@@ -8,7 +8,7 @@ ghost use Rattle.tso_prog.specs.declared.client.Client.{Client};
 
 use crate::halves::{Half, RECORDS, Records, Unread, read_alone};
 use crate::shape::Shape;
-use crate::whole::{Whole, whole_by, whole_of};
+use crate::whole::{Whole, whole_of};
 use std::alloc::{AllocError, Global};
 use std::thread;
 use std::thread::Threads;
@@ -184,7 +184,7 @@ fn scan_tree_with<'a, R: Threads + Sync>(
     let Some(half) = read_tree_with(rt, alloc, checked, bytes, more, workers)? else {
         return Ok(None);
     };
-    match whole_by(rt, half, workers)? {
+    match whole_of(half) {
         Some(whole) => scanned_of(table, whole),
         None => Ok(None),
     }

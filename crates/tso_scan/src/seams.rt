@@ -1,8 +1,9 @@
 //! Where the right half of a fork may begin. What is found here is a guess, which costs time where it is wrong: whoever reads the
 //! left half finds out.
 
-ghost use Rattle.std.specs.Prelude.{◌≤◌, IfSome, length};
+ghost use Rattle.std.specs.Prelude.{◌≡◌, ◌≤◌, IfSome, length};
 ghost use Rattle.tso_scan.specs.Halves.{IsEnd};
+ghost use Rattle.tso_scan.specs.Seams.{HasForks, forks_before};
 
 use std::alloc::Global;
 use tso_cert::read_table;
@@ -41,11 +42,16 @@ fn at_most(bytes: &[u8], most: usize) -> &[u8] {
 }
 
 // How many bytes at the front are those of forks, of so many at most.
-fn forks_before(bytes: &[u8], most: usize) -> usize {
-    let bytes = at_most(bytes, most);
-    match bytes.iter().position(|byte| *byte != 1) {
-        Some(count) => count,
-        None => bytes.len(),
+fn forks_before(bytes: &[u8], most: usize) -> usize
+    ensures count { result ≡ forks_before most bytes.now }
+    ensures few { result ≤ most }
+{
+    if most == 0 {
+        return 0;
+    }
+    match bytes {
+        [1, rest @ ..] => 1 + forks_before(rest, most - 1),
+        _ => 0,
     }
 }
 
@@ -140,7 +146,9 @@ pub fn right_half(alloc: Global, bytes: &[u8], taken: usize) -> Option<&[u8]>
 }
 
 /// How many forks a certificate has on the way to its first leaf, if its table is at the front of these bytes, and the forks too.
-pub fn forks_at(alloc: Global, bytes: &[u8]) -> Option<usize> {
+pub fn forks_at(alloc: Global, bytes: &[u8]) -> Option<usize>
+    ensures { IfSome result (HasForks bytes.now) }
+{
     match read_table(alloc, bytes) {
         Ok((table, rest)) => {
             drop(table);

@@ -10,7 +10,7 @@ ghost use Rattle.tso_keys.specs.Numbers.{values_at};
 use std::alloc::{AllocError, Global};
 use std::marker::Model;
 use std::thread::Threads;
-use tso_cert::{ALONE, Task, run_by};
+use tso_cert::{Task, run_by};
 use tso_code::{Code, write_number};
 use tso_keys::{Key, Parts};
 use tso_list::Paths;
@@ -47,8 +47,9 @@ fn spelled_all<T: Code>(alloc: Global, values: &[T]) -> Result<Paths, AllocError
     ensures { IfOk result (λ all. all ≡ map T.spell values.now) }
 {
     let mut all = Paths::new(alloc);
+    let mut bytes = Vec::new(alloc);
     for value in values {
-        let mut bytes = Vec::new(alloc);
+        bytes.clear();
         value.write(&mut bytes)?;
         all.push(bytes.as_slice())?;
     }
@@ -67,6 +68,9 @@ fn put_all(more: &Paths, all: &mut Paths) -> Result<(), AllocError>
     }
     Ok(())
 }
+
+// As many values one thread spells sooner than others are started for them: a history takes as long as some states.
+const FEW: usize = 512;
 
 // Values that are to be spelled.
 #[derive(Drop)]
@@ -92,7 +96,7 @@ impl<'a, T: Code> Task for Unwritten<'a, T> {
 
     fn halves(&self) -> Option<(Self, Self)> {
         let count = self.values.len();
-        if count <= ALONE {
+        if count <= FEW {
             return None;
         }
         let (low, high) = self.values.split_at(count / 2);

@@ -1,5 +1,5 @@
 use Rattle.std.proofs.Common.{◌-◌, arith, refl}
-use Rattle.tso_load.proofs.SpanLemmas.{begin_all, begin_more, up_to}
+use Rattle.tso_load.proofs.SpanLemmas.{begin_all, begin_more, next_rises, up_to}
 use Rattle.tso_load.proofs.span.spans_of.Goals as goal
 
 pub loop-seam-preserved : goal.loop-seam-preserved
@@ -13,6 +13,7 @@ loop-seam-preserved c =
     record {
       behind = up_to start next old new (record { start = start; most = next - start }) so_far.behind refl refl c.if-next-start.true is;
       begin = begin_more old new (record { start = start; most = next - start }) c.args.seams.now c.loop-seam.seam-index so_far.begin is next c.loop-seam-test.true c.in-Some.is;
+      rise = λ r. next_rises c.args.seams.now c.loop-seam.seam-index start next c.loop-seam-test.true c.in-Some.is (so_far.rise r);
     }
 
 pub returns-clause-seams : goal.returns-clause-seams

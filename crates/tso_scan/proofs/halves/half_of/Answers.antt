@@ -6,6 +6,7 @@ pub returns : goal.returns
 returns c = record {
   client = c.of_parts-states.ensures.client;
   states = c.of_parts-states.ensures.states ∙ (λ i. states_at (c.into_parts.ensures i) (c.into_vec.ensures i));
+  rises = c.is_rising-rises.ensures.0;
   ends = refl;
   shape = refl;
   room = refl;
