@@ -75,8 +75,8 @@ fn both(
     Ok(all)
 }
 
-// The same by so many threads. The caller starts all of them: of those that two threads start at one time two may go to one processor,
-// and wait for each other there.
+// What is found in pieces by so many threads. The caller starts all of them: of those that two threads start at one time two may go to
+// one processor, and wait for each other there.
 fn judge_by<R: Threads + Sync, P: Part + Sync>(
     rt: &R,
     alloc: Global,
@@ -145,7 +145,7 @@ fn first_found<P: Part>(pieces: &[P], all: &[Judged]) -> Result<Option<Bad>, All
 /// next one that none has taken, until none is left. What is found furthest to the left stands, want of memory too; one worker judges the
 /// part as it is.
 ///
-/// Errors: where a growth was refused.
+/// Errors: where a growth was refused, that of a list of what was found too.
 pub fn judge_with<R: Threads + Sync, P: Part + Sync + Drop>(
     rt: &R,
     alloc: Global,
