@@ -1,5 +1,5 @@
 -- Pieces of a certificate, and what is found in all of them.
-use Rattle.std.proofs.Common.{◌≡◌, ◌∙◌, ℕ, zero, suc, ◌+◌, ◌-◌, ◌<◌, ◌≤◌, ◌++◌, inl, inr, List, [], ◌∷◌, length, map, Option, None, Some, slice_get, refl, sym, ap, append_assoc, subst, arith}
+use Rattle.std.proofs.Common.{◌≡◌, ◌∙◌, ℕ, zero, suc, ◌+◌, ◌-◌, ◌<◌, ◌≤◌, ◌++◌, inl, inr, List, [], ◌∷◌, length, map, None, Some, slice_get, refl, sym, ap, append_assoc, subst, arith}
 use Rattle.std.proofs.lemmas.Bool.{cases_lt}
 use Rattle.std.proofs.lemmas.List.{map-append}
 use Rattle.std.proofs.lemmas.Option.{same_Some, slice_get-map, slice_get_within}
@@ -7,7 +7,7 @@ use Rattle.std.specs.Prelude.{IfOk, option_map}
 use Rattle.tso_check.proofs.NumberedLemmas.{at_place}
 use Rattle.tso_check.proofs.RisingLemmas.{got_left, got_right}
 use Rattle.tso_check.proofs.SpanLemmas.{halves_left, halves_right}
-use Rattle.tso_check.specs.Pieces.{AreAllOf, AreJudgedIn, AreReady, IsBadFirst, IsCutInto, IsFoundFirst}
+use Rattle.tso_check.specs.Pieces.{AreAllOf, AreJudgedIn, AreReady, IsBadFirst, IsCutInto}
 use Rattle.tso_check.specs.Spans.{AreHalves, IsSpanJudged, Span}
 use Rattle.tso_check.specs.declared.judging.Bad.{Bad}
 use Rattle.tso_check.specs.declared.threads.Judged.{Judged}

@@ -8,7 +8,6 @@ use Rattle.std.specs.Option.{option_cmp}
 use Rattle.std.specs.List.Sorted.{IsSortedBy, IsSortedByKey}
 use Rattle.std.specs.Ordering.{is_lt, nat_cmp}
 use Rattle.std.specs.Prelude.{option_map}
-use Rattle.std.specs.declared.cmp.Ordering.{Ordering}
 use Rattle.std.specs.declared.cmp.Ordering.TheVariants.{Less, Equal, Greater}
 use Rattle.tso_hist.specs.contracts.exact.HistoryExact.TheImpl.Laws as history_exact
 use Rattle.tso_hist.specs.contracts.history.HistoryOrd.TheImpl.Laws as history_laws

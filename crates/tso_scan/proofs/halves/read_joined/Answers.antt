@@ -1,4 +1,4 @@
-use Rattle.std.proofs.Common.{◌∙◌, Bool, ap, length, subst, sym}
+use Rattle.std.proofs.Common.{Bool, subst, sym}
 use Rattle.std.specs.Prelude.{IsTrue}
 use Rattle.tso_scan.proofs.HalfLemmas.{forked}
 use Rattle.tso_scan.proofs.halves.read_joined.Goals as goal
