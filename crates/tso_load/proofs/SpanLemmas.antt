@@ -1,5 +1,5 @@
 -- Parts of a file, one behind another.
-use Rattle.std.proofs.Common.{◌≡◌, ◌∙◌, ℕ, suc, ◌+◌, ◌-◌, ◌<◌, ◌≤◌, ◌++◌, List, [], ◌∷◌, length, map, take, drop, get_or, Option, None, Some, ap, arith, refl, subst, sym}
+use Rattle.std.proofs.Common.{◌≡◌, ◌∙◌, ◌↔◌, ℕ, suc, ◌+◌, ◌-◌, ◌<◌, ◌≤◌, ◌++◌, List, [], ◌∷◌, length, map, take, drop, get_or, Option, None, Some, ap, arith, subst, sym}
 use Rattle.std.proofs.Math.Seq.{drop-cons, take-suc}
 use Rattle.std.proofs.lemmas.List.{map-append, take_all}
 use Rattle.tso_load.specs.Spans.{AreOneBehindAnother, BeginAt, RiseFrom}
@@ -31,16 +31,11 @@ module _ (xs more : List Span) (s : Span) (seams : List (Option ℕ)) (i : ℕ) 
   pub begin_all : length seams ≤ i → BeginAt seams more
   begin_all past = all_begun ∙ ap (λ (l : List (Option ℕ)). Some 0 ∷ l) (take_all i seams past)
 
--- the next place was found, where all were, and those behind it
-pub next_rises : (seams : List (Option ℕ)) (i start next : ℕ) → i < length seams → get_or seams i None ≡ Some next → RiseFrom start (drop i seams) → RiseFrom next (drop (i + 1) seams)
-next_rises seams i start next less at rise =
-    let here : RiseFrom start (Some next ∷ drop (suc i) seams) = subst (RiseFrom start) (drop-cons seams i None less ∙ ap (λ (o : Option ℕ). o ∷ drop (suc i) seams) at) rise in
-    subst (λ (n : ℕ). RiseFrom next (drop n seams)) (let e : suc i ≡ i + 1 = omega arith in e) here.1
-
--- a place that was not found, or is not above those before it
-pub not_risen : (seams : List (Option ℕ)) (i start : ℕ) → i < length seams → ((next : ℕ) → get_or seams i None ≡ Some next → start < next → ⊥) → RiseFrom start (drop i seams) → ⊥
-not_risen seams i start less not rise = by_case (get_or seams i None) not (subst (RiseFrom start) (drop-cons seams i None less) rise)
-  where
-    by_case : (o : Option ℕ) → ((next : ℕ) → o ≡ Some next → start < next → ⊥) → RiseFrom start (o ∷ drop (suc i) seams) → ⊥
-    by_case None n r = r
-    by_case (Some next) n r = n next refl r.0
+-- all places rise just where those behind the next one do
+pub next_rise : (seams : List (Option ℕ)) (i start next : ℕ) → i < length seams → get_or seams i None ≡ Some next → start < next → RiseFrom start (drop i seams) ↔ RiseFrom next (drop (i + 1) seams)
+next_rise seams i start next less at above =
+    let e : suc i ≡ i + 1 = omega arith in
+    let here : drop i seams ≡ Some next ∷ drop (suc i) seams = drop-cons seams i None less ∙ ap (λ (o : Option ℕ). o ∷ drop (suc i) seams) at in (
+      λ rise. subst (λ (n : ℕ). RiseFrom next (drop n seams)) e (subst (RiseFrom start) here rise).1,
+      λ rest. subst (RiseFrom start) (sym here) (above, subst (λ (n : ℕ). RiseFrom next (drop n seams)) (sym e) rest),
+    )

@@ -54,13 +54,14 @@ pub fn seam_from<S: Source>(
     Ok(None)
 }
 
-/// The parts of a file that begin where these were found, the first at its front. `None` only where one was not found, or does not stand
-/// behind those before it.
+/// The parts of a file that begin where these were found, the first at its front. `None` exactly where one was not found, or does not
+/// stand behind those before it.
 ///
 /// Errors: where a growth was refused.
 pub fn spans_of(alloc: Global, seams: &[Option<u64>]) -> Result<Option<Vec<Span>>, AllocError>
     ensures whole { IfOk result (λ found. IfSome found (λ spans. AreOfWhole spans.items)) }
     ensures seams { IfOk result (λ found. IfSome found (λ spans. BeginAt seams.now spans.items)) }
+    ensures rise { IfOk result (λ found. IfSome found (λ _. RiseFrom 0 seams.now)) }
     ensures none { result ≡ Ok None → RiseFrom 0 seams.now → ⊥ }
 {
     let mut spans = Vec::new(alloc);
