@@ -2,12 +2,13 @@
 use Rattle.std.proofs.Common.{◌≡◌, ◌∙◌, ℕ, zero, suc, ◌+◌, ◌-◌, ◌<◌, ◌≤◌, ◌++◌, inl, inr, List, [], ◌∷◌, length, map, None, Some, slice_get, refl, sym, ap, append_assoc, subst, arith}
 use Rattle.std.proofs.lemmas.Bool.{cases_lt}
 use Rattle.std.proofs.lemmas.List.{map-append}
+use Rattle.std.proofs.lemmas.List.Elements.{All-append}
 use Rattle.std.proofs.lemmas.Option.{same_Some, slice_get-map, slice_get_within}
-use Rattle.std.specs.Prelude.{IfOk, option_map}
+use Rattle.std.specs.Prelude.{All, IfOk, option_map}
 use Rattle.tso_check.proofs.NumberedLemmas.{at_place}
 use Rattle.tso_check.proofs.RisingLemmas.{got_left, got_right}
 use Rattle.tso_check.proofs.SpanLemmas.{halves_left, halves_right}
-use Rattle.tso_check.specs.Pieces.{AreAllOf, AreJudgedIn, AreReady, IsBadFirst, IsCutInto}
+use Rattle.tso_check.specs.Pieces.{AreAllOf, AreJudgedIn, IsBadFirst, IsCutInto}
 use Rattle.tso_check.specs.Spans.{AreHalves, IsSpanJudged, Span}
 use Rattle.tso_check.specs.declared.judging.Bad.{Bad}
 use Rattle.tso_check.specs.declared.threads.Judged.{Judged}
@@ -65,18 +66,16 @@ module _ (whole left right : Span) (ls rs : List Span) (halves : AreHalves whole
 -- ---- parts that are cut
 
 module _ {X : Type 0} (span : X → Span) (is_ready : X → Type 0) where
-  both_ready : (xs ys : List X) → AreReady is_ready xs → AreReady is_ready ys → AreReady is_ready (xs ++ ys)
-  both_ready xs ys one two k x at = elim (cases_lt k (length xs)) [
-    | inl less ↦ one k x (from_left xs ys k x less at)
-    | inr ge ↦ two (k - length xs) x (from_right xs ys k x ge at)
-  ]
+  one_ready : (part : X) → is_ready part → All is_ready (part ∷ [])
+  one_ready part ready zero d less = ready
+  one_ready part ready (suc k) d less = absurd (omega (arith, less))
 
   pub not_cut : (part : X) (old new : List X) → is_ready part → new ≡ old ++ part ∷ [] → IsCutInto span is_ready part old new
   not_cut part old new ready is = record {
     pieces = part ∷ [];
     is = is;
     all = one_piece (span part);
-    ready = λ k x at. subst is_ready (sym (only part x k at)) ready;
+    ready = one_ready part ready;
   }
 
   pub cut_twice : (part left right : X) (old mid new : List X) → AreHalves (span part) (span left) (span right) → IsCutInto span is_ready left old mid → IsCutInto span is_ready right mid new → IsCutInto span is_ready part old new
@@ -84,7 +83,7 @@ module _ {X : Type 0} (span : X → Span) (is_ready : X → Type 0) where
     pieces = one.pieces ++ two.pieces;
     is = two.is ∙ ap (λ l. l ++ two.pieces) one.is ∙ append_assoc old one.pieces two.pieces;
     all = subst (AreAllOf (span part)) (sym (map-append span one.pieces two.pieces)) (two_pieces (span part) (span left) (span right) (map span one.pieces) (map span two.pieces) halves one.all two.all);
-    ready = both_ready one.pieces two.pieces one.ready two.ready;
+    ready = All-append is_ready one.pieces two.pieces one.ready two.ready;
   }
 
 -- what is found in a piece, where nothing was in those before

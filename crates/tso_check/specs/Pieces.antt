@@ -1,5 +1,5 @@
 -- Pieces of a certificate, which several threads judge as they come. Nothing here need be believed: it serves the code.
-use Rattle.std.specs.Prelude.{◌≡◌, ◌<◌, ◌++◌, ℕ, IfOk, List, map, None, Option, Some, slice_get}
+use Rattle.std.specs.Prelude.{◌≡◌, ◌<◌, ◌++◌, ℕ, All, IfOk, List, map, None, Option, Some, slice_get}
 use Rattle.tso_check.specs.Spans.{IsSpanJudged, Span}
 use Rattle.tso_check.specs.declared.judging.Bad.{Bad}
 use Rattle.tso_check.specs.declared.threads.Judged.{Judged}
@@ -20,16 +20,13 @@ IsFoundFirst spans (Some bad) = IsBadFirst spans bad
 abbrev pub AreAllOf : Span → List Span → Type 0
 AreAllOf whole spans = (found : Option Bad) → IsFoundFirst spans found → IsSpanJudged whole found
 
--- each can be judged
-abbrev pub AreReady : {X : Type 0} → (X → Type 0) → List X → Type 0
-AreReady {X} is_ready pieces = (k : ℕ) (x : X) → slice_get pieces k ≡ Some x → is_ready x
-
 -- the pieces of this part have come behind others
 pub record IsCutInto {X : Type 0} (span : X → Span) (is_ready : X → Type 0) (part : X) (old new : List X) : Type 0 where
   pub pieces : List X
   pub is : new ≡ old ++ pieces
   pub all : AreAllOf (span part) (map span pieces)
-  pub ready : AreReady is_ready pieces
+  -- each can be judged
+  pub ready : All is_ready pieces
 
 -- each of these was found in the piece with its number, where no growth was refused
 abbrev pub AreJudgedIn : List Span → List Judged → Type 0

@@ -1,8 +1,8 @@
 //! Records, judged by several threads.
 
-ghost use Rattle.std.specs.Prelude.{◌≡◌, ◌<◌, ℕ, IfOk, IfSome, List, Some, length, map, slice_get};
+ghost use Rattle.std.specs.Prelude.{◌≡◌, ◌<◌, ℕ, All, IfOk, IfSome, List, Some, length, map, slice_get};
 ghost use Rattle.std.specs.Thread.{IsSync};
-ghost use Rattle.tso_check.specs.Pieces.{AreJudgedIn, AreReady, IsFoundFirst};
+ghost use Rattle.tso_check.specs.Pieces.{AreJudgedIn, IsFoundFirst};
 ghost use Rattle.tso_check.specs.Spans.{IsSpanJudged, Span};
 
 use crate::judging::{Bad, Notice, Part};
@@ -47,7 +47,7 @@ fn judge_some<P: Part>(
     pieces: &[P],
     next: &AtomicUsize,
 ) -> Result<Vec<Judged>, AllocError>
-    requires ready { AreReady P.is_ready pieces.now }
+    requires ready { All P.is_ready pieces.now }
     ensures { IfOk result (λ all. AreJudgedIn (map P.span pieces.now) all.items) }
 {
     let mut all = Vec::new(alloc);
@@ -84,7 +84,7 @@ fn judge_by<R: Threads + Sync, P: Part + Sync>(
     next: &AtomicUsize,
     workers: u64,
 ) -> Result<Vec<Judged>, AllocError>
-    requires ready { AreReady P.is_ready pieces.now }
+    requires ready { All P.is_ready pieces.now }
     ensures { IfOk result (λ all. AreJudgedIn (map P.span pieces.now) all.items) }
 {
     if workers < 2 {
@@ -94,11 +94,11 @@ fn judge_by<R: Threads + Sync, P: Part + Sync>(
     let (some, more) = thread::join(
         rt,
         || -> Result<Vec<Judged>, AllocError>
-            requires { IsSync P.row × AreReady P.is_ready pieces.now }
+            requires { IsSync P.row × All P.is_ready pieces.now }
             ensures { IfOk result (λ all. AreJudgedIn (map P.span pieces.entry.now) all.items) }
         { judge_some(alloc, pieces, next) },
         || -> Result<Vec<Judged>, AllocError>
-            requires { IsSync R.row × IsSync P.row × AreReady P.is_ready pieces.now }
+            requires { IsSync R.row × IsSync P.row × All P.is_ready pieces.now }
             ensures { IfOk result (λ all. AreJudgedIn (map P.span pieces.entry.now) all.items) }
         { judge_by(rt, alloc, pieces, next, fewer) },
     );
@@ -116,7 +116,7 @@ fn found_in(all: &[Judged], number: usize) -> Option<Result<Option<Bad>, AllocEr
 // What is in the piece with this number, which is judged now where no thread has judged it.
 fn found_at<P: Part>(pieces: &[P], all: &[Judged], number: usize) -> Result<Option<Bad>, AllocError>
     requires there { number < length pieces.now }
-    requires ready { AreReady P.is_ready pieces.now }
+    requires ready { All P.is_ready pieces.now }
     requires judged { AreJudgedIn (map P.span pieces.now) all.now }
     ensures { IfOk result (λ found. (s : Span) → slice_get (map P.span pieces.now) number ≡ Some s → IsSpanJudged s found) }
 {
@@ -128,7 +128,7 @@ fn found_at<P: Part>(pieces: &[P], all: &[Judged], number: usize) -> Result<Opti
 
 // The first record that is not valid, by what was found in pieces, from left to right.
 fn first_found<P: Part>(pieces: &[P], all: &[Judged]) -> Result<Option<Bad>, AllocError>
-    requires ready { AreReady P.is_ready pieces.now }
+    requires ready { All P.is_ready pieces.now }
     requires judged { AreJudgedIn (map P.span pieces.now) all.now }
     ensures { IfOk result (IsFoundFirst (map P.span pieces.now)) }
 {
