@@ -6,7 +6,7 @@ use std::sync::Wait;
 use std::thread::Threads;
 use tso_calls::Failure;
 use tso_cert::NoWatch;
-use tso_check::check_parts;
+use tso_check::{Remains, check_parts};
 use tso_list::Seq;
 
 // These bytes in parts of so many, of which the last may have fewer; in none where that is 0.
@@ -34,7 +34,15 @@ pub fn put_check_parts<R: Threads + Wait + Sync>(
 ) -> Result<(), Failure> {
     let workers = workers_of(workers)?;
     let parts = parts_of(alloc, cert, size as usize)?;
-    let answer = check_parts(rt, alloc, program, &parts, workers, &NoWatch);
+    let answer = check_parts(
+        rt,
+        alloc,
+        program,
+        &parts,
+        workers,
+        &NoWatch,
+        Remains::Freed,
+    );
     drop(parts);
     put_answer(answer, out)
 }

@@ -1,3 +1,4 @@
+pub mod AloneLemmas
 pub mod Goodness
 pub mod NumberedLemmas
 pub mod OneAnswer

@@ -1,3 +1,4 @@
+pub mod Alone
 pub mod Halved
 pub mod Laws
 pub mod Numbered

@@ -19,6 +19,7 @@ ghost use Rattle.tso_scan.specs.Scanned.{IsScanned};
 
 use crate::halved::{TreePart, Whole, decide_tree, tree_fault};
 use crate::judging::{Notice, verdict_of};
+use crate::remains::{Remains, put_away};
 use crate::stored::{StoredPart, decide_stored, stored_fault};
 use crate::threads::{Told, judge_with};
 use crate::verdict::{Verdict, rejected};
@@ -228,6 +229,7 @@ fn verdict_with<R: Threads + Wait + Sync, W: Watch + Sync>(
     more: &[Seq<u8>],
     workers: Workers,
     watch: &W,
+    remains: Remains,
 ) -> Result<Verdict, AllocError>
     ensures { IfOk result (IsVerdict checked.now.client (text_of bytes.now more.now)) }
 {
@@ -235,7 +237,7 @@ fn verdict_with<R: Threads + Wait + Sync, W: Watch + Sync>(
     match scan_with(rt, alloc, checked, bytes, more, workers.count())? {
         Some(scanned) => {
             let found = decide_stored_with(rt, alloc, checked, &scanned, workers, &told);
-            scanned.let_go(rt, workers.count());
+            put_away(rt, scanned, workers.count(), remains);
             found
         }
         None => decide_parts_with(rt, alloc, checked, bytes, more, workers, &told),
@@ -260,11 +262,12 @@ fn answer_with<R: Threads + Wait + Sync, W: Watch + Sync>(
     more: &[Seq<u8>],
     workers: Workers,
     watch: &W,
+    remains: Remains,
 ) -> Result<Verdict, CheckError>
     ensures { IsAnswer program.now (text_of cert.now more.now) result }
 {
     let checked = checked_of(alloc, program)?;
-    let verdict = verdict_with(rt, alloc, &checked, cert, more, workers, watch)?;
+    let verdict = verdict_with(rt, alloc, &checked, cert, more, workers, watch, remains)?;
     Ok(verdict)
 }
 
@@ -276,14 +279,15 @@ fn answer_parts<R: Threads + Wait + Sync, W: Watch + Sync>(
     parts: &[Seq<u8>],
     workers: Workers,
     watch: &W,
+    remains: Remains,
 ) -> Result<Verdict, CheckError>
     ensures { IsAnswer program.now (whole_of parts.now) result }
 {
     match parts.split_first() {
-        None => answer_with(rt, alloc, program, &[], &[], workers, watch),
+        None => answer_with(rt, alloc, program, &[], &[], workers, watch, remains),
         Some((first, more)) => {
             let first = first.as_slice();
-            answer_with(rt, alloc, program, first, more, workers, watch)
+            answer_with(rt, alloc, program, first, more, workers, watch, remains)
         }
     }
 }
@@ -328,12 +332,22 @@ pub fn check_with<R: Threads + Wait + Sync, W: Watch + Sync>(
     ensures refused { (fault : AFault) → IsRefused program.now fault → (result ≡ Err (errors.Program fault)) ⊎ (result ≡ Err errors.Memory) }
     ensures valid { (c : Client) → DenotesChecked program.now c → IsValidCertificate c cert.now → (result ≡ Ok verdicts.Accepted) ⊎ (result ≡ Err errors.Memory) }
 {
-    answer_with(rt, alloc, program, cert, &[], workers, watch)
+    answer_with(
+        rt,
+        alloc,
+        program,
+        cert,
+        &[],
+        workers,
+        watch,
+        Remains::Freed,
+    )
 }
 
 /// The same, of a certificate that lies in several parts, one behind another: its answer is that of `check` on all of them put together.
 /// It is sooner where the parts are as many as there are workers, or half or a quarter as many, and the right half of each of the
 /// certificate's first forks begins one (`tso_scan::seam_in`). Where they begin elsewhere they are put together first.
+/// `remains` says whether what was read of them is let go of then.
 ///
 /// Errors: those of `check`.
 pub fn check_parts<R: Threads + Wait + Sync, W: Watch + Sync>(
@@ -343,6 +357,7 @@ pub fn check_parts<R: Threads + Wait + Sync, W: Watch + Sync>(
     parts: &[Seq<u8>],
     workers: Workers,
     watch: &W,
+    remains: Remains,
 ) -> Result<Verdict, CheckError>
     ensures answer { IsAnswer program.now (whole_of parts.now) result }
     ensures headline { result ≡ Ok verdicts.Accepted → IsVerified program.now }
@@ -350,5 +365,5 @@ pub fn check_parts<R: Threads + Wait + Sync, W: Watch + Sync>(
     ensures refused { (fault : AFault) → IsRefused program.now fault → (result ≡ Err (errors.Program fault)) ⊎ (result ≡ Err errors.Memory) }
     ensures valid { (c : Client) → DenotesChecked program.now c → IsValidCertificate c (whole_of parts.now) → (result ≡ Ok verdicts.Accepted) ⊎ (result ≡ Err errors.Memory) }
 {
-    answer_parts(rt, alloc, program, parts, workers, watch)
+    answer_parts(rt, alloc, program, parts, workers, watch, remains)
 }

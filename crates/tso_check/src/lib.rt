@@ -1,6 +1,7 @@
 //! The check of certificates: where it accepts, every run of the client is good.
 #![tactic(auto)]
 
+mod alone;
 mod deciding;
 mod halved;
 mod halves;
@@ -8,6 +9,7 @@ mod judging;
 mod laws;
 mod numbered;
 mod pieces;
+mod remains;
 mod rising;
 mod stored;
 mod threads;
@@ -17,6 +19,7 @@ mod verdict;
 
 pub use deciding::{check, check_client, check_parts, check_with};
 pub use laws::{accepted_runs_are_good, answers_are_unique, verdicts_are_unique};
+pub use remains::Remains;
 pub use tso_client::CheckError;
 pub use upgrading::{Renewed, UpgradeError, upgrade, upgrade_counted};
 pub use verdict::Verdict;

@@ -9,6 +9,7 @@ ghost use Rattle.tso_state.specs.Fitting.{HistoryFits};
 ghost use Rattle.tso_state.specs.Rising.{IsRising};
 ghost use Rattle.tso_keys.specs.Forms.{AreForms};
 
+use crate::alone::is_sure_end;
 use crate::trail::Trail;
 use std::alloc::{AllocError, Global};
 use tso_choose::Choice;
@@ -17,7 +18,7 @@ use tso_foot::{Table, is_within};
 use tso_judge::{Code, judge_alone};
 use tso_keys::{Forms, View};
 use tso_rec::End;
-use tso_state::{Actor, initial_state};
+use tso_state::{Actor, Viewed, initial_state, is_well_formed_given};
 use tso_store::{Found, Store};
 
 /// Whether the initial state is kept.
@@ -72,19 +73,30 @@ fn are_successors_kept(store: &Store<'_>, number: u32, end: &End, trail: &mut Tr
     }
 }
 
-// The first condition that a kept state with its end fails by itself, where it is known whether its history fits.
+// The first condition that a kept state with its end fails by itself, where it is known whether its history fits. Where the store
+// remembers of the one chosen core that it goes first alone, K05 alone is asked.
 fn judge_view(
     alloc: Global,
     checked: &Checked,
     table: &Table,
+    store: &Store<'_>,
+    number: u32,
     view: &View<'_>,
     fits: bool,
     end: &End,
 ) -> Result<Option<Code>, AllocError>
-    requires { IsTrue fits ↔ HistoryFits checked.now.client view.now.history }
+    requires client { store.now.client ≡ checked.now.client }
+    requires state { slice_get store.now.states number ≡ Some view.now }
+    requires fits { IsTrue fits ↔ HistoryFits checked.now.client view.now.history }
     ensures { IfOk result (IsJudgedAlone checked.now.client table.now view.now end.now) }
 {
-    judge_alone(alloc, checked, table, view, fits, end)
+    if !is_sure_end(store, number, view.thread_count(), end) {
+        return judge_alone(alloc, checked, table, view, fits, end);
+    }
+    if !is_well_formed_given(checked, view, fits) {
+        return Ok(Some(Code::K05));
+    }
+    Ok(None)
 }
 
 // Where a kept state meets those conditions, K08 and K12 are left.
@@ -133,7 +145,7 @@ pub fn judge_number(
         return Ok(None);
     };
     let fits = forms.get(number);
-    match judge_view(alloc, checked, table, &view, fits, end)? {
+    match judge_view(alloc, checked, table, store, number, &view, fits, end)? {
         Some(code) => Ok(Some(code)),
         None => Ok(judge_rest(table, store, number, &view, end, trail)),
     }

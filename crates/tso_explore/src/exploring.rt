@@ -9,16 +9,14 @@ ghost use Rattle.tso_search.specs.Reached.{IsBadAt};
 ghost use Rattle.tso_search.specs.Searched.{AreSearched, HasBegun, HasMore, IsBegun, IsSearched, IsStarted, IsStop};
 ghost use Rattle.tso_search.specs.Shortening.{IsTraceOf};
 ghost use Rattle.tso_foot.specs.Closed.{IsClosed, IsLeastClosed};
-ghost use Rattle.tso_table.specs.Leading.{IsKept};
 ghost use Rattle.tso_write.specs.Worked.{AreWorkedOut};
 
 use crate::closing::are_worked;
 use crate::ended::{Ended, Stopped};
 use crate::finding::Finding;
 use crate::first::{First, Soon};
-use crate::merging::{add_met, merged};
+use crate::merging::merged;
 use crate::outcome::Outcome;
-use crate::showing::{trace_along, walked};
 use std::alloc::{AllocError, Global};
 use std::sync::Wait;
 use std::thread::Threads;
@@ -31,7 +29,6 @@ use tso_regions::by_regions;
 use tso_search::{Judged, Marks, Origin, Stop, Way, hunt, is_good, search, shortened, trace_to};
 use tso_state::initial_state;
 use tso_store::{AddError, Store};
-use tso_table::Kept;
 use tso_trace::Trace;
 use tso_write::{Worked, tree_for};
 
@@ -663,46 +660,8 @@ fn explored<'c, R: Wait, W: Watch>(
     }
 }
 
-// More states than the limit are reached, where the store has them with this one.
-fn is_over(
-    checked: &Checked,
-    store: &mut Store<'_>,
-    kept: &Kept,
-    limit: u32,
-) -> Result<bool, AllocError>
-    requires client { store.old.client ≡ checked.now.client }
-    requires begun { HasBegun checked.now.client store.old.states }
-    requires kept { IsKept checked.now.client kept.now }
-    ensures { IfOk result (λ over. over ≡ true → HasMore checked.now.client limit) }
-{
-    add_met(checked, store, kept)?;
-    store.states_differ();
-    Ok(store.len() > limit as usize)
-}
-
-// Where a state found no unit: that the limit is reached, if the store has as many as that without it.
-fn over_with(
-    alloc: Global,
-    checked: &Checked,
-    store: &mut Store<'_>,
-    kept: &Kept,
-    limit: u32,
-) -> Result<Option<Stopped>, AllocError>
-    requires client { store.old.client ≡ checked.now.client }
-    requires begun { HasBegun checked.now.client store.old.states }
-    ensures { IfOk result (λ found. IfSome found (IsStopped checked.now.client limit)) }
-{
-    let Some(reached) = walked(alloc, checked, kept.actors.as_slice())? else {
-        return Ok(None);
-    };
-    if is_over(checked, store, &reached, limit)? {
-        return Ok(Some(Stopped::LimitReached));
-    }
-    Ok(None)
-}
-
-// That all states which several workers have met are worked, if they are; or that they are too many.
-fn ended_by_all<R: Threads + Sync>(
+// Whether there are no more states than the limit, and all are worked.
+fn are_all_worked<R: Threads + Sync>(
     rt: &R,
     alloc: Global,
     checked: &Checked,
@@ -710,62 +669,28 @@ fn ended_by_all<R: Threads + Sync>(
     store: &Store<'_>,
     workers: u64,
     limit: u32,
-) -> Result<Option<Ended>, AllocError>
+) -> Result<bool, AllocError>
     requires client { store.now.client ≡ checked.now.client }
     requires begun { HasBegun checked.now.client store.now.states }
     requires limit { limit ≤ 4194304 }
-    ensures { IfOk result (λ found. IfSome found (IsEnded checked.now.client limit table.now store.now)) }
+    ensures { IfOk result (λ all. all ≡ true → AreSearched checked.now.client table.now store.now.states × (length store.now.states ≤ limit)) }
 {
     if store.len() > limit as usize {
-        store.states_differ();
-        return Ok(Some(Ended::Early(Stopped::LimitReached)));
+        return Ok(false);
     }
-    if !are_worked(rt, alloc, checked, table, store, workers)? {
-        return Ok(None);
-    }
-    Ok(Some(Ended::Worked))
+    are_worked(rt, alloc, checked, table, store, workers)
 }
 
-// How the search of several workers ended, by how they did and the states that they met; `None` where that does not tell.
-fn found_together<R: Threads + Sync>(
-    rt: &R,
-    alloc: Global,
-    checked: &Checked,
-    table: &Table,
-    store: &mut Store<'_>,
-    ending: Ending,
-    workers: u64,
-    limit: u32,
-) -> Result<Option<Ended>, AllocError>
-    requires client { store.old.client ≡ checked.now.client }
-    requires begun { HasBegun checked.now.client store.old.states }
-    requires limit { limit ≤ 4194304 }
-    ensures { IfOk result (λ found. IfSome found (IsEnded checked.now.client limit table.now store.new)) }
-{
+// Whether a worker's ending leaves what all have met: where there was nothing more to do.
+fn is_quiet(ending: Ending) -> Result<bool, AllocError> {
     match ending {
-        Ending::Quiet => ended_by_all(rt, alloc, checked, table, store, workers, limit),
-        Ending::Violation(kept) => {
-            let found = trace_along(alloc, checked, &kept);
-            drop(kept);
-            match found? {
-                Some(trace) => Ok(Some(Ended::Early(Stopped::Trace(trace)))),
-                None => Ok(None),
-            }
-        }
-        Ending::Full(kept) => {
-            let found = over_with(alloc, checked, store, &kept, limit);
-            drop(kept);
-            match found? {
-                Some(why) => Ok(Some(Ended::Early(why))),
-                None => Ok(None),
-            }
-        }
-        Ending::Astray => Ok(None),
+        Ending::Quiet => Ok(true),
+        Ending::Astray | Ending::Violation(_) | Ending::Full(_) => Ok(false),
         Ending::Memory => Err(AllocError),
     }
 }
 
-// The states that several workers meet, in one store, and how they ended.
+// The states that several workers meet in shards, in one store, where all of them end quietly.
 fn gathered<'a, R: Threads + Wait + Sync, W: Watch + Sync>(
     rt: &R,
     alloc: Global,
@@ -774,24 +699,56 @@ fn gathered<'a, R: Threads + Wait + Sync, W: Watch + Sync>(
     workers: u64,
     limit: u32,
     watch: &W,
-) -> Result<(Store<'a>, Ending), AllocError>
+) -> Result<Option<Store<'a>>, AllocError>
     requires workers { (1 ≤ workers) × (workers ≤ 64) }
-    ensures client { IfOk result (λ r. r.0.client ≡ checked.now.client) }
-    ensures begun { IfOk result (λ r. HasBegun checked.now.client r.0.states) }
+    ensures client { IfOk result (λ o. IfSome o (λ store. store.client ≡ checked.now.client)) }
+    ensures begun { IfOk result (λ o. IfSome o (λ store. HasBegun checked.now.client store.states)) }
 {
     let (tables, ending) = search_together(rt, alloc, checked, table, workers, limit, watch)?;
+    if !is_quiet(ending)? {
+        drop(tables);
+        return Ok(None);
+    }
     let merged = merged(alloc, checked, table, tables.as_slice());
     drop(tables);
-    match merged {
-        Ok(store) => Ok((store, ending)),
+    let store = merged?;
+    Ok(Some(store))
+}
+
+// What several workers found in shards, if all states that they met are worked.
+fn found_together<'c, R: Threads + Sync>(
+    rt: &R,
+    alloc: Global,
+    checked: &'c Checked,
+    table: Table,
+    store: Store<'c>,
+    workers: u64,
+    limit: u32,
+) -> Result<Option<Finding<'c>>, AllocError>
+    requires closed { IsClosed checked.now.client table }
+    requires least { IsLeastClosed checked.now.client table }
+    requires client { store.client ≡ checked.now.client }
+    requires begun { HasBegun checked.now.client store.states }
+    requires limit { limit ≤ 4194304 }
+    ensures { IfOk result (λ found. IfSome found (IsFinding checked.now.client limit)) }
+{
+    match are_all_worked(rt, alloc, checked, &table, &store, workers, limit) {
+        Ok(true) => Ok(Some(worked_out(checked, table, store, limit))),
+        Ok(false) => {
+            drop(store);
+            drop(table);
+            Ok(None)
+        }
         Err(reason) => {
-            drop(ending);
+            drop(store);
+            drop(table);
             Err(reason)
         }
     }
 }
 
-// What several workers find; `None` where one has to search alone.
+// What several workers find in shards. `None` where one has to search alone: where one of them did not end quietly, or a state is
+// missing. They search clients alone that the caller has found right before, within the limit.
 fn explored_together<'c, R: Threads + Wait + Sync, W: Watch + Sync>(
     rt: &R,
     alloc: Global,
@@ -805,24 +762,13 @@ fn explored_together<'c, R: Threads + Wait + Sync, W: Watch + Sync>(
     ensures { IfOk result (λ found. IfSome found (IsFinding checked.now.client limit)) }
 {
     let table = build(alloc, checked)?;
-    let (mut store, ending) = match gathered(rt, alloc, checked, &table, workers, limit, watch) {
-        Ok(found) => found,
-        Err(reason) => {
-            drop(table);
-            return Err(reason);
-        }
-    };
-    match found_together(
-        rt, alloc, checked, &table, &mut store, ending, workers, limit,
-    ) {
-        Ok(Some(ended)) => Ok(Some(finding_of(checked, table, store, ended, limit))),
+    match gathered(rt, alloc, checked, &table, workers, limit, watch) {
+        Ok(Some(store)) => found_together(rt, alloc, checked, table, store, workers, limit),
         Ok(None) => {
-            drop(store);
             drop(table);
             Ok(None)
         }
         Err(reason) => {
-            drop(store);
             drop(table);
             Err(reason)
         }

@@ -8,7 +8,6 @@ mod finding;
 mod first;
 mod merging;
 mod outcome;
-mod showing;
 
 pub use exploring::{explore, find};
 pub use finding::Finding;

@@ -11,10 +11,8 @@ use tso_foot::Table as Footprints;
 use tso_store::{AddError, Store};
 use tso_table::{Kept, Table};
 
-/// Adds a state that is reached. One that a store cannot keep is left out.
-///
-/// Errors: where a growth was refused.
-pub fn add_met(checked: &Checked, store: &mut Store<'_>, kept: &Kept) -> Result<(), AllocError>
+// Adds a state that is reached. One that a store cannot keep is left out.
+fn add_met(checked: &Checked, store: &mut Store<'_>, kept: &Kept) -> Result<(), AllocError>
     requires client { store.old.client ≡ checked.now.client }
     requires begun { HasBegun checked.now.client store.old.states }
     requires kept { IsKept checked.now.client kept.now }
@@ -29,7 +27,31 @@ pub fn add_met(checked: &Checked, store: &mut Store<'_>, kept: &Kept) -> Result<
     }
 }
 
-// Adds the states of one table of this client, by the numbers of their parts.
+// Adds the state at a place of a table of this client.
+fn add_at(
+    alloc: Global,
+    checked: &Checked,
+    store: &mut Store<'_>,
+    table: &Table<'_>,
+    place: u32,
+) -> Result<(), AllocError>
+    requires client { store.old.client ≡ checked.now.client }
+    requires table { table.now.client ≡ checked.now.client }
+    requires begun { HasBegun checked.now.client store.old.states }
+    ensures begun { OnOk result (HasBegun checked.now.client store.new.states) }
+    ensures client { store.new.client ≡ store.old.client }
+{
+    match table.kept(alloc, place)? {
+        Some(kept) => {
+            let added = add_met(checked, store, &kept);
+            drop(kept);
+            added
+        }
+        None => Ok(()),
+    }
+}
+
+// Adds the states of one table of this client.
 fn add_table(
     alloc: Global,
     checked: &Checked,
@@ -39,14 +61,13 @@ fn add_table(
     requires client { store.old.client ≡ checked.now.client }
     requires table { table.now.client ≡ checked.now.client }
     requires begun { HasBegun checked.now.client store.old.states }
-    ensures begun { HasBegun checked.now.client store.new.states }
+    ensures begun { OnOk result (HasBegun checked.now.client store.new.states) }
     ensures client { store.new.client ≡ store.old.client }
 {
-    table.is_sound();
-    match store.take_in(alloc, table.states()) {
-        Ok(()) => Ok(()),
-        Err(_) => Err(AllocError),
+    for place in 0..table.len() {
+        add_at(alloc, checked, store, table, place as u32)?;
     }
+    Ok(())
 }
 
 // Adds the states of all tables that are of this client and this table of footprints.

@@ -39,7 +39,7 @@ pub trait Files {
 }
 
 /// The first `limit` bytes that a reader of the file at a path gives, all of them where it has fewer. A read that is interrupted is
-/// tried again.
+/// tried again. Room for so many as are expected is asked for at once: that saves moving them as they grow, and changes no answer.
 ///
 /// Errors: `CannotRead` where a read failed; `Memory`.
 pub fn read_bytes<R: Read>(
@@ -47,10 +47,11 @@ pub fn read_bytes<R: Read>(
     reader: &mut R,
     path: &str,
     limit: usize,
+    expected: usize,
 ) -> Result<Vec<u8>, Failure>
     ensures short { IfOk result (λ bytes. vec_len bytes ≤ limit) }
 {
-    let mut bytes = Vec::new(alloc);
+    let mut bytes = Vec::with_capacity(alloc, expected)?;
     let mut buffer = [0u8; BLOCK];
     for _ in 0..u64::MAX {
         let left = limit.saturating_sub(bytes.len());
@@ -83,7 +84,7 @@ pub fn read_up_to<F: Files>(
     ensures short { IfOk result (λ bytes. vec_len bytes ≤ limit) }
 {
     match files.open(path) {
-        Ok(mut reader) => read_bytes(alloc, &mut reader, path, limit),
+        Ok(mut reader) => read_bytes(alloc, &mut reader, path, limit, 0),
         Err(_) => Err(cannot_read(alloc, path)),
     }
 }

@@ -5,5 +5,4 @@ pub mod Forms
 pub mod Orders
 pub mod Listing
 pub mod Marks
-pub mod Unions
 pub mod Moving

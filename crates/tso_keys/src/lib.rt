@@ -21,7 +21,7 @@ pub use forms::{Forms, forms_of};
 pub use halving::number_risen;
 pub use kept::{find_key, find_near, fits_client, key_of, number_at};
 pub use key::{Key, NO_KEY, NONE, WIDTH};
-pub use moved::{PartNumbers, add_keys, add_parts, moved_key, take_parts};
+pub use moved::{PartNumbers, moved_key, take_parts};
 pub use orders::{OrderMemo, compare_keys, compare_with};
 pub use parts::Parts;
 pub use rank_rows::Row;

@@ -36,8 +36,10 @@ impl<R: Files> Source for R {
     }
 
     fn read(&self, alloc: Global, path: &str, start: u64, most: usize) -> Result<Vec<u8>, Failure> {
+        let left = self.length(path).unwrap_or(0).saturating_sub(start);
+        let expected = most.min(left as usize);
         match open_from(self, path, start) {
-            Ok(mut file) => read_bytes(alloc, &mut file, path, most),
+            Ok(mut file) => read_bytes(alloc, &mut file, path, most, expected),
             Err(_) => Err(cannot_read(alloc, path)),
         }
     }

@@ -13,8 +13,9 @@ use Rattle.tso_rec.specs.Conditions.{AreMet, HasNoStopped, IsExplained, IsOver}
 use Rattle.tso_machine.specs.Programs.{program_of}
 use Rattle.tso_model.specs.Steps as model
 use Rattle.tso_pool.proofs.NumberLemmas.{all_named}
-use Rattle.tso_pool.specs.Numbering.{AreNumbered}
-use Rattle.tso_pool.specs.declared.moves.Moves.{Moves}
+use Rattle.tso_pool.specs.Numbering.{AreNumbered, IsFinished}
+use Rattle.tso_pool.specs.declared.finished.Finished.{Finished}
+use Rattle.tso_pool.specs.declared.finished.Moves.{Moves}
 use Rattle.tso_prog.specs.declared.client.Client.{Client}
 use Rattle.tso_rec.specs.declared.record.End.TheVariants.{Choices, Order}
 use Rattle.tso_state.specs.Actors.{actor_of}
@@ -24,6 +25,7 @@ use Rattle.tso_state.specs.declared.actor.Actor.{Actor}
 use Rattle.tso_state.specs.declared.state.State.{State}
 use Rattle.tso_table.specs.Ends.{AreNear, IsEnd}
 use Rattle.tso_table.specs.declared.slot.Filed.{Filed}
+use Rattle.tso_table.specs.declared.slot.Near.{Near}
 use Rattle.tso_fifo.specs.declared.order.Placed.{Placed}
 
 enabled_by : {X Y Z : Type 0} (f : X → Y) (k : X → Z) (o : Option X) → is_some (option_map k o) ≡ true → is_some (option_map f o) ≡ true
@@ -70,15 +72,19 @@ chosen_met c t s choices w chosen some =
     }
 
 -- chosen actors with the numbers of the states after their steps are an end
-pub chosen_end : (c : Client) (t : Table) (own : ℕ) (s : State) (choices : List Choice) (m : Moves) → IsWellFormed c s → AreChosen c t s choices → 0 < length choices
+chosen_end : (c : Client) (t : Table) (own : ℕ) (s : State) (choices : List Choice) (m : Moves) → IsWellFormed c s → AreChosen c t s choices → 0 < length choices
     → AreNumbered c own s choices m → length m.numbers ≡ length choices → IsEnd c t s (record { end = Choices choices; numbers = m.numbers })
 chosen_end c t own s choices m w chosen some are all = record {
   met = chosen_met c t s choices w chosen some;
   named = all_named c s choices m.numbers all are.named;
 }
 
+pub chosen_finished : (c : Client) (t : Table) (own : ℕ) (s : State) (choices : List Choice) (m : Moves) → IsWellFormed c s → AreChosen c t s choices → 0 < length choices
+    → AreNumbered c own s choices m → length m.numbers ≡ length choices → IsFinished c t own s (record { filed = record { end = Choices choices; numbers = m.numbers }; near = m.near })
+chosen_finished c t own s choices m w chosen some are all = record { end = chosen_end c t own s choices m w chosen some are all; near = are.near }
+
 -- so is an order, where no actor has a step
-pub order_end : (c : Client) (t : Table) (s : State) (order : List Placed) (f : Filed) → IsWellFormed c s → IsOver c s → HasNoStopped s × IsExplained c s (Order order)
+order_end : (c : Client) (t : Table) (s : State) (order : List Placed) (f : Filed) → IsWellFormed c s → IsOver c s → HasNoStopped s × IsExplained c s (Order order)
     → f ≡ record { end = Order order; numbers = [] } → IsEnd c t s f
 order_end c t s order f w over (unstopped, explained) is =
     let P : Filed → Type 0 = λ g. IsEnd c t s g in
@@ -88,7 +94,14 @@ order_end c t s order f w over (unstopped, explained) is =
     })
 
 -- which has no successors
-pub order_near : (c : Client) (own : ℕ) (s : State) (order : List Placed) (f : Filed) → f ≡ record { end = Order order; numbers = [] } → AreNear c own s f []
+order_near : (c : Client) (own : ℕ) (s : State) (order : List Placed) (f : Filed) → f ≡ record { end = Order order; numbers = [] } → AreNear c own s f []
 order_near c own s order f is =
     let P : Filed → Type 0 = λ g. AreNear c own s g [] in
     subst P (sym is) (record { only = λ i d lt. absurd (omega (arith, lt)); every = λ i x n move. absurd (none-some x move.choice) })
+
+pub order_finished : (c : Client) (t : Table) (own : ℕ) (s : State) (order : List Placed) (f : Finished) → IsWellFormed c s → IsOver c s → HasNoStopped s × IsExplained c s (Order order)
+    → f.filed ≡ record { end = Order order; numbers = [] } → f.near.items ≡ [] → IsFinished c t own s f
+order_finished c t own s order f w over good filed near = record {
+  end = order_end c t s order f.filed w over good filed;
+  near = subst (λ (ms : List Near). AreNear c own s f.filed ms) (sym near) (order_near c own s order f.filed filed);
+}

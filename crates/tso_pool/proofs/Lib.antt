@@ -1,4 +1,3 @@
-pub mod DeskLemmas
 pub mod EndLemmas
 pub mod NumberLemmas
 pub mod Closes

@@ -8,8 +8,8 @@ use Rattle.std.proofs.lemmas.Option.{none-some, same_Some}
 use Rattle.tso_choose.specs.declared.choice.Choice.{Choice}
 use Rattle.tso_compact.specs.Plans.{IsStep}
 use Rattle.tso_parts.proofs.Marked.{new_item, of_longer, old_item}
-use Rattle.tso_pool.specs.Numbering.{AreNumbered, HasMoved, IsCopy, near_of}
-use Rattle.tso_pool.specs.declared.moves.Moves.{Moves}
+use Rattle.tso_pool.specs.Numbering.{AreNumbered, HasMoved, IsOfShard, near_of}
+use Rattle.tso_pool.specs.declared.finished.Moves.{Moves}
 use Rattle.tso_prog.specs.declared.client.Client.{Client}
 use Rattle.tso_rec.specs.declared.record.End.TheVariants.{Choices}
 use Rattle.tso_state.specs.declared.state.State.{State}
@@ -68,14 +68,14 @@ module _ (c : Client) (k : ℕ) (s : State) (choices : List Choice) (numbers : L
   one_only P m p zero d lt = p
   one_only P m p (suc i) d lt = absurd (omega (arith, lt))
 
-  only_on : (copy : Option State) → IsCopy k after copy → All (IsNearOf c k s (filed_with choices (numbers ++ n ∷ []))) (near_of n copy)
+  only_on : (copy : Option State) → IsOfShard k after copy → All (IsNearOf c k s (filed_with choices (numbers ++ n ∷ []))) (near_of n copy)
   only_on None copied = λ i d lt. absurd (omega (arith, lt))
   only_on (Some t) copied = one_only (IsNearOf c k s (filed_with choices (numbers ++ n ∷ []))) (record { place = n.place; state = t }) (only_with t copied)
 
   has_on : (more : List Near) (y : Choice) (m : Number) → HasNear c s y m near → HasNear c s y m (near ++ more)
   has_on more y m has = record { one = has.one; among = Contains-append_left near more has.one has.among; is = has.is }
 
-  has_last : (copy : Option State) → IsCopy k after copy → n.shard ≡ k → HasNear c s x n (near ++ near_of n copy)
+  has_last : (copy : Option State) → IsOfShard k after copy → n.shard ≡ k → HasNear c s x n (near ++ near_of n copy)
   has_last None copied own = absurd (copied (sym shard ∙ own))
   has_last (Some t) copied own = record {
     one = record { place = n.place; state = t };
@@ -83,7 +83,7 @@ module _ (c : Client) (k : ℕ) (s : State) (choices : List Choice) (numbers : L
     is = last_near t copied.1;
   }
 
-  every_on : (copy : Option State) → IsCopy k after copy → AreNear c k s (filed_with choices numbers) near
+  every_on : (copy : Option State) → IsOfShard k after copy → AreNear c k s (filed_with choices numbers) near
       → (i : ℕ) (y : Choice) (m : Number) → IsMove k (filed_with choices (numbers ++ n ∷ [])) i y m → HasNear c s y m (near ++ near_of n copy)
   every_on copy copied old i y m move = of_longer numbers n m i move.number
       (λ e. has_on (near_of n copy) y m (old.every i y m (record { choice = move.choice; number = e; shard = move.shard })))
@@ -94,7 +94,7 @@ module _ (c : Client) (k : ℕ) (s : State) (choices : List Choice) (numbers : L
       let Q : Number → Type 0 = λ z. HasNear c s x z (near ++ near_of n copy) in
       subst P one (subst Q same (has_last copy copied own)))
 
-  are_near_on : (copy : Option State) → IsCopy k after copy → AreNear c k s (filed_with choices numbers) near → AreNear c k s (filed_with choices (numbers ++ n ∷ [])) (near ++ near_of n copy)
+  are_near_on : (copy : Option State) → IsOfShard k after copy → AreNear c k s (filed_with choices numbers) near → AreNear c k s (filed_with choices (numbers ++ n ∷ [])) (near ++ near_of n copy)
   are_near_on copy copied old = record {
     only = All-append (IsNearOf c k s (filed_with choices (numbers ++ n ∷ []))) near (near_of n copy) (λ i d lt. near_on _ (old.only i d lt)) (only_on copy copied);
     every = every_on copy copied old;
@@ -110,7 +110,7 @@ numbered_on c k s choices old new x here are moved = record {
   near =
       let P : List Number → Type 0 = λ ns. AreNear c k s (filed_with choices ns) new.near.items in
       let Q : List Near → Type 0 = λ ms. AreNear c k s (filed_with choices (old.numbers ++ moved.number ∷ [])) ms in
-      subst P (sym moved.numbers) (subst Q (sym moved.near) (are_near_on c k s choices old.numbers old.near.items x moved.number moved.after moved.step moved.shard here moved.copy moved.copied are.near));
+      subst P (sym moved.numbers) (subst Q (sym moved.near) (are_near_on c k s choices old.numbers old.near.items x moved.number moved.after moved.step moved.shard here moved.own moved.is_own are.near));
 }
 
 pub count_on : (c : Client) (k : ℕ) (s : State) (old new : Moves) (x : Choice) → HasMoved c k s x.actor old new → length new.numbers ≡ length old.numbers + 1

@@ -1,6 +1,5 @@
 pub mod Endings
 pub mod Numbering
-pub mod Desks
 pub mod Hands
 pub mod Linked
 pub mod Seats

@@ -1,5 +1,5 @@
 -- What clauses see of a seat, and what its calls do.
-use Rattle.std.specs.Prelude.{◌≡◌, ℕ, ◌+◌, ◌-◌, ◌<◌, ◌≤◌, ◌++◌, ◌∷◌, [], List, vec_len, vec_capacity, min, length, ◌^◌, IsPermutation}
+use Rattle.std.specs.Prelude.{◌≡◌, ◌⊎◌, ℕ, ◌+◌, ◌-◌, ◌<◌, ◌≤◌, ◌++◌, ◌∷◌, [], List, vec_len, vec_capacity, min, length, ◌^◌, IsPermutation}
 use Rattle.crossbeam_deque.specs.Handles.{worker_deque, worker_view, worker_capacity, worker_index}
 use Rattle.tso_pool.specs.declared.rule.Hand.{Hand}
 use Rattle.tso_pool.specs.declared.victim.Victim.{Victim}
@@ -36,6 +36,10 @@ no_tickets = record { pushed = []; found = []; listed = [] }
 
 abbrev pub with_found : {T : Type 0} → Tally T → List T → Tally T
 with_found t xs = record t { found = t.found ++ xs }
+
+-- the ticket was pushed, or is on the list
+abbrev pub IsOffered : {T : Type 0} → Tally T → Tally T → T → Type 0
+IsOffered old new x = (new ≡ record old { pushed = old.pushed ++ x ∷ [] }) ⊎ (new ≡ record old { listed = old.listed ++ x ∷ [] })
 
 -- what another has got is counted as found here
 pub record IsFoundToo {T : Type 0} (old new : Tally T) (xs : List T) : Type 0 where

@@ -22,8 +22,8 @@ fn owned<'c, U: Search, E: Ledger>(
     Ok(shards)
 }
 
-/// The tables of all shards, with all shares in one hand: the counts of their states sum to the units that the budget gave, with
-/// those that shards had to spare given back to it, and the lengths of their logs to what the workers counted.
+/// The tables of all shards, with all shares in one hand: the counts of their states sum to the units that the budget gave, and the
+/// lengths of their logs to what the workers counted.
 ///
 /// Errors: where a growth was refused.
 pub fn gather<'c, U: Search, E: Ledger>(
@@ -36,12 +36,12 @@ pub fn gather<'c, U: Search, E: Ledger>(
     requires all { vec_len cells ≡ 16 }
     requires units { (units.old.parts + 16 ≡ U.parts) × (0 < units.old.parts) × (units.old.amount ≡ 0) }
     requires calls { (calls.old.parts + 16 ≡ E.parts) × (0 < calls.old.parts) }
-    ensures limit { budget.new.limit ≡ budget.old.limit }
+    ensures budget { budget.new ≡ budget.old }
     ensures states { IfOk result (λ tables. all_states (map claims tables.items) ≡ budget.new.given) }
     ensures entries { IfOk result (λ tables. all_entries (map claims tables.items) ≡ calls.new.amount) }
 {
     let shards = owned(alloc, cells)?;
-    let (tables, rests) = open_all(alloc, shards, budget)?;
+    let (tables, rests) = open_all(alloc, shards)?;
     let mut rests = rests;
     settle(budget, rests.as_mut_slice(), units, calls);
     Ok(tables)

@@ -2,15 +2,14 @@
 //! another: none is lost, and none is given twice.
 #![tactic(auto)]
 
+mod claim;
 mod closing;
 mod crew;
-mod desk;
 mod ending;
+mod finished;
 mod gathering;
 mod judging;
 mod linking;
-mod locking;
-mod moves;
 mod progress;
 mod resting;
 mod rule;
@@ -23,14 +22,14 @@ mod ticket;
 mod victim;
 mod working;
 
+pub use claim::Claim;
 pub use closing::tickets_left;
 pub use crew::work_all;
-pub use desk::Desk;
 pub use ending::Ending;
+pub use finished::Finished;
 pub use gathering::gather;
 pub use judging::judge_end;
 pub use linking::seats;
-pub use moves::Moves;
 pub use progress::Progress;
 pub use resting::Resting;
 pub use rule::{Hand, Once};
@@ -38,6 +37,6 @@ pub use searching::search;
 pub use seat::Seat;
 pub use sharing::{file, intern, take};
 pub use team::Team;
-pub use ticket::Ticket;
+pub use ticket::{Due, Ticket};
 pub use victim::Victim;
 pub use working::{offer, work};

@@ -1,11 +1,10 @@
 //! A search by several workers, from the initial state on.
 
 ghost use Rattle.std.specs.Prelude.{◌≡◌, ◌+◌, ◌*◌, ◌<◌, ◌≤◌, IfErr, IfOk, Some, map, vec_len};
-ghost use Rattle.tso_pool.specs.Endings.{IsEndingOf};
+ghost use Rattle.tso_pool.specs.Endings.{IsEndedBy};
 ghost use Rattle.tso_table.specs.Totals.{all_states, allotment, claims};
 
 use crate::crew::work_all;
-use crate::desk::Desk;
 use crate::ending::Ending;
 use crate::gathering::gather;
 use crate::linking::seats;
@@ -14,8 +13,8 @@ use crate::resting::Resting;
 use crate::seat::Seat;
 use crate::sharing::intern;
 use crate::team::Team;
-use crate::ticket::Ticket;
-use crate::working::offer;
+use crate::ticket::{Due, Ticket};
+use crate::working::hand_out;
 use std::alloc::{AllocError, Global};
 use std::marker::Brand;
 use std::sync::atomic::AtomicBool;
@@ -25,10 +24,7 @@ use std::thread::Threads;
 use tso_cert::Watch;
 use tso_flow::Checked;
 use tso_foot::Table as Footprints;
-use tso_table::{ALLOTMENT, Budget, SHARDS, Search, Shard, Table};
-
-// The number of no worker: whoever takes a ticket of its desk takes the state from its shard.
-const NO_WORKER: u64 = 64;
+use tso_table::{ALLOTMENT, Budget, Kept, SHARDS, Search, Shard, Table};
 
 // Sixteen shards without a state, each in a lock of its own.
 fn empty_shards<'c, U: Search, E: Ledger>(
@@ -56,40 +52,21 @@ fn empty_shards<'c, U: Search, E: Ledger>(
     Ok(shards)
 }
 
-// The number of the initial state, which a desk of no worker takes in.
-fn first_number<U: Search, E: Ledger, R: Wait, W: Watch>(
-    team: &Team<'_, '_, U, E, R, W>,
-    desk: &mut Desk<'_>,
-    share: &mut Share<E>,
-) -> Result<Ticket, Ending>
-    requires part { 0 < share.old.parts }
-    requires client { desk.old.client ≡ team.now.checked.now.client }
-    ensures parts { share.new.parts ≡ share.old.parts }
-    ensures ending { IfErr result (IsEndingOf team.now.checked.now.client) }
-{
-    let held = desk.begin(team.alloc, team.checked)?;
-    let (number, _new) = intern(team, desk, held, share)?;
-    let worker = desk.worker();
-    Ok(Ticket {
-        number,
-        worker,
-        held,
-    })
-}
-
-// Makes the initial state known: a ticket for it.
-fn first_ticket<U: Search, E: Ledger, R: Wait, W: Watch>(
+// Makes the initial state known: a ticket for it is due.
+fn first_due<U: Search, E: Ledger, R: Wait, W: Watch>(
     team: &Team<'_, '_, U, E, R, W>,
     share: &mut Share<E>,
-) -> Result<Ticket, Ending>
+) -> Result<Due, Ending>
     requires part { 0 < share.old.parts }
     ensures parts { share.new.parts ≡ share.old.parts }
-    ensures ending { IfErr result (IsEndingOf team.now.checked.now.client) }
+    ensures ending { IfErr result (IsEndedBy team.now.checked.now.client) }
 {
-    let mut desk = Desk::new(team.alloc, team.checked, NO_WORKER);
-    let ticket = first_number(team, &mut desk, share);
-    drop(desk);
-    ticket
+    let first = Kept::initial(team.alloc, team.checked)?;
+    match intern(team, &first, share)? {
+        Some((_number, Some(due))) => Ok(due),
+        Some((_number, None)) => Err(Ending::Astray),
+        None => Err(Ending::Full(first)),
+    }
 }
 
 // Makes the initial state known, and hands out its ticket.
@@ -100,12 +77,13 @@ fn begin<U: Search, E: Ledger, R: Wait, W: Watch>(
 ) -> Result<(), Ending>
     requires part { 0 < share.old.parts }
     ensures parts { share.new.parts ≡ share.old.parts }
-    ensures ending { IfErr result (IsEndingOf team.now.checked.now.client) }
+    ensures ending { IfErr result (IsEndedBy team.now.checked.now.client) }
 {
-    let ticket = first_ticket(team, share)?;
-    if let Some(seat) = seats.first_mut() {
-        offer(seat, ticket)?;
-    }
+    let Some(seat) = seats.first_mut() else {
+        return Err(Ending::Astray);
+    };
+    let due = first_due(team, share)?;
+    hand_out(team, seat, due)?;
     Ok(())
 }
 
@@ -154,7 +132,6 @@ fn run_over<
     let seats = seats(alloc, workers)?;
     let note = AtomicBool::new(false);
     let progress = Progress::new();
-    progress.hand_out();
     let resting = Resting::new();
     let team = Team {
         rt,

@@ -2,10 +2,13 @@
 
 use tso_table::Number;
 
-/// A ticket for a state: its number, and which worker's desk has it, under which number there.
+/// A ticket for a state: its number.
 #[derive(Clone, Copy, PartialEq, Eq)]
 pub struct Ticket {
     pub number: Number,
-    pub worker: u64,
-    pub held: u32,
+}
+
+/// That a ticket of a new state is still to be handed out. It can be neither copied nor let go of: `offer` alone takes it.
+pub struct Due {
+    pub ticket: Ticket,
 }

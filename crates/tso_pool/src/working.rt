@@ -1,253 +1,270 @@
 //! What one worker does.
 
-ghost use Rattle.std.specs.Prelude.{◌≡◌, ◌+◌, ◌<◌, ◌≤◌, IfErr, IfOk, IfSome, OnOk, length};
-ghost use Rattle.tso_rec.specs.Conditions.{HasNoStopped, IsExplained, IsOver};
-ghost use Rattle.tso_parts.specs.Numbers.{Extends};
-ghost use Rattle.tso_pool.specs.Desks.{AreNumberedAt, HasMovedAt, IsChosenAt, IsOverAt};
-ghost use Rattle.tso_pool.specs.Endings.{IsEndingOf};
-ghost use Rattle.tso_rec.specs.declared.record.End.TheVariants as ends;
-ghost use Rattle.tso_state.specs.WellFormed.{IsWellFormed};
-ghost use Rattle.tso_store.specs.Sheets.{CanStep};
-ghost use Rattle.tso_pool.specs.Seats.{place_of};
+ghost use Rattle.std.specs.Prelude.{◌≡◌, ◌+◌, ◌<◌, IfErr, IfNone, IfOk, IfSome, MatchOption, OnOk, length};
+ghost use Rattle.tso_choose.specs.Choices.{AreChosen};
+ghost use Rattle.tso_compact.specs.Plans.{HasStep, IsStep};
+ghost use Rattle.tso_pool.specs.Endings.{IsBad, IsEndedBy, IsEndingOf};
+ghost use Rattle.tso_pool.specs.Numbering.{AreNumbered, HasMoved, IsFinished, IsOfShard};
+ghost use Rattle.tso_pool.specs.Seats.{IsOffered, place_of, tally_of};
+ghost use Rattle.tso_rec.specs.Conditions.{IsOver};
+ghost use Rattle.tso_table.specs.Leading.{IsKept, shard_of};
 
-use crate::desk::Desk;
+use crate::claim::Claim;
 use crate::ending::Ending;
+use crate::finished::{Finished, Moves};
 use crate::judging::judge_end;
-use crate::moves::Moves;
 use crate::seat::Seat;
 use crate::sharing::{file, intern, take};
 use crate::team::Team;
-use crate::ticket::Ticket;
+use crate::ticket::{Due, Ticket};
 use std::alloc::AllocError;
 use std::sync::Wait;
 use std::sync::atomic::Ordering;
 use std::sync::ledger::{Ledger, Share};
 use tso_cert::Watch;
 use tso_choose::{Choice, Choices, choose};
-use tso_fifo::Order;
-use tso_keys::View;
+use tso_compact::StepError;
 use tso_rec::End;
-use tso_state::Actor;
-use tso_table::{Filed, Number, Numbers, Search};
+use tso_state::{Actor, State};
+use tso_table::{Filed, Kept, Number, Numbers, Search};
 
-/// Hands out a ticket. It can't be lost: where the deque refuses it, it is on the own list.
-pub fn offer(seat: &mut Seat<Ticket>, ticket: Ticket) -> Result<(), AllocError>
-    ensures { place_of seat.new ≡ place_of seat.old }
+/// Hands out a ticket that is due. It can't be lost: where the deque refuses it, it is on the own list.
+pub fn offer(seat: &mut Seat<Ticket>, due: Due) -> Result<(), AllocError>
+    ensures place { place_of seat.new ≡ place_of seat.old }
+    ensures offered { OnOk result (IsOffered (tally_of seat.old) (tally_of seat.new) due.ticket) }
 {
+    let Due { ticket } = due;
     seat.make_room()?;
     seat.offer(ticket);
     Ok(())
 }
 
-// Hands out a ticket for a new state of the desk, and calls a worker that has none.
-fn hand_out<U: Search, E: Ledger, R: Wait, W: Watch>(
+/// Hands out a ticket that is due, and calls a worker that has none.
+pub fn hand_out<U: Search, E: Ledger, R: Wait, W: Watch>(
     team: &Team<'_, '_, U, E, R, W>,
     seat: &mut Seat<Ticket>,
-    ticket: Ticket,
+    due: Due,
 ) -> Result<(), AllocError>
-    ensures { place_of seat.new ≡ place_of seat.old }
+    ensures place { place_of seat.new ≡ place_of seat.old }
+    ensures offered { OnOk result (IsOffered (tally_of seat.old) (tally_of seat.new) due.ticket) }
 {
     team.progress.hand_out();
-    offer(seat, ticket)?;
+    offer(seat, due)?;
     team.resting.call(team.rt);
     Ok(())
+}
+
+// The state after the actor's step.
+fn step_of<U: Search, E: Ledger, R: Wait, W: Watch>(
+    team: &Team<'_, '_, U, E, R, W>,
+    kept: &Kept,
+    actor: Actor,
+) -> Result<Kept, Ending>
+    requires kept { IsKept team.now.checked.now.client kept.now }
+    requires step { HasStep team.now.checked.now.client kept.now.state actor }
+    ensures kept { IfOk result (IsKept team.now.checked.now.client) }
+    ensures step { IfOk result (λ next. IsStep team.now.checked.now.client kept.now.state actor next.state) }
+    ensures ending { IfErr result (IsEndedBy team.now.checked.now.client) }
+{
+    match kept.next(team.alloc, team.checked, actor) {
+        Ok(next) => Ok(next),
+        Err(StepError::Disabled) => unreachable!(),
+        Err(StepError::Memory) => Err(Ending::Memory),
+    }
+}
+
+// The state with this number, if it belongs to the shard.
+fn own_state(kept: Kept, number: Number, shard: u8) -> Option<State>
+    requires { number.shard ≡ shard_of kept.state }
+    ensures { IsOfShard shard kept.state result }
+{
+    let Kept {
+        state,
+        actors: _actors,
+    } = kept;
+    if number.shard == shard {
+        Some(state)
+    } else {
+        drop(state);
+        None
+    }
 }
 
 // Makes the state after a chosen step known, and hands out a ticket where it is new.
 fn follow<U: Search, E: Ledger, R: Wait, W: Watch>(
     team: &Team<'_, '_, U, E, R, W>,
     own: u8,
-    desk: &mut Desk<'_>,
-    from: u32,
+    kept: &Kept,
     actor: Actor,
     moves: &mut Moves,
     seat: &mut Seat<Ticket>,
     share: &mut Share<E>,
 ) -> Result<(), Ending>
     requires part { 0 < share.old.parts }
-    requires client { desk.old.client ≡ team.now.checked.now.client }
-    requires step { CanStep desk.old.client desk.old.states from actor }
+    requires kept { IsKept team.now.checked.now.client kept.now }
+    requires step { HasStep team.now.checked.now.client kept.now.state actor }
     ensures parts { share.new.parts ≡ share.old.parts }
     ensures place { place_of seat.new ≡ place_of seat.old }
-    ensures client { desk.new.client ≡ desk.old.client }
-    ensures extends { Extends desk.old.states desk.new.states }
     ensures counted { OnOk result (share.new.amount ≡ share.old.amount + 1) }
-    ensures moved { OnOk result (HasMovedAt team.now.checked.now.client own desk.old.states from actor moves.old moves.new) }
-    ensures ending { IfErr result (IsEndingOf team.now.checked.now.client) }
+    ensures moved { OnOk result (HasMoved team.now.checked.now.client own kept.now.state actor moves.old moves.new) }
+    ensures ending { IfErr result (IsEndedBy team.now.checked.now.client) }
 {
-    let (held, _) = desk.step(team.alloc, team.checked, from, actor)?;
-    let copy = desk.copy_in(team.alloc, held, own)?;
-    let (number, new) = intern(team, desk, held, share)?;
-    moves.add(number, copy)?;
-    if new {
-        let worker = desk.worker();
-        let ticket = Ticket {
-            number,
-            worker,
-            held,
-        };
-        hand_out(team, seat, ticket)?;
+    let next = step_of(team, kept, actor)?;
+    match intern(team, &next, share)? {
+        None => Err(Ending::Full(next)),
+        Some((number, due)) => {
+            match due {
+                Some(due) => hand_out(team, seat, due)?,
+                None => {}
+            }
+            let state = own_state(next, number, own);
+            moves.add(number, state)?;
+            Ok(())
+        }
     }
-    Ok(())
 }
 
 // The numbers of the states after all chosen steps.
 fn follow_all<U: Search, E: Ledger, R: Wait, W: Watch>(
     team: &Team<'_, '_, U, E, R, W>,
     own: u8,
-    desk: &mut Desk<'_>,
-    from: u32,
+    kept: &Kept,
     choices: &[Choice],
     seat: &mut Seat<Ticket>,
     share: &mut Share<E>,
 ) -> Result<Moves, Ending>
     requires part { 0 < share.old.parts }
-    requires client { desk.old.client ≡ team.now.checked.now.client }
-    requires chosen { IsChosenAt team.now.checked.now.client team.now.table.now desk.old.states from choices.now }
+    requires kept { IsKept team.now.checked.now.client kept.now }
+    requires chosen { AreChosen team.now.checked.now.client team.now.table.now kept.now.state choices.now }
     ensures parts { share.new.parts ≡ share.old.parts }
     ensures place { place_of seat.new ≡ place_of seat.old }
-    ensures client { desk.new.client ≡ desk.old.client }
-    ensures extends { Extends desk.old.states desk.new.states }
     ensures counted { OnOk result (share.new.amount ≡ share.old.amount + length choices.now) }
-    ensures numbered { IfOk result (AreNumberedAt team.now.checked.now.client own desk.old.states from choices.now) }
+    ensures numbered { IfOk result (AreNumbered team.now.checked.now.client own kept.now.state choices.now) }
     ensures all { IfOk result (λ m. length m.numbers ≡ length choices.now) }
-    ensures ending { IfErr result (IsEndingOf team.now.checked.now.client) }
+    ensures ending { IfErr result (IsEndedBy team.now.checked.now.client) }
 {
     let mut moves = Moves::new(team.alloc);
     for choice in choices {
-        follow(team, own, desk, from, choice.actor, &mut moves, seat, share)?;
+        follow(team, own, kept, choice.actor, &mut moves, seat, share)?;
     }
     Ok(moves)
 }
 
-// Works a state with chosen actors.
-fn work_moves<U: Search, E: Ledger, R: Wait, W: Watch>(
+// The end of a state with chosen actors, whose steps are followed.
+fn finish_moves<U: Search, E: Ledger, R: Wait, W: Watch>(
     team: &Team<'_, '_, U, E, R, W>,
-    number: Number,
-    desk: &mut Desk<'_>,
-    held: u32,
+    own: u8,
+    kept: &Kept,
     choices: Choices,
+    seat: &mut Seat<Ticket>,
+    share: &mut Share<E>,
+) -> Result<Finished, Ending>
+    requires part { 0 < share.old.parts }
+    requires kept { IsKept team.now.checked.now.client kept.now }
+    requires chosen { AreChosen team.now.checked.now.client team.now.table.now kept.now.state choices }
+    requires some { 0 < length choices }
+    ensures parts { share.new.parts ≡ share.old.parts }
+    ensures place { place_of seat.new ≡ place_of seat.old }
+    ensures finished { IfOk result (IsFinished team.now.checked.now.client team.now.table.now own kept.now.state) }
+    ensures counted { IfOk result (λ f. share.new.amount ≡ share.old.amount + length f.filed.numbers) }
+    ensures ending { IfErr result (IsEndedBy team.now.checked.now.client) }
+{
+    let moves = follow_all(team, own, kept, choices.as_slice(), seat, share)?;
+    let Moves { numbers, near } = moves;
+    let end = End::Choices(choices);
+    let filed = Filed { end, numbers };
+    Ok(Finished { filed, near })
+}
+
+// The end of a state in which no actor has a step. `None` where a run to it is not good.
+fn finish_order<U: Search, E: Ledger, R: Wait, W: Watch>(
+    team: &Team<'_, '_, U, E, R, W>,
+    own: u8,
+    kept: &Kept,
+) -> Result<Option<Finished>, AllocError>
+    requires kept { IsKept team.now.checked.now.client kept.now }
+    requires over { IsOver team.now.checked.now.client kept.now.state }
+    ensures finished { IfOk result (λ o. IfSome o (IsFinished team.now.checked.now.client team.now.table.now own kept.now.state)) }
+    ensures none { IfOk result (λ o. IfSome o (λ f. length f.filed.numbers ≡ 0)) }
+    ensures bad { IfOk result (λ o. IfNone o (IsBad team.now.checked.now.client kept.now.state)) }
+{
+    match judge_end(team.alloc, team.checked, &kept.state)? {
+        Some(order) => {
+            let end = End::Order(order);
+            let numbers = Numbers::new(team.alloc);
+            let filed = Filed { end, numbers };
+            let near = Vec::new(team.alloc);
+            Ok(Some(Finished { filed, near }))
+        }
+        None => Ok(None),
+    }
+}
+
+// The end of a state, whose chosen steps are followed. `None` where a run to it is not good.
+fn finish<U: Search, E: Ledger, R: Wait, W: Watch>(
+    team: &Team<'_, '_, U, E, R, W>,
+    own: u8,
+    kept: &Kept,
+    seat: &mut Seat<Ticket>,
+    share: &mut Share<E>,
+) -> Result<Option<Finished>, Ending>
+    requires part { 0 < share.old.parts }
+    requires kept { IsKept team.now.checked.now.client kept.now }
+    ensures parts { share.new.parts ≡ share.old.parts }
+    ensures place { place_of seat.new ≡ place_of seat.old }
+    ensures finished { IfOk result (λ o. IfSome o (IsFinished team.now.checked.now.client team.now.table.now own kept.now.state)) }
+    ensures counted { IfOk result (λ o. IfSome o (λ f. share.new.amount ≡ share.old.amount + length f.filed.numbers)) }
+    ensures bad { IfOk result (λ o. IfNone o (IsBad team.now.checked.now.client kept.now.state)) }
+    ensures ending { IfErr result (IsEndedBy team.now.checked.now.client) }
+{
+    let choices = choose(team.alloc, team.checked, team.table, &kept.state)?;
+    if choices.is_empty() {
+        drop(choices);
+        let found = finish_order(team, own, kept)?;
+        return Ok(found);
+    }
+    let finished = finish_moves(team, own, kept, choices, seat, share)?;
+    Ok(Some(finished))
+}
+
+// Works a claimed state: its end is filed, or the worker ends.
+fn work_claim<U: Search, E: Ledger, R: Wait, W: Watch>(
+    team: &Team<'_, '_, U, E, R, W>,
+    claim: Claim,
     seat: &mut Seat<Ticket>,
     share: &mut Share<E>,
 ) -> Result<(), Ending>
     requires part { 0 < share.old.parts }
-    requires client { desk.old.client ≡ team.now.checked.now.client }
-    requires chosen { IsChosenAt team.now.checked.now.client team.now.table.now desk.old.states held choices }
-    requires some { 0 < length choices }
+    requires kept { IsKept team.now.checked.now.client claim.kept }
     ensures parts { share.new.parts ≡ share.old.parts }
     ensures place { place_of seat.new ≡ place_of seat.old }
-    ensures client { desk.new.client ≡ desk.old.client }
-    ensures counted { OnOk result (share.new.amount ≡ share.old.amount + length choices + 1) }
-    ensures ending { IfErr result (IsEndingOf team.now.checked.now.client) }
+    ensures counted { OnOk result (share.old.amount < share.new.amount) }
+    ensures ending { IfErr result (IsEndedBy team.now.checked.now.client) }
 {
-    let own = number.shard;
-    let moves = follow_all(team, own, desk, held, choices.as_slice(), seat, share)?;
-    let Moves { numbers, near } = moves;
-    let end = End::Choices(choices);
-    let filed = Filed { end, numbers };
-    let Some(state) = desk.view(held) else {
-        unreachable!()
-    };
-    file(team, number, &state, filed, near.as_slice(), share)
-}
-
-// Files that an order explains the calls of a state in which no actor has a step.
-fn file_order<U: Search, E: Ledger, R: Wait, W: Watch>(
-    team: &Team<'_, '_, U, E, R, W>,
-    number: Number,
-    state: &View<'_>,
-    order: Order,
-    share: &mut Share<E>,
-) -> Result<(), Ending>
-    requires part { 0 < share.old.parts }
-    requires well_formed { IsWellFormed team.now.checked.now.client state.now }
-    requires over { IsOver team.now.checked.now.client state.now }
-    requires good { HasNoStopped state.now × IsExplained team.now.checked.now.client state.now (ends.Order order) }
-    ensures parts { share.new.parts ≡ share.old.parts }
-    ensures counted { OnOk result (share.new.amount ≡ share.old.amount + 1) }
-    ensures ending { IfErr result (IsEndingOf team.now.checked.now.client) }
-{
-    let end = End::Order(order);
-    let numbers = Numbers::new(team.alloc);
-    let filed = Filed { end, numbers };
-    file(team, number, state, filed, &[], share)
-}
-
-// Works a state in which no actor has a step.
-fn work_end<U: Search, E: Ledger, R: Wait, W: Watch>(
-    team: &Team<'_, '_, U, E, R, W>,
-    number: Number,
-    desk: &Desk<'_>,
-    held: u32,
-    share: &mut Share<E>,
-) -> Result<(), Ending>
-    requires part { 0 < share.old.parts }
-    requires client { desk.now.client ≡ team.now.checked.now.client }
-    requires there { held < length desk.now.states }
-    requires over { IsOverAt team.now.checked.now.client desk.now.states held }
-    ensures parts { share.new.parts ≡ share.old.parts }
-    ensures counted { OnOk result (share.new.amount ≡ share.old.amount + 1) }
-    ensures ending { IfErr result (IsEndingOf team.now.checked.now.client) }
-{
-    let Some(kept) = desk.kept(team.alloc, held)? else {
-        unreachable!()
-    };
-    match judge_end(team.alloc, team.checked, &kept.state) {
-        Ok(Some(order)) => {
-            drop(kept);
-            let Some(state) = desk.view(held) else {
-                unreachable!()
-            };
-            file_order(team, number, &state, order, share)
-        }
-        Ok(None) => Err(Ending::Violation(kept)),
-        Err(reason) => {
-            drop(kept);
-            Err(Ending::from(reason))
-        }
+    match finish(team, claim.number.shard, &claim.kept, seat, share) {
+        Ok(Some(finished)) => file(team, claim, finished, share),
+        Ok(None) => Err(claim.into_violation()),
+        Err(ending) => Err(claim.give_up(ending)),
     }
-}
-
-// The chosen actors of a state of the desk, with their reasons.
-fn choices_at<U: Search, E: Ledger, R: Wait, W: Watch>(
-    team: &Team<'_, '_, U, E, R, W>,
-    desk: &Desk<'_>,
-    held: u32,
-) -> Result<Choices, AllocError>
-    requires client { desk.now.client ≡ team.now.checked.now.client }
-    requires there { held < length desk.now.states }
-    ensures { IfOk result (IsChosenAt team.now.checked.now.client team.now.table.now desk.now.states held) }
-{
-    let Some((state, _actors)) = desk.lent(held) else {
-        unreachable!()
-    };
-    choose(team.alloc, team.checked, team.table, &state)
 }
 
 // Works the state of a ticket.
 fn work_ticket<U: Search, E: Ledger, R: Wait, W: Watch>(
     team: &Team<'_, '_, U, E, R, W>,
-    desk: &mut Desk<'_>,
     ticket: Ticket,
     seat: &mut Seat<Ticket>,
     share: &mut Share<E>,
 ) -> Result<(), Ending>
     requires part { 0 < share.old.parts }
-    requires client { desk.old.client ≡ team.now.checked.now.client }
     ensures parts { share.new.parts ≡ share.old.parts }
     ensures place { place_of seat.new ≡ place_of seat.old }
-    ensures client { desk.new.client ≡ desk.old.client }
     ensures counted { OnOk result (share.old.amount < share.new.amount) }
-    ensures ending { IfErr result (IsEndingOf team.now.checked.now.client) }
+    ensures ending { IfErr result (IsEndedBy team.now.checked.now.client) }
 {
-    let Some(held) = take(team, desk, ticket, share)? else {
-        return Ok(());
-    };
-    let choices = choices_at(team, desk, held)?;
-    if choices.is_empty() {
-        return work_end(team, ticket.number, desk, held, share);
+    match take(team, ticket, share)? {
+        Some(claim) => work_claim(team, claim, seat, share),
+        None => Ok(()),
     }
-    work_moves(team, ticket.number, desk, held, choices, seat, share)
 }
 
 // The next ticket, for which the worker may have to sleep. `None` where nothing is left to do, or an ending is noted.
@@ -282,30 +299,6 @@ fn next_ticket<U: Search, E: Ledger, R: Wait, W: Watch>(
 // Works tickets up to an ending that is not quiet, or until none is left.
 fn work_on<U: Search, E: Ledger, R: Wait, W: Watch>(
     team: &Team<'_, '_, U, E, R, W>,
-    desk: &mut Desk<'_>,
-    seat: &mut Seat<Ticket>,
-    share: &mut Share<E>,
-) -> Result<(), Ending>
-    requires part { 0 < share.old.parts }
-    requires client { desk.old.client ≡ team.now.checked.now.client }
-    ensures place { place_of seat.new ≡ place_of seat.old }
-    ensures parts { share.new.parts ≡ share.old.parts }
-    ensures ending { IfErr result (IsEndingOf team.now.checked.now.client) }
-{
-    for _ in team.rt.forever() {
-        let Some(ticket) = next_ticket(team, seat) else {
-            break;
-        };
-        team.watch.at(team.rt, desk.worker());
-        work_ticket(team, desk, ticket, seat, share)?;
-        team.progress.leave(team.watch);
-    }
-    Ok(())
-}
-
-// The same, from a desk without states on.
-fn work_anew<U: Search, E: Ledger, R: Wait, W: Watch>(
-    team: &Team<'_, '_, U, E, R, W>,
     number: u64,
     seat: &mut Seat<Ticket>,
     share: &mut Share<E>,
@@ -313,12 +306,34 @@ fn work_anew<U: Search, E: Ledger, R: Wait, W: Watch>(
     requires part { 0 < share.old.parts }
     ensures place { place_of seat.new ≡ place_of seat.old }
     ensures parts { share.new.parts ≡ share.old.parts }
-    ensures ending { IfErr result (IsEndingOf team.now.checked.now.client) }
+    ensures ending { IfErr result (IsEndedBy team.now.checked.now.client) }
 {
-    let mut desk = Desk::new(team.alloc, team.checked, number);
-    let worked = work_on(team, &mut desk, seat, share);
-    drop(desk);
-    worked
+    for _ in team.rt.forever() {
+        let Some(ticket) = next_ticket(team, seat) else {
+            break;
+        };
+        team.watch.at(team.rt, number);
+        work_ticket(team, ticket, seat, share)?;
+        team.progress.leave(team.watch);
+    }
+    Ok(())
+}
+
+// How a worker ends that has worked. An ending that is not quiet is noted, so that the others end.
+fn ending_of<U: Search, E: Ledger, R: Wait, W: Watch>(
+    team: &Team<'_, '_, U, E, R, W>,
+    worked: Result<(), Ending>,
+) -> Ending
+    requires { IfErr worked (IsEndedBy team.now.checked.now.client) }
+    ensures { IsEndingOf team.now.checked.now.client result }
+{
+    match worked {
+        Ok(()) => Ending::Quiet,
+        Err(ending) => {
+            team.note.store(true, Ordering::SeqCst);
+            ending
+        }
+    }
 }
 
 /// Works tickets until as many are worked as were handed out, or an ending is noted. It notes an ending of its own, and lets the
@@ -336,13 +351,8 @@ pub fn work<U: Search, E: Ledger, R: Wait, W: Watch>(
 {
     let mut seat = seat;
     let mut share = share;
-    let ending = match work_anew(team, number, &mut seat, &mut share) {
-        Ok(()) => Ending::Quiet,
-        Err(ending) => {
-            team.note.store(true, Ordering::SeqCst);
-            ending
-        }
-    };
+    let worked = work_on(team, number, &mut seat, &mut share);
+    let ending = ending_of(team, worked);
     team.resting.end(team.rt);
     (seat, share, ending)
 }

@@ -44,7 +44,6 @@ use Rattle.tso_state.specs.WellFormed.{IsWellFormed, thread_total}
 use Rattle.tso_state.specs.declared.actor.Actor.{Actor}
 use Rattle.tso_state.specs.declared.state.State.{State}
 use Rattle.tso_store.specs.Sheets.{CanStep, IsKeptSuccessor, IsSuccessor, IsSuccessorOrNone, Sheet}
-use Rattle.tso_keys.specs.Unions.{IsWithinUnion}
 
 -- ---- results
 
@@ -623,15 +622,3 @@ begun_with c old new s true begun met is = subst (HasBegun c) (sym is) (record {
 
 pub more_met : (c : Client) (limit : ℕ) (states : List State) → HasBegun c states → IsNumbered states → limit < length states → HasMore c limit
 more_met c limit states begun differ more = record { states = states; more = more; differ = differ; reached = λ n s at. (begun.met n s at).reached }
-
--- with the states of a table, each of which is met
-pub begun_union : (c : Client) (old others new : List State) → HasBegun c old → ((n : ℕ) (s : State) → slice_get others n ≡ Some s → IsMet c s) → IsWithinUnion old others new → HasBegun c new
-begun_union c old others new begun met within = record {
-  initial = begun.initial;
-  initial_at = within.stays 0 begun.initial begun.initial_at;
-  initial_is = begun.initial_is;
-  met = λ n s at. elim (within.either n s at) [
-    | inl before ↦ begun.met before.0 s before.1
-    | inr came ↦ met came.0 s came.1
-  ];
-}

@@ -26,7 +26,7 @@ use Rattle.tso_keys.specs.declared.key.Key.{Key}
 use Rattle.tso_store.specs.declared.lone.Lone.{Lone}
 use Rattle.tso_keys.specs.declared.parts.Parts.{Parts}
 use Rattle.tso_keys.specs.Keys.{IsKept, state_at, states_at}
-use Rattle.tso_store.specs.Lone.{HasNoLoneAt, HasNoLoneBelow, HasNoLoneCore, IsFirstLoneCore, IsLoneAt, is_running, is_running_if, lone_core, lone_of}
+use Rattle.tso_store.specs.Lone.{HasNoLoneAt, HasNoLoneBelow, HasNoLoneCore, IsFirstLoneCore, IsLoneAt, IsLoneCore, IsLoneCoreAt, is_running, is_running_if, lone_core, lone_of}
 use Rattle.tso_keys.specs.Numbers.{AreNumbersOf}
 use Rattle.tso_store.specs.Remembered.{HasNext, IsNextMotion, IsRun}
 use Rattle.tso_store.proofs.Performed.{next_move}
@@ -120,3 +120,14 @@ alone_at c p ks n k (Some l) at first few = record { state = state_at p k; at = 
 
 pub nowhere_alone : (c : Client) (p : Parts) (ks : List Key) (n : ℕ) → slice_get ks n ≡ None → HasNoLoneAt c (states_at p ks) n
 nowhere_alone c p ks n none = λ s here. absurd (let h : None ≡ Some s = sym (state_none p ks n none) ∙ here in cc)
+
+-- ---- of one core
+
+pub core_if : (c : Client) (s : State) (i : ℕ) (r : Option StepKind) → r ≡ lone_core c s i → IfSome r (IsLoneCore c s i)
+core_if c s i None e = tt
+core_if c s i (Some k) e = record { there = there_by c s i k (slice_get s.threads i) refl (sym e); kind = sym e }
+
+pub core_at : (c : Client) (p : Parts) (ks : List Key) (n i : ℕ) (k : Key) (r : Option StepKind) → slice_get ks n ≡ Some k
+    → IfSome r (IsLoneCore c (state_at p k) i) → IfSome r (IsLoneCoreAt c (states_at p ks) n i)
+core_at c p ks n i k None at is = tt
+core_at c p ks n i k (Some kind) at is = record { state = state_at p k; at = state_got p ks n k at; core = is }

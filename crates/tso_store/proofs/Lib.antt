@@ -6,5 +6,4 @@ pub mod Closing
 pub mod Views
 pub mod Absences
 pub mod Histories
-pub mod Moves
 pub mod Gatherings

@@ -50,6 +50,17 @@ pub record IsLoneAt (c : Client) (states : List State) (n : ℕ) (l : Lone) : Ty
   pub first : IsFirstLoneCore c state l
   pub few : l.thread < 5
 
+-- the core of thread i has such a step, which is of this kind
+pub record IsLoneCore (c : Client) (s : State) (i : ℕ) (k : StepKind) : Type 0 where
+  pub there : i < length s.threads
+  pub kind : lone_core c s i ≡ Some k
+
+-- of state number n
+pub record IsLoneCoreAt (c : Client) (states : List State) (n i : ℕ) (k : StepKind) : Type 0 where
+  pub state : State
+  pub at : slice_get states n ≡ Some state
+  pub core : IsLoneCore c state i k
+
 abbrev pub HasNoLoneAt : Client → List State → ℕ → Type 0
 HasNoLoneAt c states n = (s : State) → slice_get states n ≡ Some s → HasNoLoneCore c s
 

@@ -2,12 +2,12 @@
 
 ghost use Rattle.std.specs.Prelude.{◌≡◌, ◌<◌, ◌^◌, IfSome, IsTrue, MatchOption, Some, false, length, slice_get};
 ghost use Rattle.tso_compact.specs.Motions.{move_of};
-ghost use Rattle.tso_compact.specs.Plans.{kind_of_move};
+ghost use Rattle.tso_compact.specs.Plans.{kind_of_move, procedure_in};
 ghost use Rattle.tso_flow.specs.declared.location.ProcedureKind.{ProcedureKind as AProcedure};
 ghost use Rattle.tso_state.specs.declared.state.Thread.{Thread as ThreadValue};
 ghost use Rattle.tso_keys.specs.Keys.{IsKept, state_at};
-ghost use Rattle.tso_store.specs.Lone.{HasNoLoneCore, IsFirstLoneCore, is_running_if, lone_core, lone_of};
-ghost use Rattle.tso_store.specs.Remembered.{AreKnown};
+ghost use Rattle.tso_store.specs.Lone.{HasNoLoneCore, IsFirstLoneCore, IsLoneCore, is_running_if, lone_core, lone_of};
+ghost use Rattle.tso_store.specs.Remembered.{AreKnown, IsRunKnown};
 ghost use Rattle.tso_keys.specs.Running.{AreRunning};
 
 use crate::known::{Known, Run, run_of};
@@ -17,6 +17,7 @@ use tso_flow::Checked;
 use tso_keys::{Key, Parts, Running, View, WIDTH, procedure_at};
 use tso_list::Seq;
 use tso_parts::Catalog;
+use tso_prog::Client;
 use tso_state::{Actor, Core, Thread, Viewed};
 
 /// A thread whose core has a step that may go first alone: one within its thread, or a return.
@@ -87,6 +88,25 @@ fn lone_seen(checked: &Checked, view: &View<'_>, thread: usize) -> Option<StepKi
     lone_of(kind(checked, view, Actor::Exec(thread)))
 }
 
+// What is known of the next step of a thread of a kept state, whose number is this.
+fn run_at(
+    client: &Client,
+    parts: &Parts,
+    known: &Seq<Known>,
+    running: &Seq<Running>,
+    key: &Key,
+    thread: usize,
+    own: u32,
+) -> Run
+    requires kept { IsKept client.now parts.now key.now }
+    requires known { AreKnown client.now parts.now.threads known.now }
+    requires running { AreRunning parts.now.histories running.now }
+    ensures { IsRunKnown client.now (procedure_in (state_at parts.now key.now) thread) parts.now.threads own result }
+{
+    let procedure = procedure_at(&parts.histories, running, key.history, thread);
+    run_of(client, &parts.threads, known, procedure, own)
+}
+
 // The kind of the step of a thread's core, where it may go first alone.
 fn lone_core(
     checked: &Checked,
@@ -106,8 +126,7 @@ fn lone_core(
     if is_resting(&parts.threads, known, own) {
         return None;
     }
-    let procedure = procedure_at(&parts.histories, running, key.history, thread);
-    match run_of(&checked.client, &parts.threads, known, procedure, own) {
+    match run_at(&checked.client, parts, known, running, key, thread, own) {
         Run::Leaves(_) => Some(StepKind::Local),
         Run::Does(motion) => lone_motion(motion),
         Run::Unknown => match View::of_key(&checked.client, parts, running, key) {
@@ -139,4 +158,27 @@ pub fn lone_at(
         }
     }
     None
+}
+
+/// The kind of the step of the core of a thread of a kept state, where it may go first alone and is remembered of the thread.
+pub fn remembered_core(
+    client: &Client,
+    parts: &Parts,
+    known: &Seq<Known>,
+    running: &Seq<Running>,
+    key: &Key,
+    thread: usize,
+) -> Option<StepKind>
+    requires kept { IsKept client.now parts.now key.now }
+    requires small { length parts.now.threads < 2 ^ 32 }
+    requires known { AreKnown client.now parts.now.threads known.now }
+    requires running { AreRunning parts.now.histories running.now }
+    ensures { IfSome result (IsLoneCore client.now (state_at parts.now key.now) thread) }
+{
+    let own = own_number(key, thread)?;
+    match run_at(client, parts, known, running, key, thread, own) {
+        Run::Leaves(_) => Some(StepKind::Local),
+        Run::Does(motion) => lone_motion(motion),
+        Run::Unknown => None,
+    }
 }

@@ -5,24 +5,24 @@ ghost use Rattle.tso_parts.specs.declared.refused.Refused.TheVariants as reasons
 ghost use Rattle.tso_state.specs.Rising.{IsRising};
 ghost use Rattle.tso_keys.specs.Forms.{AreForms};
 ghost use Rattle.tso_keys.specs.Keys.{AreKept, FitsClient, part_count, states_at};
-ghost use Rattle.tso_store.specs.Lone.{HasNoLoneAt, IsLoneAt};
+ghost use Rattle.tso_store.specs.Lone.{HasNoLoneAt, IsLoneAt, IsLoneCoreAt};
 ghost use Rattle.tso_keys.specs.Orders.{AreRowsOf};
 ghost use Rattle.tso_store.specs.Sheets.{CanStep, IsAdded, IsFound, IsSuccessorOrNone};
-ghost use Rattle.tso_keys.specs.Unions.{IsUnion, IsWithinUnion};
 ghost use Rattle.tso_store.specs.declared.fault.AddError.TheVariants as errors;
 
 use crate::fault::AddError;
 use crate::known::{Known, learn_runs};
-use crate::lone::{Lone, lone_at};
+use crate::lone::{Lone, lone_at, remembered_core};
 use crate::sought::{Found, Sought, find_from};
 use crate::stepped::step_key;
 use std::alloc::{AllocError, Global};
 use std::marker::Model;
+use tso_compact::StepKind;
 use tso_flow::Checked;
 use tso_keys::{
-    Forms, Key, NO_KEY, Parts, Running, Standings, View, add_keys, add_parts, copy_of, find_key,
-    find_view_key, fits_client, forms_of, key_at, key_of, key_of_view, key_or_none, learn_running,
-    number_risen, standings_of, view_fits_client,
+    Forms, Key, NO_KEY, Parts, Running, Standings, View, copy_of, find_key, find_view_key,
+    fits_client, forms_of, key_at, key_of, key_of_view, key_or_none, learn_running, number_risen,
+    standings_of, view_fits_client,
 };
 use tso_list::Seq;
 use tso_parts::{Pool, Refused};
@@ -113,6 +113,24 @@ impl<'a> Store<'a> {
     {
         match self.keys.get(number) {
             Some(key) => lone_at(self.checked, &self.parts, &self.known, &self.running, key),
+            None => None,
+        }
+    }
+
+    /// The kind of the step of this thread's core in state `number`, where it may go first alone, as one within its thread or a
+    /// return, and is remembered of the thread; `None` says nothing. The state is not looked at, and it takes no memory.
+    pub fn remembered_kind(&self, number: u32, thread: usize) -> Option<StepKind>
+        ensures { IfSome result (IsLoneCoreAt self.now.client self.now.states number thread) }
+    {
+        match self.keys.get(number) {
+            Some(key) => remembered_core(
+                &self.checked.client,
+                &self.parts,
+                &self.known,
+                &self.running,
+                key,
+                thread,
+            ),
             None => None,
         }
     }
@@ -215,26 +233,6 @@ impl<'a> Store<'a> {
         self.parts.histories.is_numbered();
         let key = find_view_key(&self.parts, near, view)?;
         self.keys.find(&key)
-    }
-
-    /// Keeps all states of another store of the same client that are not kept yet; a state that is kept keeps its number. Each
-    /// part of the other store is looked for once, and copied where it is new; then each state takes its parts by their numbers
-    /// here, so that for a state no part is compared, hashed or copied.
-    ///
-    /// Errors: where a growth was refused (`Memory`), or there are as many states, or parts of a kind, as numbers (`Full`). Some
-    /// of the other states may be kept then.
-    pub fn take_in(&mut self, alloc: Global, other: &Store<'_>) -> Result<(), Refused>
-        requires { other.now.client ≡ self.old.client }
-        ensures union { OnOk result (IsUnion self.old.states other.now.states self.new.states) }
-        ensures within { IsWithinUnion self.old.states other.now.states self.new.states }
-        ensures full { result ≡ Err reasons.Full → 4294967295 ≤ self.new.kept }
-        ensures more { self.new.kept ≤ self.old.kept + other.now.kept }
-        ensures client { self.new.client ≡ self.old.client }
-    {
-        other.parts.threads.is_numbered();
-        let numbers = add_parts(alloc, &mut self.parts, &other.parts)?;
-        add_keys(&mut self.keys, &numbers, &other.keys)?;
-        Ok(())
     }
 
     /// The number of the state after the actor's step from state `number`, and whether it is new; it is kept then. `None`

@@ -1,12 +1,14 @@
 -- States with the actors that lead to them go on by one step.
-use Rattle.std.proofs.Common.{◌≡◌, ◌∙◌, ◌⊎◌, inl, inr, ℕ, ◌+◌, ◌*◌, ◌<◌, ◌≤◌, ◌++◌, ◌∷◌, [], List, length, length-append, map, Option, None, Some, slice_get, refl, sym, ap, subst, arith}
+use Rattle.std.proofs.Common.{◌≡◌, ◌∙◌, inl, inr, ℕ, ◌+◌, ◌<◌, ◌≤◌, ◌++◌, ◌∷◌, [], List, length, length-append, map, Option, Some, slice_get, refl, sym, ap, subst, arith}
 use Rattle.std.specs.Prelude.{IsSome}
 use Rattle.std.proofs.lemmas.Bool.{cases_lt}
-use Rattle.std.proofs.lemmas.Option.{slice_get_past, slice_get_within}
+use Rattle.std.proofs.lemmas.List.{map-append}
+use Rattle.std.proofs.lemmas.Option.{slice_get_past}
+use Rattle.tso_choose.proofs.ChoosingLemmas.{at_number}
 use Rattle.tso_choose.specs.Sets.{actor_at}
 use Rattle.tso_compact.proofs.PathLemmas.{initial_is_plausible, steps_stay_plausible}
 use Rattle.tso_compact.specs.Laws.{initial_of}
-use Rattle.tso_compact.specs.Plans.{HasHistories, HasStep, IsStep}
+use Rattle.tso_compact.specs.Plans.{HasStep, IsStep}
 use Rattle.tso_flow.specs.Calls.{as_thread}
 use Rattle.tso_flow.specs.Faults.{HasNoFault}
 use Rattle.tso_machine.specs.Programs.{program_of}
@@ -17,11 +19,9 @@ use Rattle.tso_state.specs.Actors.{actor_of, number_of, thread_of}
 use Rattle.tso_state.specs.Views.{state_of}
 use Rattle.tso_state.specs.WellFormed.{thread_total}
 use Rattle.tso_state.specs.declared.actor.Actor.{Actor}
-use Rattle.tso_state.specs.declared.actor.Actor.TheVariants.{Exec, Drain}
 use Rattle.tso_state.specs.declared.state.State.{State}
 use Rattle.tso_store.proofs.Performed.{no_thread}
-use Rattle.tso_keys.specs.Keys.{FitsClient}
-use Rattle.tso_table.specs.Leading.{IsKept, LeadTo, actors_of}
+use Rattle.tso_table.specs.Leading.{IsKept, actors_of}
 use Rattle.tso_table.specs.declared.kept.Kept.{Kept}
 
 -- a client has at most five threads
@@ -32,13 +32,7 @@ few_threads c = by c.prologue (length-append c.threads (as_thread c.prologue)) c
     by [] e few = omega (arith, e, few)
     by (call ∷ calls) e few = omega (arith, e, few)
 
-pub fits : (c : Client) (k : Kept) → IsKept c k → FitsClient c k.state
-fits c k h = record { threads = h.plausible.well_formed.sizes.threads; lists = h.plausible.well_formed.sizes.history }
-
-pub has_histories : (c : Client) (k : Kept) → IsKept c k → HasHistories k.state
-has_histories c k h = record { lists = h.plausible.well_formed.sizes.history ∙ sym h.plausible.well_formed.sizes.threads }
-
-pub has_step : (c : Client) (s t : State) (a : Actor) → IsStep c s a t → HasStep c s a
+has_step : (c : Client) (s t : State) (a : Actor) → IsStep c s a t → HasStep c s a
 has_step c s t a e = subst (λ (o : Option _). IsSome o) (sym e) refl
 
 -- who has a step is one of five threads
@@ -51,17 +45,9 @@ small_actor c k a h can = elim (cases_lt (thread_of a) (length k.state.threads))
 pub small_thread : (c : Client) (k : Kept) (t : State) (a : Actor) → IsKept c k → IsStep c k.state a t → thread_of a < 8
 small_thread c k t a h step = small_actor c k a h (has_step c k.state t a step)
 
-at_number : (a : Actor) → actor_at (number_of a) ≡ a
-at_number (Exec i) = grind arith
-at_number (Drain i) = grind arith
-
-mapped : {A B : Type 0} (f : A → B) (xs : List A) (x : A) → map f (xs ++ x ∷ []) ≡ map f xs ++ f x ∷ []
-mapped f [] x = refl
-mapped {B = B} f (y ∷ xs) x = ap (λ (l : List B). f y ∷ l) (mapped f xs x)
-
 actors_on : (ns : List ℕ) (a : Actor) → map actor_of (actors_of (ns ++ number_of a ∷ [])) ≡ map actor_of (actors_of ns) ++ actor_of a ∷ []
 actors_on ns a =
-    ap (map actor_of) (mapped actor_at ns (number_of a)) ∙ mapped actor_of (actors_of ns) (actor_at (number_of a))
+    ap (map actor_of) (map-append actor_at ns (number_of a ∷ [])) ∙ map-append actor_of (actors_of ns) (actor_at (number_of a) ∷ [])
     ∙ ap (λ (b : Actor). map actor_of (actors_of ns) ++ actor_of b ∷ []) (at_number a)
 
 pub next_is_kept : (c : Client) → HasNoFault c → (k n : Kept) (a : Actor) → IsKept c k → IsStep c k.state a n.state → n.actors ≡ k.actors ++ number_of a ∷ [] → IsKept c n

@@ -1,4 +1,3 @@
-pub mod ClientLemmas
 pub mod KeptLemmas
 pub mod RowLemmas
 pub mod SoundLemmas

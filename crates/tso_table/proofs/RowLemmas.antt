@@ -1,14 +1,15 @@
 -- What each call of one thread makes, and how the slots change.
-use Rattle.std.proofs.Common.{◌≡◌, ◌∙◌, ℕ, zero, suc, ◌+◌, ◌<◌, ◌≤◌, ◌++◌, ◌∷◌, Bool, true, false, List, [], length, length-append, Option, Some, None, position, slice_get, refl, sym, ap, arith}
+use Rattle.std.proofs.Common.{◌≡◌, ◌∙◌, ℕ, zero, suc, ◌+◌, ◌≤◌, ◌++◌, ◌∷◌, true, false, List, [], length, length-append, Option, Some, None, position, slice_get, refl, sym, ap, arith}
 use Rattle.std.specs.Prelude.{slice_set, sum_by}
 use Rattle.std.specs.List.{fold}
 use Rattle.std.proofs.lemmas.List.Sums.{fold-append, sum_by-set, sum_by_more_le}
 use Rattle.std.proofs.lemmas.Option.{get_or_from_slice_get, none-some, slice_get_within}
 use Rattle.std.specs.Prelude.{slice_index_or, take}
+use Rattle.tso_parts.proofs.Finding.{found_at}
 use Rattle.tso_parts.specs.Numbers.{IsNowhere, IsNumbered}
 use Rattle.tso_state.specs.declared.state.State.{State}
-use Rattle.tso_table.proofs.StateLemmas.{place_none, place_some}
-use Rattle.tso_table.specs.OneThread.{Call, IsRefused, Makes, Replays, Reply, Rows, advance, are_there, claim, claim_at, filed, finish, finish_at, intern, intern_at, is_same, is_this, logged, no_rows, placed, replay, step, taken, with_slot}
+use Rattle.tso_table.proofs.StateLemmas.{none_by, some_by, state_exact}
+use Rattle.tso_table.specs.OneThread.{Call, Makes, Replays, Reply, Rows, advance, are_there, claim, claim_at, filed, finish, finish_at, intern, intern_at, is_same, is_this, logged, no_rows, placed, replay, taken, with_slot}
 use Rattle.tso_table.specs.Sheets.{one_if_open, open_count}
 use Rattle.tso_table.specs.declared.slot.Filed.{Filed}
 use Rattle.tso_table.specs.declared.slot.Near.{Near}
@@ -30,13 +31,10 @@ pub no_calls : Replays no_rows 0
 no_calls = record { calls = []; log = []; replayed = refl; counted = refl }
 
 pub makes_old : (r : Rows) (s : State) (n : ℕ) → IsNumbered r.states → slice_get r.states n ≡ Some s → Makes r (intern s) r (placed n false)
-makes_old r s n one at = ap (intern_at r s) (place_some r.states s n one at)
+makes_old r s n one at = ap (intern_at r s) (some_by r.states s n (position (is_same s) r.states) (found_at is_same state_exact r.states s (position (is_same s) r.states) refl) one at)
 
 pub makes_new : (r : Rows) (s : State) → IsNowhere r.states s → Makes r (intern s) (record { states = r.states ++ s ∷ []; slots = r.slots ++ Waiting ∷ [] }) (placed (length r.states) true)
-makes_new r s absent = ap (intern_at r s) (place_none r.states s absent)
-
-pub makes_claim : (r : Rows) (n : ℕ) → slice_get r.slots n ≡ Some Waiting → Makes r (claim n) (with_slot r n Claimed) (taken true)
-makes_claim r n at = ap (claim_at r n) at
+makes_new r s absent = ap (intern_at r s) (none_by r.states s (position (is_same s) r.states) (found_at is_same state_exact r.states s (position (is_same s) r.states) refl) absent)
 
 pub makes_claim_no : (r : Rows) (n : ℕ) → (slice_get r.slots n ≡ Some Waiting → ⊥) → Makes r (claim n) r (taken false)
 makes_claim_no r n not_so = by (slice_get r.slots n) not_so
@@ -47,24 +45,8 @@ makes_claim_no r n not_so = by (slice_get r.slots n) not_so
     by (Some Claimed) h = refl
     by (Some (Done f)) h = refl
 
-module _ (r : Rows) (n : ℕ) (s : State) (f : Filed) (near : List Near) where
-  pub makes_finish : slice_get r.slots n ≡ Some Claimed → is_this s (slice_get r.states n) ≡ true → are_there r.states near ≡ true → Makes r (finish n s f near) (with_slot r n (Done f)) filed
-  makes_finish at this there = ap (finish_at r n s f near) at ∙ (rw (this, there) refl)
-
-  pub refuses_unclaimed : (slice_get r.slots n ≡ Some Claimed → ⊥) → IsRefused r (finish n s f near)
-  refuses_unclaimed not_so = by (slice_get r.slots n) not_so
-    where
-      by : (o : Option Slot) → (o ≡ Some Claimed → ⊥) → finish_at r n s f near o ≡ None
-      by None h = refl
-      by (Some Waiting) h = refl
-      by (Some Claimed) h = absurd (h refl)
-      by (Some (Done g)) h = refl
-
-  pub refuses_other : slice_get r.slots n ≡ Some Claimed → is_this s (slice_get r.states n) ≡ false → IsRefused r (finish n s f near)
-  refuses_other at this = ap (finish_at r n s f near) at ∙ (rw this refl)
-
-  pub refuses_unknown : slice_get r.slots n ≡ Some Claimed → is_this s (slice_get r.states n) ≡ true → are_there r.states near ≡ false → IsRefused r (finish n s f near)
-  refuses_unknown at this there = ap (finish_at r n s f near) at ∙ (rw (this, there) refl)
+pub makes_finish : (r : Rows) (n : ℕ) (s : State) (f : Filed) (near : List Near) → slice_get r.slots n ≡ Some Claimed → is_this s (slice_get r.states n) ≡ true → are_there r.states near ≡ true → Makes r (finish n s f near) (with_slot r n (Done f)) filed
+makes_finish r n s f near at this there = ap (finish_at r n s f near) at ∙ (rw (this, there) refl)
 
 -- ---- slots
 

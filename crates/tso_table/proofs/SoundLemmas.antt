@@ -1,20 +1,19 @@
 -- Each call keeps a table sound.
-use Rattle.std.proofs.Common.{◌≡◌, ◌∙◌, ℕ, ◌+◌, ◌<◌, ◌≤◌, ◌^◌, ◌++◌, ◌∷◌, Bool, true, false, List, [], length, length-append, length-set, Option, Some, None, slice_get, refl, sym, ap, subst, arith}
-use Rattle.std.specs.Prelude.{All, Contains, slice_index_or, slice_set}
+use Rattle.std.proofs.Common.{◌≡◌, ◌∙◌, ℕ, ◌+◌, ◌<◌, ◌≤◌, ◌^◌, ◌++◌, ◌∷◌, true, List, [], length, length-append, length-set, Option, Some, None, slice_get, refl, sym, ap, subst, arith}
+use Rattle.std.specs.Prelude.{All}
 use Rattle.std.specs.List.{list_all}
 use Rattle.std.proofs.lemmas.List.Sums.{AllPass-from_list_all}
 use Rattle.std.proofs.lemmas.Option.{same_Some, slice_get_within}
-use Rattle.tso_choose.specs.declared.choice.Choice.{Choice}
 use Rattle.tso_foot.specs.declared.table.Table.{Table}
 use Rattle.tso_parts.proofs.Marked.{of_longer, old_item}
-use Rattle.tso_parts.specs.Numbers.{Extends}
+use Rattle.tso_parts.specs.Numbers.{Extends, IsNowhere}
 use Rattle.tso_prog.specs.declared.client.Client.{Client}
 use Rattle.tso_state.specs.declared.state.State.{State}
-use Rattle.tso_table.proofs.RowLemmas.{makes_claim, makes_finish, no_calls, of_replaced, open_at, open_pushed, open_set, open_within, replays_on}
+use Rattle.tso_table.proofs.RowLemmas.{makes_finish, makes_new, no_calls, of_replaced, open_at, open_pushed, open_set, open_within, replays_on}
 use Rattle.tso_table.proofs.StateLemmas.{this_one}
-use Rattle.tso_table.specs.Ends.{AreNear, HasNear, IsEnd, IsKeptAt, IsMove, SuccessorsAreThere}
+use Rattle.tso_table.specs.Ends.{AreNear, IsEnd, SuccessorsAreThere}
 use Rattle.tso_table.specs.Leading.{IsKept, shard_of}
-use Rattle.tso_table.specs.OneThread.{Call, Makes, Reply, Rows, are_there, claim, filed, finish, is_this, no_rows, taken, with_slot}
+use Rattle.tso_table.specs.OneThread.{Call, Makes, Reply, Rows, are_there, claim, claim_at, filed, finish, intern, is_this, no_rows, placed, taken, with_slot}
 use Rattle.tso_table.specs.Sheets.{IsDone, IsKeptIn, IsSound, one_if_open, open_count}
 use Rattle.tso_table.specs.declared.kept.Kept.{Kept}
 use Rattle.tso_table.specs.declared.number.Number.{Number}
@@ -41,7 +40,7 @@ near_there c k states s f near all there i x n move =
       at = ap (slice_get states) h.is.place ∙ this_one h.one.state (slice_get states h.one.place) this;
     }
 
-module _ (c : Client) (t : Table) (k : ℕ) where
+module _ {c : Client} {t : Table} {k : ℕ} where
   pub sound_empty : IsSound c t k no_rows [] 0 0
   sound_empty = record {
     replays = no_calls;
@@ -55,8 +54,8 @@ module _ (c : Client) (t : Table) (k : ℕ) where
   }
 
   -- a call that leaves the rows
-  pub sound_same : (r : Rows) (actors : List (List ℕ)) (n e : ℕ) (call : Call) (reply : Reply) → IsSound c t k r actors n e → Makes r call r reply → IsSound c t k r actors n (e + 1)
-  sound_same r actors n e call reply h made = record {
+  pub sound_same : {r : Rows} {actors : List (List ℕ)} {n e : ℕ} (call : Call) (reply : Reply) → IsSound c t k r actors n e → Makes r call r reply → IsSound c t k r actors n (e + 1)
+  sound_same {r = r} {e = e} call reply h made = record {
     replays = replays_on r r e call reply h.replays made;
     slots = h.slots;
     paths = h.paths;
@@ -68,11 +67,10 @@ module _ (c : Client) (t : Table) (k : ℕ) where
   }
 
   -- a new state at the end
-  pub sound_push : (r : Rows) (actors : List (List ℕ)) (n e : ℕ) (p : Kept) (call : Call) (reply : Reply) → IsSound c t k r actors n e → IsKept c p → shard_of p.state ≡ k → length r.states + 1 < 2 ^ 32
-      → Makes r call (record { states = r.states ++ p.state ∷ []; slots = r.slots ++ Waiting ∷ [] }) reply
+  pub sound_push : {r : Rows} {actors : List (List ℕ)} {n e : ℕ} (p : Kept) → IsSound c t k r actors n e → IsKept c p → shard_of p.state ≡ k → length r.states + 1 < 2 ^ 32 → IsNowhere r.states p.state
       → IsSound c t k (record { states = r.states ++ p.state ∷ []; slots = r.slots ++ Waiting ∷ [] }) (actors ++ p.actors ∷ []) (n + 1) (e + 1)
-  sound_push r actors n e p call reply h leads at_home room made = record {
-    replays = replays_on r _ e call reply h.replays made;
+  sound_push {r = r} {actors = actors} {e = e} p h leads at_home room absent = record {
+    replays = replays_on r _ e (intern p.state) (placed (length r.states) true) h.replays (makes_new r p.state absent);
     slots = (let a = length-append r.states (p.state ∷ []) in let b = length-append r.slots (Waiting ∷ []) in let same = h.slots in omega (arith, a, b, same));
     paths = (let a = length-append r.states (p.state ∷ []) in let b = length-append actors (p.actors ∷ []) in let same = h.paths in omega (arith, a, b, same));
     kept = kept;
@@ -99,10 +97,10 @@ module _ (c : Client) (t : Table) (k : ℕ) where
           (λ _ clash. absurd (let no : Waiting ≡ Done f = clash in cc))
 
   -- a slot that changes
-  pub sound_set : (r : Rows) (actors : List (List ℕ)) (n m e place : ℕ) (x y : Slot) (call : Call) (reply : Reply) → IsSound c t k r actors n e → slice_get r.slots place ≡ Some x
+  sound_set : {r : Rows} {actors : List (List ℕ)} {n e : ℕ} (m place : ℕ) (x y : Slot) (call : Call) (reply : Reply) → IsSound c t k r actors n e → slice_get r.slots place ≡ Some x
       → ((s : State) (f : Filed) → slice_get r.states place ≡ Some s → y ≡ Done f → IsDone c t k r.states s f)
       → m + one_if_open x ≡ n + one_if_open y → Makes r call (with_slot r place y) reply → IsSound c t k (with_slot r place y) actors m (e + 1)
-  sound_set r actors n m e place x y call reply h at now count made = record {
+  sound_set {r = r} {e = e} m place x y call reply h at now count made = record {
     replays = replays_on r (with_slot r place y) e call reply h.replays made;
     slots = length-set r.slots place y ∙ h.slots;
     paths = h.paths;
@@ -116,16 +114,16 @@ module _ (c : Client) (t : Table) (k : ℕ) where
   }
 
   -- a state that waits is claimed
-  pub sound_claim : (r : Rows) (actors : List (List ℕ)) (n e place : ℕ) → IsSound c t k r actors n e → slice_get r.slots place ≡ Some Waiting → IsSound c t k (with_slot r place Claimed) actors n (e + 1)
-  sound_claim r actors n e place h at = sound_set r actors n n e place Waiting Claimed (claim place) (taken true) h at (λ s f here clash. absurd (let no_way : Claimed ≡ Done f = clash in cc)) refl (makes_claim r place at)
+  pub sound_claim : {r : Rows} {actors : List (List ℕ)} {n e : ℕ} (place : ℕ) → IsSound c t k r actors n e → slice_get r.slots place ≡ Some Waiting → IsSound c t k (with_slot r place Claimed) actors n (e + 1)
+  sound_claim {r = r} {n = n} place h at = sound_set n place Waiting Claimed (claim place) (taken true) h at (λ s f here clash. absurd (let no_way : Claimed ≡ Done f = clash in cc)) refl (ap (claim_at r place) at)
 
   -- an end is filed
-  pub sound_finish : (r : Rows) (actors : List (List ℕ)) (n m e place : ℕ) (s : State) (f : Filed) (near : List Near) → IsSound c t k r actors n e → slice_get r.slots place ≡ Some Claimed
+  pub sound_finish : {r : Rows} {actors : List (List ℕ)} {n m e : ℕ} {s : State} {f : Filed} {near : List Near} (place : ℕ) → IsSound c t k r actors n e → slice_get r.slots place ≡ Some Claimed
       → is_this s (slice_get r.states place) ≡ true → are_there r.states near ≡ true → IsEnd c t s f → AreNear c k s f near → m + 1 ≡ n → IsSound c t k (with_slot r place (Done f)) actors m (e + 1)
-  sound_finish r actors n m e place s f near h at this there end close less =
+  sound_finish {r = r} {m = m} {s = s} {f = f} {near = near} place h at this there end close less =
       let standing : slice_get r.states place ≡ Some s = this_one s (slice_get r.states place) this in
       let is_done : IsDone c t k r.states s f = record { end = end; successors = near_there c k r.states s f near close there } in
-      sound_set r actors n m e place Claimed (Done f) (finish place s f near) filed h at
+      sound_set m place Claimed (Done f) (finish place s f near) filed h at
       (λ u g here same.
       let state : s ≡ u = same_Some s u (sym standing ∙ here) in
       let whole : f ≡ g = (let q : Done f ≡ Done g = same in cc) in
@@ -133,8 +131,8 @@ module _ (c : Client) (t : Table) (k : ℕ) where
       (omega (arith, less)) (makes_finish r place s f near at this there)
 
   -- some state is not done
-  pub some_open : (r : Rows) (actors : List (List ℕ)) (n e place : ℕ) → IsSound c t k r actors n e → slice_get r.slots place ≡ Some Claimed → 1 ≤ n
-  some_open r actors n e place h at = let a = open_at r.slots place at in let same = h.unfinished_is in omega (arith, a, same)
+  pub some_open : {r : Rows} {actors : List (List ℕ)} {n e : ℕ} (place : ℕ) → IsSound c t k r actors n e → slice_get r.slots place ≡ Some Claimed → 1 ≤ n
+  some_open {r = r} place h at = let a = open_at r.slots place at in let same = h.unfinished_is in omega (arith, a, same)
 
-  pub few_open : (r : Rows) (actors : List (List ℕ)) (n e : ℕ) → IsSound c t k r actors n e → open_count r.slots < 2 ^ 32
-  few_open r actors n e h = let a = open_within r.slots in let same = h.slots in let lt = h.small in omega (arith, a, same, lt)
+  pub few_open : {r : Rows} {actors : List (List ℕ)} {n e : ℕ} → IsSound c t k r actors n e → open_count r.slots < 2 ^ 32
+  few_open {r = r} h = let a = open_within r.slots in let same = h.slots in let lt = h.small in omega (arith, a, same, lt)

@@ -1,5 +1,5 @@
 -- States with the actors that lead to them, and the shards of states.
-use Rattle.std.specs.Prelude.{◌≡◌, ◌+◌, ◌%◌, ℕ, List, length, map, sum, sum_by}
+use Rattle.std.specs.Prelude.{◌+◌, ◌%◌, ℕ, List, length, map, sum, sum_by}
 use Rattle.tso_choose.specs.Sets.{actor_at}
 use Rattle.tso_compact.specs.Laws.{IsPlausible, initial_of}
 use Rattle.tso_machine.specs.Programs.{program_of}

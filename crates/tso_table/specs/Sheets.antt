@@ -1,5 +1,5 @@
 -- What contracts see of the table of one shard, and what is true of it whenever no call is under way.
-use Rattle.std.specs.Prelude.{◌≡◌, ◌<◌, ◌^◌, ◌++◌, ℕ, List, [], ◌∷◌, length, Some, slice_get, sum_by}
+use Rattle.std.specs.Prelude.{◌≡◌, ◌<◌, ◌^◌, ◌++◌, ℕ, Bool, true, false, List, [], ◌∷◌, length, Some, slice_get, sum_by}
 use Rattle.tso_foot.specs.declared.table.Table.{Table}
 use Rattle.tso_parts.specs.Numbers.{IsNowhere}
 use Rattle.tso_prog.specs.declared.client.Client.{Client}
@@ -77,7 +77,7 @@ pub record IsNewIn (old new : Sheet) (k : Kept) : Type 0 where
   pub states : new.rows.states ≡ old.rows.states ++ k.state ∷ []
   pub actors : new.actors ≡ old.actors ++ k.actors ∷ []
 
--- why a state has no place: it is not there, and may not be new where it is full
-abbrev pub IsFull : Type 0 → List State → State → InternError → Type 0
-IsFull Spent states s Full = Spent × IsNowhere states s
-IsFull Spent states s Memory = IsNowhere states s
+-- why a state has no place: it is not there and may not be new; else it may, and a growth was refused
+abbrev pub IsFull : Bool → List State → State → InternError → Type 0
+IsFull room states s Full = IsNowhere states s × (room ≡ false)
+IsFull room states s Memory = IsNowhere states s × (room ≡ true)

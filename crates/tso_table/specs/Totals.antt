@@ -1,8 +1,8 @@
 -- What all shards have together.
-use Rattle.std.specs.Prelude.{◌≡◌, ◌+◌, ◌^◌, ◌⊎◌, ℕ, List, [], ◌∷◌, length}
+use Rattle.std.specs.Prelude.{◌≡◌, ◌+◌, ◌^◌, ◌<◌, ◌⊎◌, ℕ, List, [], ◌∷◌, length}
 use Rattle.tso_parts.specs.Numbers.{IsNowhere}
 use Rattle.tso_state.specs.declared.state.State.{State}
-use Rattle.tso_table.specs.OneThread.{Call, IsRefused, Rows}
+use Rattle.tso_table.specs.OneThread.{Call, IsRefused}
 use Rattle.tso_table.specs.Sheets.{Sheet}
 use Rattle.tso_table.specs.declared.errors.FinishError.{FinishError}
 use Rattle.tso_table.specs.declared.errors.FinishError.TheVariants.{NotReady, Memory as Uncounted}
@@ -17,24 +17,6 @@ allotment = 2 ^ 63
 pub record Purse : Type 0 where
   pub limit : ℕ
   pub given : ℕ
-
--- what contracts see of a shard: its table, and how many units it has that no state has taken
-pub record Stock : Type 0 where
-  pub sheet : Sheet
-  pub spare : ℕ
-
-abbrev pub sheet_of : Stock → Sheet
-sheet_of s = s.sheet
-
--- how many units all have that no state has taken
-abbrev pub all_spare : List Stock → ℕ
-all_spare [] = 0
-all_spare (x ∷ more) = x.spare + all_spare more
-
--- new states have taken so many of the units that the shard had to spare or was given since
-pub record IsPaid (old new : Stock) (before after : Purse) (taken : ℕ) : Type 0 where
-  pub units : new.spare + taken + before.given ≡ old.spare + after.given
-  pub limit : after.limit ≡ before.limit
 
 -- what the shares of a shard say of its table
 pub record Claims : Type 0 where
@@ -55,14 +37,11 @@ abbrev pub all_entries : List Claims → ℕ
 all_entries [] = 0
 all_entries (x ∷ more) = x.entries + all_entries more
 
--- why a state that may be new has no place: it is not there and a growth was refused, or no entry more can be counted
-abbrev pub IsUnplaced : Sheet → State → Type 0
-IsUnplaced t s = IsNowhere t.rows.states s ⊎ (t.entries ≡ allotment)
-
--- Why a state has no number: it is not there, and neither the shard nor the budget has a unit for it; else as above.
-abbrev pub IsRefusal : Stock → Purse → State → InternError → Type 0
-IsRefusal t b s Full = IsNowhere t.sheet.rows.states s × (t.spare ≡ 0) × (b.given ≡ b.limit)
-IsRefusal t b s Memory = IsUnplaced t.sheet s
+-- Why a state has no number: it is not there and the budget is empty; else it is not there, a unit is left and a growth was refused,
+-- or no entry more can be counted.
+abbrev pub IsRefusal : Sheet → Purse → State → InternError → Type 0
+IsRefusal t b s Full = IsNowhere t.rows.states s × (b.given ≡ b.limit)
+IsRefusal t b s Memory = (IsNowhere t.rows.states s × (b.given < b.limit)) ⊎ (t.entries ≡ allotment)
 
 -- why an end is not filed: one thread's call is refused, or no entry more can be counted
 abbrev pub IsUnfiled : Sheet → Call → FinishError → Type 0

@@ -99,18 +99,6 @@ impl<U: Ledger, E: Ledger> Budget<U, E> {
         self.given += 1;
     }
 
-    /// Takes units back that no state has taken.
-    pub(crate) fn take_back(&mut self, units: &mut Share<U>, count: u32)
-        requires has { count ≤ units.old.amount }
-        ensures given { self.new.given + count ≡ self.old.given }
-        ensures same { self.new.limit ≡ self.old.limit }
-        ensures share { (units.new.amount + count ≡ units.old.amount) × (units.new.parts ≡ units.old.parts) }
-    {
-        self.units.audit(units);
-        self.units.sub(units, count as u64);
-        self.given -= count;
-    }
-
     /// A share has no more than was given.
     pub(crate) fn bound(&mut self, units: &mut Share<U>)
         ensures same { self.new ≡ self.old }

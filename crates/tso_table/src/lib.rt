@@ -11,7 +11,6 @@ mod search;
 mod settling;
 mod shard;
 mod slot;
-mod steps;
 mod table;
 
 pub use budget::{ALLOTMENT, Budget};

@@ -1,7 +1,7 @@
 //! All shards: taken apart, and added up.
 
 ghost use Rattle.std.specs.Prelude.{◌≡◌, ◌+◌, ◌*◌, ◌<◌, IfOk, length, map};
-ghost use Rattle.tso_table.specs.Totals.{all_entries, all_spare, all_states, allotment, claims, sheet_of};
+ghost use Rattle.tso_table.specs.Totals.{all_entries, all_states, allotment, claims};
 
 use crate::budget::{ALLOTMENT, Budget};
 use crate::search::Search;
@@ -10,23 +10,20 @@ use crate::table::Table;
 use std::alloc::{AllocError, Global};
 use std::sync::ledger::{Ledger, Share};
 
-/// The tables of all shards, which several threads may look at, and the rests. What the shards have to spare is the budget's.
+/// The tables of all shards, which several threads may look at, and the rests.
 ///
 /// Errors: where a growth was refused.
 pub fn open_all<'a, U: Search, E: Ledger>(
     alloc: Global,
     shards: Vec<Shard<'a, U, E>>,
-    budget: &mut Budget<U, E>,
 ) -> Result<(Vec<Table<'a>>, Vec<Rest<U, E>>), AllocError>
-    ensures tables { IfOk result (λ r. r.0.items ≡ map sheet_of shards.entry.items) }
+    ensures tables { IfOk result (λ r. r.0.items ≡ shards.entry.items) }
     ensures rests { IfOk result (λ r. r.1.items ≡ map claims r.0.items) }
-    ensures budget { budget.new.limit ≡ budget.old.limit }
-    ensures spare { IfOk result (λ _. budget.new.given + all_spare shards.entry.items ≡ budget.old.given) }
 {
     let mut tables = Vec::new(alloc);
     let mut rests = Vec::new(alloc);
     for shard in shards {
-        let (table, rest) = shard.open(budget);
+        let (table, rest) = shard.open();
         tables.push(table)?;
         rests.push(rest)?;
     }

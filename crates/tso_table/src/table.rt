@@ -1,27 +1,24 @@
 //! The states of one shard, with no lock and no budget.
 
-ghost use Rattle.std.specs.Prelude.{◌≡◌, ◌↔◌, ◌+◌, ◌<◌, ◌≤◌, ◌^◌, true, false, [], length, IfErr, IfOk, IfSome, IsTrue, MatchBool, MatchOption, OnErr, OnOk, slice_get};
-ghost use Rattle.std.specs.Option.{option_copied};
-ghost use Rattle.tso_parts.specs.Numbers.{IsNowhere, IsNumbered, grown};
+ghost use Rattle.std.specs.Prelude.{◌≡◌, ◌↔◌, ◌+◌, ◌<◌, ◌≤◌, ◌^◌, true, false, [], length, IfErr, IfOk, IfSome, IsTrue, MatchBool, MatchOption, OnErr, OnOk};
+ghost use Rattle.tso_parts.specs.Numbers.{IsNumbered};
 ghost use Rattle.tso_table.specs.Ends.{AreNear, IsEnd};
 ghost use Rattle.tso_table.specs.Leading.{IsKept, shard_of};
 ghost use Rattle.tso_table.specs.OneThread.{Call, IsRefused, Makes, Replays, Reply, no_rows};
 ghost use Rattle.tso_table.specs.Sheets.{HasSameStates, IsForSame, IsFull, IsKeptIn, IsNewIn, IsSameButCounted, IsSound, open_count};
-ghost use Rattle.tso_table.specs.declared.errors.InternError.TheVariants as refusals;
 
 use crate::errors::InternError;
 use crate::kept::Kept;
-use crate::rows::{are_there, is_claimed, is_there, is_waiting, make_room, set_slot};
+use crate::rows::{are_there, is_at, is_claimed, is_waiting, put_last, set_slot};
 use crate::same::{are_same_footprints, is_same_client};
 use crate::slot::{Filed, Near, Slot};
 use std::alloc::{AllocError, Global};
 use std::marker::Model;
 use tso_flow::Checked;
 use tso_foot::Table as Footprints;
-use tso_keys::{NO_KEY, View};
 use tso_list::{Paths, Seq};
 use tso_state::State;
-use tso_store::{AddError, Store};
+use tso_store::Store;
 
 /// States by their places, in the order in which they came, with the actors that lead to each and how far it is worked.
 /// Contracts see also how many calls were answered.
@@ -76,13 +73,9 @@ impl<'a> Table<'a> {
     pub fn is_for(&self, checked: &Checked, table: &Footprints, number: u8) -> bool
         ensures { IsTrue result ↔ ((self.now.client ≡ checked.now.client) × (self.now.table ≡ table.now) × (self.now.number ≡ number)) }
     {
-        if !is_same_client(&self.checked.client, &checked.client) {
-            return false;
-        }
-        if !are_same_footprints(self.table, table) {
-            return false;
-        }
-        self.number == number
+        is_same_client(&self.checked.client, &checked.client)
+            && are_same_footprints(self.table, table)
+            && self.number == number
     }
 
     /// The number of its shard.
@@ -142,20 +135,6 @@ impl<'a> Table<'a> {
         Ok(Some(Kept { state, actors }))
     }
 
-    /// The state at a place, seen where it is kept, with the actors that lead to it. It takes no memory.
-    pub fn lent(&self, place: u32) -> Option<(View<'_>, &[u8])>
-        ensures lent { MatchOption result (length self.now.rows.states ≤ place) (λ l. IsKeptIn self.now.rows.states self.now.actors place (record { state = l.0; actors = l.1.now })) }
-        ensures leads { IfSome result (λ l. IsKept self.now.client (record { state = l.0; actors = l.1.now })) }
-    {
-        match self.store.view(place) {
-            Some(view) => match self.actors.get(place as usize) {
-                Some(actors) => Some((view, actors)),
-                None => None,
-            },
-            None => None,
-        }
-    }
-
     /// The states by their places, in the store in which they are kept.
     pub fn states(&self) -> &Store<'a>
         ensures { (result.now.client ≡ self.now.client) × (result.now.states ≡ self.now.rows.states) }
@@ -163,89 +142,38 @@ impl<'a> Table<'a> {
         &self.store
     }
 
-    /// The place of a state that is there, counted as a call. Where it is not there nothing changes.
-    pub fn meet(&mut self, state: &View<'_>) -> Option<u32>
-        requires more { self.old.entries + 1 < 2 ^ 64 }
-        ensures met { MatchOption result
-            (IsNowhere self.old.rows.states state.now × (self.new ≡ self.old))
-            (λ n. Makes self.old.rows (Call.intern state.now) self.new.rows (Reply.placed n false) × IsSameButCounted self.old self.new × (self.new.entries ≡ self.old.entries + 1)) }
-        ensures of { IsForSame self.old self.new }
-    {
-        let place = self.store.find_view(&NO_KEY, state)?;
-        self.store.states_differ();
-        self.entries += 1;
-        Some(place)
-    }
-
     /// Gives a state its place, with the actors that lead to it. True where it is new, which it may be only where `room` says so;
     /// it waits then. What is new of it is copied.
     ///
     /// Errors: `Full` where the state is not there and may not be new; `Memory` where it is not there, may be new, and a growth
     /// was refused. The table stays, and a state that is there is never refused.
-    pub fn intern(
-        &mut self,
-        state: &View<'_>,
-        actors: &[u8],
-        room: bool,
-    ) -> Result<(u32, bool), InternError>
-        requires leads { IsKept self.old.client (record { state = state.now; actors = actors.now }) }
-        requires here { shard_of state.now ≡ self.old.number }
+    pub fn intern(&mut self, kept: &Kept, room: bool) -> Result<(u32, bool), InternError>
+        requires leads { IsKept self.old.client kept.now }
+        requires here { shard_of kept.now.state ≡ self.old.number }
         requires more { self.old.entries + 1 < 2 ^ 64 }
         requires small { room ≡ true → length self.old.rows.states + 1 < 2 ^ 32 }
-        ensures made { IfOk result (λ r. Makes self.old.rows (Call.intern state.now) self.new.rows (Reply.placed r.0 r.1)) }
-        ensures new { IfOk result (λ r. MatchBool r.1 (IsNewIn self.old self.new (record { state = state.now; actors = actors.now }) × (room ≡ true)) (IsSameButCounted self.old self.new)) }
+        ensures made { IfOk result (λ r. Makes self.old.rows (Call.intern kept.now.state) self.new.rows (Reply.placed r.0 r.1)) }
+        ensures new { IfOk result (λ r. MatchBool r.1 (IsNewIn self.old self.new kept.now × (room ≡ true)) (IsSameButCounted self.old self.new)) }
         ensures of { IsForSame self.old self.new }
         ensures entries { OnOk result (self.new.entries ≡ self.old.entries + 1) }
         ensures err { OnErr result (self.new ≡ self.old) }
-        ensures full { IfErr result (IsFull (room ≡ false) self.old.rows.states state.now) }
+        ensures full { IfErr result (IsFull room self.old.rows.states kept.now.state) }
     {
-        if room {
-            return self.take_in(state, actors);
+        if let Some(place) = self.store.find(&kept.state) {
+            self.store.states_differ();
+            self.entries += 1;
+            return Ok((place, false));
         }
-        match self.meet(state) {
-            Some(place) => Ok((place, false)),
-            None => Err(InternError::Full),
+        if !room {
+            return Err(InternError::Full);
         }
-    }
-
-    // Gives a state its place, also where it is new.
-    fn take_in(&mut self, state: &View<'_>, actors: &[u8]) -> Result<(u32, bool), InternError>
-        requires leads { IsKept self.old.client (record { state = state.now; actors = actors.now }) }
-        requires here { shard_of state.now ≡ self.old.number }
-        requires more { self.old.entries + 1 < 2 ^ 64 }
-        requires small { length self.old.rows.states + 1 < 2 ^ 32 }
-        ensures made { IfOk result (λ r. Makes self.old.rows (Call.intern state.now) self.new.rows (Reply.placed r.0 r.1)) }
-        ensures new { IfOk result (λ r. MatchBool r.1 (IsNewIn self.old self.new (record { state = state.now; actors = actors.now })) (IsSameButCounted self.old self.new)) }
-        ensures of { IsForSame self.old self.new }
-        ensures entries { OnOk result (self.new.entries ≡ self.old.entries + 1) }
-        ensures err { OnErr result (self.new ≡ self.old) }
-        ensures memory { IfErr result (λ e. (e ≡ refusals.Memory) × IsNowhere self.old.rows.states state.now) }
-    {
-        let Ok(()) = make_room(&mut self.actors, &mut self.slots, actors) else {
-            return match self.meet(state) {
-                Some(place) => Ok((place, false)),
-                None => Err(InternError::Memory),
-            };
-        };
-        match self.store.add_view(&NO_KEY, state) {
-            Ok((place, true)) => {
-                self.store.states_differ();
-                self.slots.push_reserved(Slot::Waiting);
+        match put_last(&mut self.store, &mut self.actors, &mut self.slots, kept) {
+            Ok(place) => {
                 self.unfinished += 1;
                 self.entries += 1;
                 Ok((place, true))
             }
-            Ok((place, false)) => {
-                self.store.states_differ();
-                self.actors.pop();
-                self.entries += 1;
-                Ok((place, false))
-            }
-            Err(AddError::Misfit) => unreachable!(),
-            Err(_) => {
-                self.actors.pop();
-                Err(InternError::Memory)
-            }
+            Err(_) => Err(InternError::Memory),
         }
     }
 
@@ -268,7 +196,7 @@ impl<'a> Table<'a> {
 
     /// Files an end under the place of its state, given those of its successors that belong to this shard. False, and no change,
     /// where the state is not the one at the place, or is not claimed, or one of these successors is not at its place.
-    pub fn finish(&mut self, place: u32, state: &View<'_>, filed: Filed, near: &[Near]) -> bool
+    pub fn finish(&mut self, place: u32, state: &State, filed: Filed, near: &[Near]) -> bool
         requires end { IsEnd self.old.client self.old.table state.now filed }
         requires near { AreNear self.old.client self.old.number state.now filed near.now }
         requires more { self.old.entries + 1 < 2 ^ 64 }
@@ -281,7 +209,7 @@ impl<'a> Table<'a> {
         if !is_claimed(self.slots.as_slice(), place) {
             return false;
         }
-        if !is_there(&self.store, place, state) {
+        if !is_at(&self.store, place, state) {
             return false;
         }
         if !are_there(&self.store, near) {

@@ -8,10 +8,11 @@ ghost use Rattle.tso_verdict.specs.Statuses.{status_of_verdict};
 use clap::{Arg, ArgMatches, Command};
 use serde_json::{Value, json};
 use std::alloc::{AllocError, Global};
+use std::mem;
 use std::sync::Wait;
 use std::thread::Threads;
 use tso_cert::{NoWatch, Workers};
-use tso_check::{Verdict, check_parts, check_with};
+use tso_check::{Remains, Verdict, check_parts, check_with};
 use tso_front::{
     FILE, Failure, JSON, Session, VARIANT, Variant, Word, misused, number_argument, number_or_null,
     read_apart, variant_of, with_word, with_words,
@@ -159,7 +160,7 @@ pub fn put_verdict<S: Session>(
     session.flush()
 }
 
-// The verdict on a certificate that lies in several parts.
+// The verdict on a certificate that lies in several parts. The process ends next, so what it has read stays where it is.
 fn verdict_on_parts<R: Threads + Wait + Sync>(
     rt: &R,
     alloc: Global,
@@ -169,12 +170,14 @@ fn verdict_on_parts<R: Threads + Wait + Sync>(
 ) -> Result<Verdict, Failure>
     ensures headline { result ≡ Ok verdicts.Accepted → IsVerified program.now }
 {
-    let verdict = check_parts(rt, alloc, program, parts, workers, &NoWatch)?;
+    let remains = Remains::Left;
+    let verdict = check_parts(rt, alloc, program, parts, workers, &NoWatch, remains)?;
     Ok(verdict)
 }
 
 /// Decides a certificate, whose bytes are in a file, for a program text, prints the verdict and gives it: where it is accepted,
-/// the text denotes a client, and each of its runs is good. By several workers a large file is read in parts (`tso_load`).
+/// the text denotes a client, and each of its runs is good. By several workers a large file is read in parts (`tso_load`). It is for a
+/// program that ends next: what was read is not let go of.
 ///
 /// Errors: `CannotRead`; `Program` with the first fault of the text; `CannotPrint`; `Memory`.
 pub fn check_bytes<R: Threads + Wait + Source + Sync, S: Session>(
@@ -187,6 +190,7 @@ pub fn check_bytes<R: Threads + Wait + Source + Sync, S: Session>(
 {
     let parts = load(rt, session, asked.cert, asked.workers.count())?;
     let verdict = verdict_on_parts(rt, session.alloc(), program, &parts, asked.workers)?;
+    mem::forget(parts);
     put_verdict(session, verdict, asked.json)?;
     Ok(verdict)
 }

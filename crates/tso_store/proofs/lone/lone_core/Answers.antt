@@ -13,10 +13,8 @@ returns-then-is_resting c =
 
 pub returns-in-Leaves : goal.returns-in-Leaves
 returns-in-Leaves c =
-    runs_alone c.args.checked.now.client c.args.parts.now c.args.key.now c.args.thread c.in_ok-own.own c.in-Leaves.field-0 c.requires.kept c.requires.small (sym c.own_number.ensures ∙ c.in_ok-own.was)
-    (rw c.procedure_at-procedure.ensures at c.in-Leaves.ensures)
+    runs_alone c.args.checked.now.client c.args.parts.now c.args.key.now c.args.thread c.in_ok-own.own c.in-Leaves.field-0 c.requires.kept c.requires.small (sym c.own_number.ensures ∙ c.in_ok-own.was) c.in-Leaves.ensures
 
 pub returns-in-Does : goal.returns-in-Does
 returns-in-Does c =
-    does_alone c.args.checked.now.client c.args.parts.now c.args.key.now c.args.thread c.in_ok-own.own c.in-Does.motion c.lone_motion.result c.requires.kept c.requires.small (sym c.own_number.ensures ∙ c.in_ok-own.was)
-    (rw c.procedure_at-procedure.ensures at c.in-Does.ensures) c.lone_motion.ensures
+    does_alone c.args.checked.now.client c.args.parts.now c.args.key.now c.args.thread c.in_ok-own.own c.in-Does.motion c.lone_motion.result c.requires.kept c.requires.small (sym c.own_number.ensures ∙ c.in_ok-own.was) c.in-Does.ensures c.lone_motion.ensures

@@ -1,6 +1,6 @@
-use Rattle.std.proofs.Common.{◌≡◌, ◌∙◌, ℕ, List, ◌++◌, ◌∷◌, [], rules}
+use Rattle.std.proofs.Common.{◌≡◌, ◌++◌, ◌∷◌, [], rules}
 use Rattle.tso_state.specs.Actors.{number_of}
-use Rattle.tso_table.proofs.KeptLemmas.{has_histories, next_is_kept, small_thread}
+use Rattle.tso_table.proofs.KeptLemmas.{next_is_kept, small_thread}
 use Rattle.tso_table.proofs.kept.Kept.next.Goals as goal
 
 pub led_on-requires : goal.led_on-requires

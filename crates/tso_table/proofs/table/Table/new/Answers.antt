@@ -7,4 +7,4 @@ invariant_of-result c =
     let states : c.new.result.states ≡ [] = c.new.ensures.states in
     let actors : c.new-2.result ≡ [] = c.new-2.ensures in
     let slots : c.new-3.result.items ≡ [] = search rules in
-    (c.new.ensures.client, rw (states, actors, slots) (sound_empty c.args.checked.now.client c.args.table.now c.args.number))
+    (c.new.ensures.client, rw (states, actors, slots) sound_empty)

@@ -1,5 +1,0 @@
-use Rattle.tso_table.specs.Leading.{IsKept}
-use Rattle.tso_explore.proofs.showing.walked.Given as goal
-
-abbrev pub invariant-loop-actor : goal.invariant-loop-actor
-invariant-loop-actor l = IsKept l.checked.client l.kept

@@ -1,5 +1,0 @@
-use Rattle.std.proofs.Common.{length}
-use Rattle.tso_table.proofs.same.+are_same_steps.Given as goal
-
-abbrev pub decreases-are_same_steps : goal.decreases-are_same_steps
-decreases-are_same_steps l = length l.a.now
