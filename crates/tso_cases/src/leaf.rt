@@ -12,7 +12,7 @@ use tso_flow::Checked;
 use tso_foot::Table;
 use tso_judge::{Code, judge, judge_alone};
 use tso_rec::{Packed, Record};
-use tso_state::history_fits;
+use tso_state::parts_fit;
 
 // The record with this number.
 fn record_of(leaf: &Packed, number: usize) -> Result<Record, AllocError>
@@ -78,14 +78,7 @@ fn put_record(
     has_state(leaf, number, &found.state)?;
     let kept = leaf.parts_kept(number);
     let Record { state, end } = found;
-    let alone = judge_alone(
-        alloc,
-        checked,
-        table,
-        state,
-        history_fits(checked, &state.history),
-        end,
-    )?;
+    let alone = judge_alone(alloc, checked, table, state, parts_fit(checked, state), end)?;
     let in_own = judged_in_own(alloc, checked, table, found)?;
     Ok(write!(out, "{kept} {alone:?} {in_own:?}; ")?)
 }

@@ -1,5 +1,5 @@
 -- From what a store remembers of the one chosen core to the conditions of its record.
-use Rattle.std.proofs.Common.{◌≡◌, ◌∙◌, ℕ, zero, suc, ◌+◌, ◌<◌, true, false, List, [], ◌∷◌, length, Option, Some, None, get_or, slice_get, refl, sym, ap, subst, arith}
+use Rattle.std.proofs.Common.{◌≡◌, ◌∙◌, ℕ, zero, suc, ◌+◌, ◌<◌, true, false, List, [], ◌∷◌, length, Some, None, get_or, slice_get, sym, ap, subst, arith}
 use Rattle.std.specs.Prelude.{All, IsTrue, is_some}
 use Rattle.std.proofs.lemmas.Option.{same_Some, slice_get_within, slice_get-get_or}
 use Rattle.tso_check.specs.Alone.{IsSureEnd, is_sure}
@@ -7,7 +7,6 @@ use Rattle.tso_choose.specs.Choices.{AreReasons, IsRising, actors_of, position_o
 use Rattle.tso_choose.specs.Needs.{is_enabled}
 use Rattle.tso_choose.specs.declared.choice.Choice.{Choice}
 use Rattle.tso_compact.specs.declared.sort.StepKind.{StepKind}
-use Rattle.tso_compact.specs.declared.sort.StepKind.TheVariants as kinds
 use Rattle.tso_foot.specs.declared.table.Table.{Table}
 use Rattle.tso_indep.specs.Reasons.{is_reason, is_reason_if, kind_in}
 use Rattle.tso_indep.specs.declared.reason.Reason.{Reason}
@@ -22,7 +21,8 @@ use Rattle.tso_state.specs.WellFormed.{IsWellFormed}
 use Rattle.tso_state.specs.declared.actor.Actor.{Actor}
 use Rattle.tso_state.specs.declared.actor.Actor.TheVariants.{Exec}
 use Rattle.tso_state.specs.declared.state.State.{State}
-use Rattle.tso_store.specs.Lone.{lone_core, lone_of}
+use Rattle.tso_store.proofs.Alone.{kind_is}
+use Rattle.tso_store.specs.Lone.{lone_core}
 
 -- ---- lists
 
@@ -42,15 +42,6 @@ one_rises : (a : Actor) → IsRising (a ∷ [])
 one_rises a n x y at next = let lt = slice_get_within (a ∷ []) (n + 1) y next in absurd (omega (arith, lt))
 
 -- ---- steps
-
-kind_is : (o : Option StepKind) (kind : StepKind) → lone_of o ≡ Some kind → o ≡ Some kind
-kind_is None kind e = e
-kind_is (Some kinds.Local) kind e = e
-kind_is (Some kinds.Return) kind e = e
-kind_is (Some kinds.Call) kind e = absurd (let h : None ≡ Some kind = e in cc)
-kind_is (Some (kinds.Load place)) kind e = absurd (let h : None ≡ Some kind = e in cc)
-kind_is (Some (kinds.Drain place)) kind e = absurd (let h : None ≡ Some kind = e in cc)
-kind_is (Some (kinds.Locked place)) kind e = absurd (let h : None ≡ Some kind = e in cc)
 
 module _ (c : Client) (t : Table) (s : State) where
   sure_reason : (chosen : List Actor) (kind : StepKind) (j : ℕ) (reason : Reason) → is_sure kind reason ≡ true → is_reason c t s chosen kind j reason ≡ true

@@ -5,7 +5,7 @@ ghost use Rattle.tso_check.specs.Numbered.{AreKeptFrom, IsJudgedAt, IsKeptFrom};
 ghost use Rattle.tso_choose.specs.declared.choice.Choice.{Choice as AChoice};
 ghost use Rattle.tso_judge.specs.Judging.{IsJudgedAlone};
 ghost use Rattle.tso_judge.specs.Valid.{HasInitial};
-ghost use Rattle.tso_state.specs.Fitting.{HistoryFits};
+ghost use Rattle.tso_state.specs.Fitting.{PartsFit};
 ghost use Rattle.tso_state.specs.Rising.{IsRising};
 ghost use Rattle.tso_keys.specs.Forms.{AreForms};
 
@@ -73,7 +73,7 @@ fn are_successors_kept(store: &Store<'_>, number: u32, end: &End, trail: &mut Tr
     }
 }
 
-// The first condition that a kept state with its end fails by itself, where it is known whether its history fits. Where the store
+// The first condition that a kept state with its end fails by itself, where it is known whether its parts fit. Where the store
 // remembers of the one chosen core that it goes first alone, K05 alone is asked.
 fn judge_view(
     alloc: Global,
@@ -87,7 +87,7 @@ fn judge_view(
 ) -> Result<Option<Code>, AllocError>
     requires client { store.now.client ≡ checked.now.client }
     requires state { slice_get store.now.states number ≡ Some view.now }
-    requires fits { IsTrue fits ↔ HistoryFits checked.now.client view.now.history }
+    requires fits { IsTrue fits ↔ PartsFit checked.now.client view.now }
     ensures { IfOk result (IsJudgedAlone checked.now.client table.now view.now end.now) }
 {
     if !is_sure_end(store, number, view.thread_count(), end) {
@@ -123,7 +123,7 @@ fn judge_rest(
 }
 
 /// The first condition that the state of this number fails with an end, if there is such a state, where it is known of each state
-/// whether its history fits. The states after the chosen steps are looked for first where the trail goes on.
+/// whether its parts fit. The states after the chosen steps are looked for first where the trail goes on.
 ///
 /// Errors: where a growth was refused.
 pub fn judge_number(

@@ -30,7 +30,8 @@ use Rattle.tso_prog.specs.Views.{answer_view}
 use Rattle.tso_prog.specs.declared.answer.Answer.{Answer as TheirAnswer}
 use Rattle.tso_prog.specs.declared.answer.Answer.TheVariants as answers
 use Rattle.tso_prog.specs.declared.client.Client.{Client}
-use Rattle.tso_judge.proofs.Fitting.{few_threads, fits, short_calls, viewed_calls}
+use Rattle.tso_judge.proofs.Fitting.{fits, short_calls, viewed_calls}
+use Rattle.tso_state.proofs.ClientLemmas.{few_threads}
 use Rattle.tso_judge.proofs.Lists.{Each, each_append, each_more, each_none, each_rest}
 use Rattle.tso_judge.specs.Words.{AnswerHasWord, AnyAnswerHasWord, AreWords, HasWords, KindHasWord}
 use Rattle.tso_state.specs.Actors.{number_of, thread_of}

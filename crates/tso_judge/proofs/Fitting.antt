@@ -42,6 +42,7 @@ use Rattle.tso_judge.proofs.Lists.{Each, each_append, each_more, each_none, each
 use Rattle.tso_judge.proofs.Stepping.{words_stay}
 use Rattle.tso_judge.specs.Fitting.{StatesFit}
 use Rattle.tso_judge.specs.Words.{AnyAnswerHasWord, AreRegisters, BufferHasWords, CallHasWords, CallsHaveWords, CoreHasWords, HasWords, KindHasWord, ThreadHasWords}
+use Rattle.tso_state.proofs.ClientLemmas.{few_threads}
 use Rattle.tso_state.proofs.ViewLemmas.{length-threads_view, slice_get-threads_view}
 use Rattle.tso_state.specs.Order.{flags_number}
 use Rattle.tso_word.specs.declared.Flags.{Flags}
@@ -70,13 +71,6 @@ got_index (y ∷ ys) (suc i) x d e = got_index ys i x d e
 
 few_words : (c : Client) → word_count c ≤ 256
 few_words c = omega (arith, length-flat_map (λ (a : Array). a.words) c.arrays, c.few_words)
-
-prologue_one : (calls : List CallKind) → length (as_thread calls) ≤ 1
-prologue_one [] = omega arith
-prologue_one (k ∷ ks) = omega arith
-
-pub few_threads : (c : Client) → thread_total c ≤ 5
-few_threads c = omega (arith, length-append c.threads (as_thread c.prologue), c.few_threads, prologue_one c.prologue)
 
 short_thread : (calls : List CallKind) → is_thread calls ≡ true → length calls ≤ 4
 short_thread calls h = leb-true (length calls) 4 (and_parts (are_calls calls) (nat_le (length calls) 4) h).1

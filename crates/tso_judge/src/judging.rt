@@ -7,7 +7,7 @@ ghost use Rattle.tso_compact.specs.Plans.{HasHistories};
 ghost use Rattle.tso_rec.specs.Conditions.{SuccessorsAreKept};
 ghost use Rattle.tso_judge.specs.Judging.{IsJudgedAlone, IsJudgedAmong};
 ghost use Rattle.tso_rec.specs.declared.record.End.TheVariants as ends;
-ghost use Rattle.tso_state.specs.Fitting.{HistoryFits};
+ghost use Rattle.tso_state.specs.Fitting.{PartsFit};
 ghost use Rattle.tso_state.specs.WellFormed.{IsWellFormed};
 
 use crate::code::Code;
@@ -21,7 +21,7 @@ use tso_fifo::{Order, is_linearization};
 use tso_flow::Checked;
 use tso_foot::{Table, is_within};
 use tso_rec::{End, Record};
-use tso_state::{State, Viewed, history_fits, is_well_formed_given};
+use tso_state::{State, Viewed, is_well_formed_given, parts_fit};
 
 // Of a well-formed state with choices.
 fn judge_choices<S: Viewed>(
@@ -73,7 +73,7 @@ fn judge_order<S: Viewed>(
 }
 
 /// The code of the first condition that a record fails, of those that come before K12 and need no other record: K05 to K07, K10
-/// and K11. `fits` says whether the history fits the client (`history_fits`).
+/// and K11. `fits` says whether the state's parts fit the client (`parts_fit`).
 ///
 /// Errors: where a growth was refused.
 pub fn judge_alone<S: Viewed>(
@@ -84,7 +84,7 @@ pub fn judge_alone<S: Viewed>(
     fits: bool,
     end: &End,
 ) -> Result<Option<Code>, AllocError>
-    requires { IsTrue fits ↔ HistoryFits checked.now.client (S.state state.now).history }
+    requires { IsTrue fits ↔ PartsFit checked.now.client (S.state state.now) }
     ensures { IfOk result (IsJudgedAlone checked.now.client table.now (S.state state.now) end.now) }
 {
     if !is_well_formed_given(checked, state, fits) {
@@ -150,7 +150,7 @@ pub fn judge_state(
     requires { IsOrdered (tree_of cert.now) }
     ensures { IfOk result (IsJudgedAmong checked.now.client table.now (tree_states (tree_of cert.now)) state.now end.now) }
 {
-    let fits = history_fits(checked, &state.history);
+    let fits = parts_fit(checked, state);
     match judge_alone(alloc, checked, table, state, fits, end)? {
         Some(code) => Ok(Some(code)),
         None => judge_rest(alloc, checked, table, cert, state, end),

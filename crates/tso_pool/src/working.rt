@@ -9,14 +9,14 @@ ghost use Rattle.tso_pool.specs.Seats.{IsOffered, place_of, tally_of};
 ghost use Rattle.tso_rec.specs.Conditions.{IsOver};
 ghost use Rattle.tso_table.specs.Leading.{IsKept, shard_of};
 
-use crate::claim::Claim;
+use crate::claim::{Claim, file, take};
 use crate::ending::Ending;
 use crate::finished::{Finished, Moves};
 use crate::judging::judge_end;
 use crate::seat::Seat;
-use crate::sharing::{file, intern, take};
+use crate::sharing::intern;
 use crate::team::Team;
-use crate::ticket::{Due, Ticket};
+use crate::ticket::{Due, Ticket, offer};
 use std::alloc::AllocError;
 use std::sync::Wait;
 use std::sync::atomic::Ordering;
@@ -27,17 +27,6 @@ use tso_compact::StepError;
 use tso_rec::End;
 use tso_state::{Actor, State};
 use tso_table::{Filed, Kept, Number, Numbers, Search};
-
-/// Hands out a ticket that is due. It can't be lost: where the deque refuses it, it is on the own list.
-pub fn offer(seat: &mut Seat<Ticket>, due: Due) -> Result<(), AllocError>
-    ensures place { place_of seat.new ≡ place_of seat.old }
-    ensures offered { OnOk result (IsOffered (tally_of seat.old) (tally_of seat.new) due.ticket) }
-{
-    let Due { ticket } = due;
-    seat.make_room()?;
-    seat.offer(ticket);
-    Ok(())
-}
 
 /// Hands out a ticket that is due, and calls a worker that has none.
 pub fn hand_out<U: Search, E: Ledger, R: Wait, W: Watch>(
@@ -241,7 +230,7 @@ fn work_claim<U: Search, E: Ledger, R: Wait, W: Watch>(
     ensures counted { OnOk result (share.old.amount < share.new.amount) }
     ensures ending { IfErr result (IsEndedBy team.now.checked.now.client) }
 {
-    match finish(team, claim.number.shard, &claim.kept, seat, share) {
+    match finish(team, claim.number().shard, claim.kept(), seat, share) {
         Ok(Some(finished)) => file(team, claim, finished, share),
         Ok(None) => Err(claim.into_violation()),
         Err(ending) => Err(claim.give_up(ending)),

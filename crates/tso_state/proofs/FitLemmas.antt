@@ -1,16 +1,24 @@
 -- Lists of calls and of counts, as the code goes over them.
-use Rattle.std.proofs.Common.{◌≡◌, ◌↔◌, ℕ, zero, suc, ◌-◌, ◌≤◌, true, false, IsTrue, nat_eq, nat_le, List, [], ◌∷◌, ◌++◌, length, take, drop, Some, slice_get, refl, sym, ap, subst, ◌∙◌, arith, length-append, length-drop}
+use Rattle.std.proofs.Common.{◌≡◌, ◌↔◌, ℕ, zero, suc, ◌-◌, ◌≤◌, true, false, IsTrue, nat_eq, nat_le, List, [], ◌∷◌, ◌++◌, length, take, drop, Option, None, Some, slice_get, refl, sym, ap, subst, ◌∙◌, arith, length-append, length-drop}
 use Rattle.std.specs.Prelude.{All}
 use Rattle.std.proofs.lemmas.Bool.{and_parts, and_from, false≢true, leb-true}
 use Rattle.std.proofs.lemmas.Bool.Decides.{nat_tests}
 use Rattle.std.proofs.Math.Seq.{take-append_seam}
+use Rattle.tso_flow.specs.Calls.{kind_of}
 use Rattle.tso_hist.specs.declared.call.Call.{Call}
+use Rattle.tso_line.specs.declared.instruction.CallKind.{CallKind}
+use Rattle.tso_line.specs.declared.instruction.CallKind.TheVariants.{Push, Pop}
+use Rattle.tso_machine.specs.declared.frame.Frame.{Frame}
 use Rattle.tso_machine.specs.Soundness.{are_within}
+use Rattle.tso_prog.specs.declared.answer.Answer.{Answer}
+use Rattle.tso_prog.specs.declared.answer.Answer.TheVariants.{Refused, Done, Value}
 use Rattle.tso_prog.specs.declared.client.Client.{Client}
 use Rattle.tso_state.specs.declared.state.Core.{Core}
-use Rattle.tso_state.specs.Fitting.{AreEarlierAnswered, CallFits, CoreFits, FrameFits}
-use Rattle.tso_state.specs.WellFormed.{IsAnswered, LastFits, last_call}
-use Rattle.tso_state.proofs.ViewLemmas.{running_procedure-append}
+use Rattle.tso_state.specs.declared.state.Core.TheVariants.{Idle, Running, Stopped}
+use Rattle.tso_state.specs.declared.state.Thread.{Thread}
+use Rattle.tso_state.specs.Fitting.{AreEarlierAnswered, CoreFits, ThreadFits}
+use Rattle.tso_state.specs.Stages.{CoreAtStage, ThreadAtStage, stage_by, stage_if, stage_of}
+use Rattle.tso_state.specs.WellFormed.{IsAnswerTo, IsAnswered, IsFrameOf, last_call}
 
 -- ---- tests and what they say
 
@@ -83,17 +91,54 @@ earlier_last calls cs c e = subst (λ xs. All IsAnswered cs ↔ AreEarlierAnswer
   λ h. subst (λ xs. All IsAnswered xs) (before_last cs c) h,
 )
 
-core_fits_appended : (k : Client) (core : Core) (cs : List Call) (c : Call) → CallFits k core c ↔ CoreFits k core (cs ++ c ∷ [])
-core_fits_appended k core cs c = (
-  λ h. record {
-    last = subst (λ o. LastFits core o) (sym (last_call-append cs c)) h.answer;
-    frame = subst (λ p. FrameFits k p core) (sym (running_procedure-append cs c)) h.frame;
-  },
-  λ h. record {
-    answer = subst (λ o. LastFits core o) (last_call-append cs c) h.last;
-    frame = subst (λ p. FrameFits k p core) (running_procedure-append cs c) h.frame;
-  },
-)
+-- ---- how far the last call has come
 
-pub core_fits_last : (k : Client) (core : Core) (calls cs : List Call) (c : Call) → calls ≡ cs ++ c ∷ [] → CallFits k core c ↔ CoreFits k core calls
-core_fits_last k core calls cs c e = subst (λ xs. CallFits k core c ↔ CoreFits k core xs) (sym e) (core_fits_appended k core cs c)
+same : {A : Type 0} → A ↔ A
+same = (λ a. a, λ a. a)
+
+idle_at_stage : (k : Client) (kind : CallKind) (answer : Option Answer) → CoreAtStage k (stage_by kind answer) Idle ↔ IsAnswerTo kind answer
+idle_at_stage k kind None = same
+idle_at_stage k kind (Some Refused) = same
+idle_at_stage k (Push v) (Some Done) = same
+idle_at_stage k Pop (Some Done) = same
+idle_at_stage k (Push v) (Some (Value w)) = same
+idle_at_stage k Pop (Some (Value w)) = same
+
+unanswered : {X : Type 0} (x : X) {P : Type 0} → Some x ≡ None → P
+unanswered x e = absurd (let h : Some x ≡ None = e in cc)
+
+running_at_stage : (k : Client) (f : Frame) (kind : CallKind) (answer : Option Answer) → CoreAtStage k (stage_by kind answer) (Running f) ↔ ((answer ≡ None) × IsFrameOf k (kind_of kind) f)
+running_at_stage k f kind None = (λ h. (refl, h), λ h. h.1)
+running_at_stage k f kind (Some Refused) = (λ h. absurd h, λ h. unanswered Refused h.0)
+running_at_stage k f (Push v) (Some Done) = (λ h. absurd h, λ h. unanswered Done h.0)
+running_at_stage k f Pop (Some Done) = (λ h. absurd h, λ h. unanswered Done h.0)
+running_at_stage k f (Push v) (Some (Value w)) = (λ h. absurd h, λ h. unanswered (Value w) h.0)
+running_at_stage k f Pop (Some (Value w)) = (λ h. absurd h, λ h. unanswered (Value w) h.0)
+
+stopped_at_stage : (k : Client) (kind : CallKind) (answer : Option Answer) → CoreAtStage k (stage_by kind answer) Stopped ↔ (answer ≡ None)
+stopped_at_stage k kind None = (λ h. refl, λ e. tt)
+stopped_at_stage k kind (Some Refused) = (λ h. absurd h, λ e. unanswered Refused e)
+stopped_at_stage k (Push v) (Some Done) = (λ h. absurd h, λ e. unanswered Done e)
+stopped_at_stage k Pop (Some Done) = (λ h. absurd h, λ e. unanswered Done e)
+stopped_at_stage k (Push v) (Some (Value w)) = (λ h. absurd h, λ e. unanswered (Value w) e)
+stopped_at_stage k Pop (Some (Value w)) = (λ h. absurd h, λ e. unanswered (Value w) e)
+
+core_at_stage : (k : Client) (core : Core) (calls : List Call) → CoreAtStage k (stage_of calls) core ↔ CoreFits k core calls
+core_at_stage k Idle [] = (λ h. record { last = tt; frame = tt }, λ h. tt)
+core_at_stage k (Running f) [] = (λ h. absurd h, λ h. absurd h.last)
+core_at_stage k Stopped [] = (λ h. absurd h, λ h. absurd h.last)
+core_at_stage k Idle (c ∷ []) = let e = idle_at_stage k c.kind c.answer in (λ h. record { last = e.0 h; frame = tt }, λ h. e.1 h.last)
+core_at_stage k (Running f) (c ∷ []) = let e = running_at_stage k f c.kind c.answer in (λ h. record { last = (e.0 h).0; frame = (e.0 h).1 }, λ h. e.1 (h.last, h.frame))
+core_at_stage k Stopped (c ∷ []) = let e = stopped_at_stage k c.kind c.answer in (λ h. record { last = e.0 h; frame = tt }, λ h. e.1 h.last)
+core_at_stage k core (c ∷ d ∷ rest) =
+    let e = core_at_stage k core (d ∷ rest) in
+    (λ h. let r = e.0 h in record { last = r.last; frame = r.frame }, λ h. e.1 (record { last = h.last; frame = h.frame }))
+
+-- a thread fits its calls where it fits the stage of the last of them
+pub stage_fits : (k : Client) (t : Thread) (calls : List Call) → ThreadAtStage k t (stage_of calls) ↔ ThreadFits k t calls
+stage_fits k t calls =
+    let e = core_at_stage k t.core calls in
+    (λ h. record { inside = h.inside; fit = e.0 h.core }, λ h. record { inside = h.inside; core = e.1 h.fit })
+
+pub stage_last : (calls cs : List Call) (c : Call) → calls ≡ cs ++ c ∷ [] → stage_of calls ≡ stage_by c.kind c.answer
+stage_last calls cs c e = ap stage_of e ∙ ap stage_if (last_call-append cs c)

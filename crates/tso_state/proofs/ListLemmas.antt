@@ -12,7 +12,7 @@ use Rattle.tso_state.specs.declared.state.Core.{Core}
 use Rattle.tso_state.specs.declared.state.Core.TheVariants.{Idle, Running, Stopped}
 use Rattle.tso_state.specs.declared.state.State.{State}
 use Rattle.tso_state.specs.declared.state.Thread.{Thread}
-use Rattle.tso_state.specs.Fitting.{FitsAt, FrameFits, HasLengths, HistoryFits, IsNumbered, ListsFit, PrologueFits, SeenFits, ThreadFits, ThreadsFit}
+use Rattle.tso_state.specs.Fitting.{FitsAt, FrameFits, HasLengths, HistoryFits, IsNumbered, ListsFit, PartsFit, PrologueFits, SeenFits, ThreadFits, ThreadsFit}
 use Rattle.tso_state.specs.Views.{running_procedure}
 use Rattle.tso_state.specs.WellFormed.{HasStarted, IsAnswered, IsCallAt, IsClientsCall, IsFrameOf, IsThreadAt, IsWellFormed, LastFits, calls_by, last_call, thread_total}
 
@@ -56,7 +56,7 @@ module _ (c : Client) (s : State) where
     threads_at i (Some t) None lt e f = let past = none_past s.history i f in absurd (omega (arith, past, lt, w.sizes.history))
     threads_at i (Some t) (Some calls) lt e f = inside i t calls e (get_or_from_slice_get s.history i calls [] f)
 
-    pub threads_of : ThreadsFit c s
+    threads_of : ThreadsFit c s
     threads_of i lt = threads_at i (slice_get s.threads i) (slice_get s.history i) lt refl refl
 
     seen_of : SeenFits s.history (thread_total c)
@@ -77,8 +77,8 @@ module _ (c : Client) (s : State) where
               subst (λ x. IsAnswered x) (sym (get_or-take (length calls - 1) calls k d below)) (w.earlier i k (get_or calls k d) here more));
         }
 
-    pub history_of : HistoryFits c s.history
-    history_of = record { lists = lists_of; seen = seen_of }
+    pub parts_of : PartsFit c s
+    parts_of = record { lengths = record { memory = w.sizes.memory; threads = w.sizes.threads; history = w.sizes.history }; history = record { lists = lists_of; seen = seen_of }; threads = threads_of }
 
     pub prologue_of : PrologueFits c s
     prologue_of some i lt started = w.prologue some i started.other started.started

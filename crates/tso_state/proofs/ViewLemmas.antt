@@ -1,5 +1,5 @@
 -- What the model sees of a state whose threads and calls are read or replaced.
-use Rattle.std.proofs.Common.{◌≡◌, ℕ, zero, suc, ◌-◌, ◌<◌, ◌≤◌, List, [], ◌∷◌, ◌++◌, ◌∙◌, length, map, None, slice_get, slice_set, slice_index_or, unwrap_or, refl, sym, ap, arith}
+use Rattle.std.proofs.Common.{◌≡◌, ℕ, zero, suc, ◌-◌, ◌<◌, ◌≤◌, List, [], ◌∷◌, ◌∙◌, length, map, None, slice_get, slice_set, slice_index_or, unwrap_or, refl, sym, ap, arith}
 use Rattle.std.specs.Option.{option_map}
 use Rattle.std.proofs.Math.ListN.{get_or-map}
 use Rattle.std.proofs.lemmas.List.{length-map, map-set}
@@ -80,8 +80,3 @@ running_procedure-last (x ∷ []) c some e = ap (λ (k : Call). kind_of k.kind) 
 running_procedure-last (x ∷ y ∷ rest) c some e =
     let shift : length (x ∷ y ∷ rest) - 1 ≡ suc (length (y ∷ rest) - 1) = omega arith in
     running_procedure-last (y ∷ rest) c (omega arith) (e ∙ ap (λ k. slice_index_or (x ∷ y ∷ rest) k c) shift)
-
-pub running_procedure-append : (cs : List Call) (c : Call) → running_procedure (cs ++ c ∷ []) ≡ kind_of c.kind
-running_procedure-append [] c = refl
-running_procedure-append (b ∷ []) c = refl
-running_procedure-append (b ∷ d ∷ cs) c = running_procedure-append (d ∷ cs) c

@@ -1,6 +1,5 @@
 -- The list of a well-formed state as it is asked: of its history, of each thread with its last call, and of the prologue.
 use Rattle.std.specs.Prelude.{◌≡◌, ◌≢◌, ℕ, ◌-◌, ◌<◌, ◌≤◌, List, [], length, take, Option, Some, None, slice_get, slice_index_or, All, if◌then◌else◌}
-use Rattle.tso_flow.specs.Calls.{kind_of}
 use Rattle.tso_flow.specs.declared.location.ProcedureKind.{ProcedureKind}
 use Rattle.tso_hist.specs.declared.call.Call.{Call}
 use Rattle.tso_line.specs.declared.instruction.CallKind.{CallKind}
@@ -43,11 +42,6 @@ FrameFits c procedure Stopped = Unit {0}
 pub record CoreFits (c : Client) (core : Core) (calls : List Call) : Type 0 where
   pub last : LastFits core (last_call calls)
   pub frame : FrameFits c (running_procedure calls) core
-
--- the last of the calls fits the core
-pub record CallFits (c : Client) (core : Core) (last : Call) : Type 0 where
-  pub answer : LastFits core (Some last)
-  pub frame : FrameFits c (kind_of last.kind) core
 
 -- these are calls of thread i
 pub record AreTheThreads (c : Client) (i : ℕ) (calls : List Call) : Type 0 where
@@ -93,6 +87,12 @@ pub record HasLengths (c : Client) (s : State) : Type 0 where
   pub memory : length s.memory ≡ word_count c
   pub threads : length s.threads ≡ thread_total c
   pub history : length s.history ≡ thread_total c
+
+-- all of the list but what it says of the prologue
+pub record PartsFit (c : Client) (s : State) : Type 0 where
+  pub lengths : HasLengths c s
+  pub history : HistoryFits c s.history
+  pub threads : ThreadsFit c s
 
 -- it has started, and is not thread j
 pub record IsOtherStarted (s : State) (j i : ℕ) : Type 0 where

@@ -8,5 +8,6 @@ pub mod Initial
 pub mod Laws
 pub mod Order
 pub mod Rising
+pub mod Stages
 pub mod Views
 pub mod WellFormed

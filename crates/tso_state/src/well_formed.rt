@@ -1,12 +1,13 @@
 //! Which states are well-formed: all that a single state shows of having been reached.
 ghost use Rattle.std.specs.Prelude.{◌≡◌, ◌↔◌, ◌<◌, ◌≤◌, length, sum_by, All, IsTrue, slice_get, slice_index_or, []};
-ghost use Rattle.tso_flow.specs.Calls.{kind_of};
 ghost use Rattle.tso_machine.specs.Places.{first_memory};
 ghost use Rattle.tso_machine.specs.Soundness.{are_within, back_bounds, bounds_in};
-ghost use Rattle.tso_state.specs.Fitting.{AreEarlierAnswered, AreInside, AreNumbered, AreTheThreads, CallFits, CoreFits, FitsAt, HasLengths, HaveAllSeenAtMost, HaveSeenAtMost, HistoryFits, IsNumbered, IsOtherStarted, ListsFit, NoneHasStarted, PrologueFits, SeenFits, SeesAtMost, ThreadFits, ThreadsFit, back_bound};
+ghost use Rattle.tso_state.specs.Fitting.{AreEarlierAnswered, AreInside, AreNumbered, AreTheThreads, FitsAt, HasLengths, HaveAllSeenAtMost, HaveSeenAtMost, HistoryFits, IsNumbered, IsOtherStarted, ListsFit, NoneHasStarted, PartsFit, PrologueFits, SeenFits, SeesAtMost, ThreadFits, ThreadsFit, back_bound};
 ghost use Rattle.tso_state.specs.Initial.{idle_thread};
+ghost use Rattle.tso_state.specs.Stages.{CoreAtStage, ThreadAtStage, stage_by, stage_of};
 ghost use Rattle.tso_state.specs.WellFormed.{HasStarted, IsAnswered, IsFrameOf, IsPrologueOver, IsWellFormed, answered_count, client_calls, thread_total, word_count};
 
+use crate::stage::Stage;
 use crate::state::{Core, Thread};
 use crate::viewed::{Viewed, begun_calls};
 use tso_flow::{Checked, ProcedureKind};
@@ -113,26 +114,47 @@ fn is_frame_of(client: &Client, procedure: ProcedureKind, frame: &Frame) -> bool
     frame.pc < steps.len() && are_within(frame.taken.as_slice(), steps)
 }
 
-// Whether the last call of a thread is as its core says.
-fn call_fits(client: &Client, core: &Core, last: &Call) -> bool
-    ensures { IsTrue result ↔ CallFits client.now core.now last.now }
+// How far a call has come.
+fn stage_of_call(call: &Call) -> Stage
+    ensures { result ≡ stage_by call.now.kind call.now.answer }
 {
-    match core {
-        Core::Idle => is_answered(last),
-        Core::Running(frame) => {
-            last.answer.is_none() && is_frame_of(client, ProcedureKind::from(last.kind), frame)
-        }
-        Core::Stopped => last.answer.is_none(),
+    match call.answer {
+        None => Stage::Pending(ProcedureKind::from(call.kind)),
+        Some(Answer::Refused) => Stage::Answered,
+        Some(Answer::Done) => match call.kind {
+            CallKind::Push(_) => Stage::Answered,
+            CallKind::Pop => Stage::Misanswered,
+        },
+        Some(Answer::Value(_)) => match call.kind {
+            CallKind::Push(_) => Stage::Misanswered,
+            CallKind::Pop => Stage::Answered,
+        },
     }
 }
 
-// Whether the last call of a thread, if it has begun one, is as its core says.
-fn core_fits(client: &Client, core: &Core, calls: &[Call]) -> bool
-    ensures { IsTrue result ↔ CoreFits client.now core.now calls.now }
+/// How far the last of these calls has come.
+pub fn stage_of(calls: &[Call]) -> Stage
+    ensures { result ≡ stage_of calls.now }
 {
     match calls.split_last() {
-        Some((last, _)) => call_fits(client, core, last),
-        None => matches!(core, Core::Idle),
+        Some((last, _)) => stage_of_call(last),
+        None => Stage::NotBegun,
+    }
+}
+
+// Whether a core is as the client lets it be, where the last call of its thread has come so far.
+fn core_at_stage(client: &Client, core: &Core, stage: Stage) -> bool
+    ensures { IsTrue result ↔ CoreAtStage client.now stage core.now }
+{
+    match stage {
+        Stage::NotBegun => matches!(core, Core::Idle),
+        Stage::Answered => matches!(core, Core::Idle),
+        Stage::Pending(procedure) => match core {
+            Core::Idle => false,
+            Core::Running(frame) => is_frame_of(client, procedure, frame),
+            Core::Stopped => true,
+        },
+        Stage::Misanswered => false,
     }
 }
 
@@ -233,12 +255,37 @@ pub fn history_fits(checked: &Checked, history: &History) -> bool
     lists_fit(client, width, history) && seen_fits(history, width)
 }
 
+// Whether a thread is as the client, whose memory has so many words, lets it be, where its last call has come so far.
+fn at_stage_among(client: &Client, words: usize, thread: &Thread, stage: Stage) -> bool
+    requires { words ≡ word_count client.now }
+    ensures { IsTrue result ↔ ThreadAtStage client.now thread.now stage }
+{
+    are_inside(words, thread.buffer.as_slice()) && core_at_stage(client, &thread.core, stage)
+}
+
+/// Whether a thread is as in a well-formed state of the client, where its last call has come so far, as both alone tell it: what is
+/// buffered is inside the memory, and its core and the call fit each other.
+pub fn thread_at_stage(checked: &Checked, thread: &Thread, stage: Stage) -> bool
+    ensures { IsTrue result ↔ ThreadAtStage checked.now.client thread.now stage }
+{
+    let client = &checked.client;
+    let words = count_words(client.arrays.as_slice());
+    at_stage_among(client, words, thread, stage)
+}
+
+/// Whether a memory has as many words as the client's.
+pub fn has_words(checked: &Checked, memory: &[u64]) -> bool
+    ensures { IsTrue result ↔ (length memory.now ≡ word_count checked.now.client) }
+{
+    memory.len() == count_words(checked.client.arrays.as_slice())
+}
+
 // Whether a thread and its last call are as the client, whose memory has so many words, lets them be.
 fn thread_fits(client: &Client, words: usize, thread: &Thread, calls: &[Call]) -> bool
     requires { words ≡ word_count client.now }
     ensures { IsTrue result ↔ ThreadFits client.now thread.now calls.now }
 {
-    are_inside(words, thread.buffer.as_slice()) && core_fits(client, &thread.core, calls)
+    at_stage_among(client, words, thread, stage_of(calls))
 }
 
 fn fits_at<S: Viewed>(client: &Client, words: usize, state: &S, number: usize) -> bool
@@ -336,30 +383,38 @@ fn has_lengths<S: Viewed>(client: &Client, words: usize, state: &S) -> bool
     state.memory().len() == words && state.thread_count() == width && state.history_count() == width
 }
 
-/// Whether a state is well-formed for the client, where it is known whether its history is as one of such a state. It is asked of any
-/// state, whatever its parts are, and takes no memory.
-pub fn is_well_formed_given<S: Viewed>(checked: &Checked, state: &S, fits: bool) -> bool
-    requires { IsTrue fits ↔ HistoryFits checked.now.client (S.state state.now).history }
-    ensures { IsTrue result ↔ IsWellFormed checked.now.client (S.state state.now) }
+/// Whether the memory, the history and each thread with its last call are as in a well-formed state of the client, as far as each
+/// alone tells it. It takes no memory.
+pub fn parts_fit<S: Viewed>(checked: &Checked, state: &S) -> bool
+    ensures { IsTrue result ↔ PartsFit checked.now.client (S.state state.now) }
 {
     let client = &checked.client;
     let words = count_words(client.arrays.as_slice());
     if !has_lengths(client, words, state) {
         return false;
     }
+    if !history_fits(checked, state.history()) {
+        return false;
+    }
+    threads_fit(client, words, state)
+}
+
+/// Whether a state is well-formed for the client, where it is known whether its parts are as those of one (`parts_fit`). It is asked of
+/// any state, whatever its parts are, and takes no memory.
+pub fn is_well_formed_given<S: Viewed>(checked: &Checked, state: &S, fits: bool) -> bool
+    requires { IsTrue fits ↔ PartsFit checked.now.client (S.state state.now) }
+    ensures { IsTrue result ↔ IsWellFormed checked.now.client (S.state state.now) }
+{
     if !fits {
         return false;
     }
-    if !threads_fit(client, words, state) {
-        return false;
-    }
-    prologue_fits(client, state)
+    prologue_fits(&checked.client, state)
 }
 
 /// Whether the state is well-formed for the client. It is asked of any state, whatever its parts are, and takes no memory.
 pub fn is_well_formed<S: Viewed>(checked: &Checked, state: &S) -> bool
     ensures { IsTrue result ↔ IsWellFormed checked.now.client (S.state state.now) }
 {
-    let fits = history_fits(checked, state.history());
+    let fits = parts_fit(checked, state);
     is_well_formed_given(checked, state, fits)
 }

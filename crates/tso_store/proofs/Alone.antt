@@ -33,6 +33,16 @@ use Rattle.tso_store.proofs.Performed.{next_move}
 use Rattle.tso_keys.proofs.Rows.{none_at, number_at}
 use Rattle.tso_keys.proofs.StateLemmas.{state_got, state_none}
 
+-- what goes first alone is the step's own kind
+pub kind_is : (o : Option StepKind) (kind : StepKind) → lone_of o ≡ Some kind → o ≡ Some kind
+kind_is None kind e = e
+kind_is (Some kinds.Local) kind e = e
+kind_is (Some kinds.Return) kind e = e
+kind_is (Some kinds.Call) kind e = absurd (let h : None ≡ Some kind = e in cc)
+kind_is (Some (kinds.Load place)) kind e = absurd (let h : None ≡ Some kind = e in cc)
+kind_is (Some (kinds.Drain place)) kind e = absurd (let h : None ≡ Some kind = e in cc)
+kind_is (Some (kinds.Locked place)) kind e = absurd (let h : None ≡ Some kind = e in cc)
+
 -- ---- a core that runs no call
 
 rest_core : (p : Program Activation) (call : Option CallKind) (name : ProcedureKind) (core : Core) (b : Buffer) → is_running core ≡ false → lone_of (option_map kind_of_move (core_move p call (core_view name core) b)) ≡ None

@@ -352,7 +352,7 @@ impl<'a> Store<'a> {
         standings_of(alloc, &self.parts, &self.keys)
     }
 
-    /// For each state whether its history fits the client, which is asked once for each history.
+    /// For each state whether its parts fit the client, which is told by what is asked once of each part.
     ///
     /// Errors: where a growth was refused.
     pub fn forms(&self, alloc: Global) -> Result<Forms<'_>, AllocError>

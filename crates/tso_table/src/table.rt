@@ -135,13 +135,6 @@ impl<'a> Table<'a> {
         Ok(Some(Kept { state, actors }))
     }
 
-    /// The states by their places, in the store in which they are kept.
-    pub fn states(&self) -> &Store<'a>
-        ensures { (result.now.client ≡ self.now.client) × (result.now.states ≡ self.now.rows.states) }
-    {
-        &self.store
-    }
-
     /// Gives a state its place, with the actors that lead to it. True where it is new, which it may be only where `room` says so;
     /// it waits then. What is new of it is copied.
     ///

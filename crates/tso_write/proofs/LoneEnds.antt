@@ -25,6 +25,7 @@ use Rattle.tso_state.proofs.ClientLemmas.{calls_of-width}
 use Rattle.tso_state.specs.declared.actor.Actor.{Actor}
 use Rattle.tso_state.specs.declared.actor.Actor.TheVariants.{Exec}
 use Rattle.tso_state.specs.declared.state.State.{State}
+use Rattle.tso_store.proofs.Alone.{kind_is}
 use Rattle.tso_store.specs.Lone.{IsFirstLoneCore, IsLoneAt, lone_of}
 use Rattle.tso_store.specs.declared.lone.Lone.{Lone}
 
@@ -52,15 +53,6 @@ one_below k (suc n) lt = elim (cases_lt k n) [
 ]
 
 -- ---- its reasons
-
-kind_is : (o : Option StepKind) (kind : StepKind) → lone_of o ≡ Some kind → o ≡ Some kind
-kind_is None kind e = e
-kind_is (Some kinds.Local) kind e = e
-kind_is (Some kinds.Return) kind e = e
-kind_is (Some kinds.Call) kind e = absurd (let h : None ≡ Some kind = e in cc)
-kind_is (Some (kinds.Load place)) kind e = absurd (let h : None ≡ Some kind = e in cc)
-kind_is (Some (kinds.Drain place)) kind e = absurd (let h : None ≡ Some kind = e in cc)
-kind_is (Some (kinds.Locked place)) kind e = absurd (let h : None ≡ Some kind = e in cc)
 
 local_reasons : (c : Client) (t : Table) (s : State) (chosen : List Actor) (i n : ℕ) → reasons_below c t s chosen kinds.Local i n ≡ reasons_but reasons.Own i n
 local_reasons c t s chosen i zero = refl
