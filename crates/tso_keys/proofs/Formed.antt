@@ -53,9 +53,6 @@ module _ {X Y : Type 0} (Is : X → Y → Type 0) where
 
 -- ---- rows of threads
 
-both : {A B C D : Type 0} → A ↔ C → B ↔ D → (A × B) ↔ (C × D)
-both one two = (λ p. (one.0 p.0, two.0 p.1), λ p. (one.1 p.0, two.1 p.1))
-
 and_both : (a b : Bool) {C D : Type 0} → IsTrue a ↔ C → IsTrue b ↔ D → IsTrue (a && b) ↔ (C × D)
 and_both a b one two = (λ h. let (p, q) = and_parts a b h in (one.0 p, two.0 q), λ p. and_from a b (one.1 p.0) (two.1 p.1))
 

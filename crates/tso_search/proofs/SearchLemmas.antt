@@ -27,7 +27,6 @@ use Rattle.tso_search.specs.declared.stop.Stop.{Stop}
 use Rattle.tso_search.specs.declared.stop.Stop.TheVariants as stops
 use Rattle.tso_search.specs.declared.origin.Origin.{Origin}
 use Rattle.tso_fifo.specs.Orders.{HasOrder}
-use Rattle.tso_flow.specs.Calls.{as_thread}
 use Rattle.tso_flow.specs.Faults.{HasNoFault}
 use Rattle.tso_foot.specs.declared.table.Table.{Table}
 use Rattle.tso_rec.specs.Conditions.{HasNoStopped, IsKeptAfter, IsOver}
@@ -38,9 +37,10 @@ use Rattle.tso_parts.proofs.Distinct.{grown_extends}
 use Rattle.tso_parts.proofs.Marked.{new_item, of_longer, old_item}
 use Rattle.tso_parts.specs.Numbers.{Extends, IsNumbered, grown}
 use Rattle.tso_prog.specs.declared.client.Client.{Client}
+use Rattle.tso_state.proofs.ClientLemmas.{few_threads}
 use Rattle.tso_state.specs.Actors.{actor_of}
 use Rattle.tso_state.specs.Views.{state_of}
-use Rattle.tso_state.specs.WellFormed.{IsWellFormed, thread_total}
+use Rattle.tso_state.specs.WellFormed.{IsWellFormed}
 use Rattle.tso_state.specs.declared.actor.Actor.{Actor}
 use Rattle.tso_state.specs.declared.state.State.{State}
 use Rattle.tso_store.specs.Sheets.{CanStep, IsKeptSuccessor, IsSuccessor, IsSuccessorOrNone, Sheet}
@@ -154,14 +154,6 @@ enabled_by f k (Some m) e = refl
 true-false : (x : Bool) → x ≡ true → x ≡ false → ⊥
 true-false true e f = let clash : true ≡ false = f in cc
 true-false false e f = let clash : false ≡ true = e in cc
-
--- a client has at most five threads
-pub few_threads : (c : Client) → thread_total c ≤ 5
-few_threads c = by c.prologue (length-append c.threads (as_thread c.prologue)) c.few_threads
-  where
-    by : (calls : List _) → length (c.threads ++ as_thread calls) ≡ length c.threads + length (as_thread calls) → length c.threads ≤ 4 → length (c.threads ++ as_thread calls) ≤ 5
-    by [] e few = omega (arith, e, few)
-    by (call ∷ calls) e few = omega (arith, e, few)
 
 enabled_has : (c : Client) (s : State) (a : Actor) → IsTrue (is_enabled c s a) → HasStep c s a
 enabled_has c s a e = enabled_by (model.perform (state_of s) (model.thread_of (actor_of a))) kind_of_move (model.move (program_of c) (state_of s) (actor_of a)) e

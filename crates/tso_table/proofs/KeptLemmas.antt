@@ -1,5 +1,5 @@
 -- States with the actors that lead to them go on by one step.
-use Rattle.std.proofs.Common.{◌≡◌, ◌∙◌, inl, inr, ℕ, ◌+◌, ◌<◌, ◌≤◌, ◌++◌, ◌∷◌, [], List, length, length-append, map, Option, Some, slice_get, refl, sym, ap, subst, arith}
+use Rattle.std.proofs.Common.{◌≡◌, ◌∙◌, inl, inr, ℕ, ◌<◌, ◌++◌, ◌∷◌, [], List, length, map, Option, refl, sym, ap, subst, arith}
 use Rattle.std.specs.Prelude.{IsSome}
 use Rattle.std.proofs.lemmas.Bool.{cases_lt}
 use Rattle.std.proofs.lemmas.List.{map-append}
@@ -9,28 +9,19 @@ use Rattle.tso_choose.specs.Sets.{actor_at}
 use Rattle.tso_compact.proofs.PathLemmas.{initial_is_plausible, steps_stay_plausible}
 use Rattle.tso_compact.specs.Laws.{initial_of}
 use Rattle.tso_compact.specs.Plans.{HasStep, IsStep}
-use Rattle.tso_flow.specs.Calls.{as_thread}
 use Rattle.tso_flow.specs.Faults.{HasNoFault}
 use Rattle.tso_machine.specs.Programs.{program_of}
 use Rattle.tso_model.proofs.Reduce.{steps_append}
 use Rattle.tso_model.specs.Steps as model
 use Rattle.tso_prog.specs.declared.client.Client.{Client}
+use Rattle.tso_state.proofs.ClientLemmas.{few_threads}
 use Rattle.tso_state.specs.Actors.{actor_of, number_of, thread_of}
 use Rattle.tso_state.specs.Views.{state_of}
-use Rattle.tso_state.specs.WellFormed.{thread_total}
 use Rattle.tso_state.specs.declared.actor.Actor.{Actor}
 use Rattle.tso_state.specs.declared.state.State.{State}
 use Rattle.tso_store.proofs.Performed.{no_thread}
 use Rattle.tso_table.specs.Leading.{IsKept, actors_of}
 use Rattle.tso_table.specs.declared.kept.Kept.{Kept}
-
--- a client has at most five threads
-few_threads : (c : Client) → thread_total c ≤ 5
-few_threads c = by c.prologue (length-append c.threads (as_thread c.prologue)) c.few_threads
-  where
-    by : (calls : List _) → length (c.threads ++ as_thread calls) ≡ length c.threads + length (as_thread calls) → length c.threads ≤ 4 → length (c.threads ++ as_thread calls) ≤ 5
-    by [] e few = omega (arith, e, few)
-    by (call ∷ calls) e few = omega (arith, e, few)
 
 has_step : (c : Client) (s t : State) (a : Actor) → IsStep c s a t → HasStep c s a
 has_step c s t a e = subst (λ (o : Option _). IsSome o) (sym e) refl

@@ -1,15 +1,15 @@
 -- What each call of one thread makes, and how the slots change.
 use Rattle.std.proofs.Common.{◌≡◌, ◌∙◌, ℕ, zero, suc, ◌+◌, ◌≤◌, ◌++◌, ◌∷◌, true, false, List, [], length, length-append, Option, Some, None, position, slice_get, refl, sym, ap, arith}
-use Rattle.std.specs.Prelude.{slice_set, sum_by}
+use Rattle.std.specs.Prelude.{slice_set}
 use Rattle.std.specs.List.{fold}
 use Rattle.std.proofs.lemmas.List.Sums.{fold-append, sum_by-set, sum_by_more_le}
 use Rattle.std.proofs.lemmas.Option.{get_or_from_slice_get, none-some, slice_get_within}
-use Rattle.std.specs.Prelude.{slice_index_or, take}
+use Rattle.std.specs.Prelude.{slice_index_or}
 use Rattle.tso_parts.proofs.Finding.{found_at}
 use Rattle.tso_parts.specs.Numbers.{IsNowhere, IsNumbered}
 use Rattle.tso_state.specs.declared.state.State.{State}
 use Rattle.tso_table.proofs.StateLemmas.{none_by, some_by, state_exact}
-use Rattle.tso_table.specs.OneThread.{Call, Makes, Replays, Reply, Rows, advance, are_there, claim, claim_at, filed, finish, finish_at, intern, intern_at, is_same, is_this, logged, no_rows, placed, replay, taken, with_slot}
+use Rattle.tso_table.specs.OneThread.{Call, Makes, Replays, Reply, Rows, advance, are_there, claim, claim_at, filed, finish, finish_at, intern, intern_at, is_same, is_this, logged, no_rows, placed, taken, with_slot}
 use Rattle.tso_table.specs.Sheets.{one_if_open, open_count}
 use Rattle.tso_table.specs.declared.slot.Filed.{Filed}
 use Rattle.tso_table.specs.declared.slot.Near.{Near}

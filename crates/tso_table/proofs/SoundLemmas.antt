@@ -1,7 +1,5 @@
 -- Each call keeps a table sound.
-use Rattle.std.proofs.Common.{◌≡◌, ◌∙◌, ℕ, ◌+◌, ◌<◌, ◌≤◌, ◌^◌, ◌++◌, ◌∷◌, true, List, [], length, length-append, length-set, Option, Some, None, slice_get, refl, sym, ap, subst, arith}
-use Rattle.std.specs.Prelude.{All}
-use Rattle.std.specs.List.{list_all}
+use Rattle.std.proofs.Common.{◌≡◌, ◌∙◌, ℕ, ◌+◌, ◌<◌, ◌≤◌, ◌^◌, ◌++◌, ◌∷◌, true, List, [], length, length-append, length-set, Some, None, slice_get, refl, sym, ap, subst, arith}
 use Rattle.std.proofs.lemmas.List.Sums.{AllPass-from_list_all}
 use Rattle.std.proofs.lemmas.Option.{same_Some, slice_get_within}
 use Rattle.tso_foot.specs.declared.table.Table.{Table}
@@ -16,7 +14,6 @@ use Rattle.tso_table.specs.Leading.{IsKept, shard_of}
 use Rattle.tso_table.specs.OneThread.{Call, Makes, Reply, Rows, are_there, claim, claim_at, filed, finish, intern, is_this, no_rows, placed, taken, with_slot}
 use Rattle.tso_table.specs.Sheets.{IsDone, IsKeptIn, IsSound, one_if_open, open_count}
 use Rattle.tso_table.specs.declared.kept.Kept.{Kept}
-use Rattle.tso_table.specs.declared.number.Number.{Number}
 use Rattle.tso_table.specs.declared.slot.Filed.{Filed}
 use Rattle.tso_table.specs.declared.slot.Near.{Near}
 use Rattle.tso_table.specs.declared.slot.Slot.{Slot}

@@ -1,4 +1,4 @@
-use Rattle.std.proofs.Common.{List, length, Some, refl, sym}
+use Rattle.std.proofs.Common.{List, length, refl, sym}
 use Rattle.tso_hist.specs.declared.call.Call.{Call}
 use Rattle.tso_table.proofs.SumLemmas.{below_16, sum_on}
 use Rattle.tso_table.proofs.number.count_of_calls.Goals as goal

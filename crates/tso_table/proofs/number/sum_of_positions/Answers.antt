@@ -1,4 +1,4 @@
-use Rattle.std.proofs.Common.{ℕ, ◌+◌, ap, ◌%◌, Some, sym}
+use Rattle.std.proofs.Common.{ℕ, ◌+◌, ap, ◌%◌, sym}
 use Rattle.tso_state.specs.declared.state.Thread.{Thread}
 use Rattle.tso_table.specs.Leading.{position_of}
 use Rattle.tso_table.proofs.SumLemmas.{below_16, sum_on}

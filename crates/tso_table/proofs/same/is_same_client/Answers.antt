@@ -1,4 +1,4 @@
-use Rattle.std.proofs.Common.{◌≡◌, false, subst}
+use Rattle.std.proofs.Common.{◌≡◌, subst}
 use Rattle.tso_client.proofs.OneText.{same_client}
 use Rattle.tso_client.proofs.Reordered.{clients_cover_themselves}
 use Rattle.tso_client.specs.Clients.{ClientCovers}

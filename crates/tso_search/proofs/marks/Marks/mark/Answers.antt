@@ -1,4 +1,3 @@
-use Rattle.std.proofs.Common.{sym, subst, Vec, Global, Bool, List}
 use Rattle.tso_search.proofs.MarkLemmas.{marked_too}
 use Rattle.tso_search.proofs.marks.Marks.mark.Goals as goal
 
