@@ -7,7 +7,7 @@ use Rattle.tso_state.specs.Fitting.{HistoryFits, PartsFit}
 use Rattle.tso_state.specs.Stages.{ThreadAtStage, stage_of}
 use Rattle.tso_state.specs.WellFormed.{word_count}
 use Rattle.tso_state.specs.declared.stage.Stage.{Stage}
-use Rattle.tso_state.specs.declared.stage.Stage.TheVariants.{NotBegun, Answered, Pending, Misanswered}
+use Rattle.tso_state.specs.declared.stage.Stage.TheVariants.{Over, Pending, Misanswered}
 use Rattle.tso_state.specs.declared.state.State.{State}
 use Rattle.tso_state.specs.declared.state.Thread.{Thread}
 use Rattle.tso_keys.specs.declared.forms.HistoryForm.{HistoryForm}
@@ -34,8 +34,7 @@ pub record IsHistoryForm (c : Client) (h : List (List Call)) (form : HistoryForm
 
 -- whether a thread may be at this stage of its last call
 abbrev pub allows : ThreadForm → Stage → Bool
-allows form NotBegun = form.not_begun
-allows form Answered = form.answered
+allows form Over = form.over
 allows form (Pending procedures.Push) = form.push
 allows form (Pending procedures.Pop) = form.pop
 allows form Misanswered = false

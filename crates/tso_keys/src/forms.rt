@@ -25,8 +25,7 @@ pub struct HistoryForm {
 /// Whether a thread is as the client lets it be (`thread_at_stage`), for each stage of its last call.
 #[derive(Clone, Copy)]
 pub struct ThreadForm {
-    pub not_begun: bool,
-    pub answered: bool,
+    pub over: bool,
     pub push: bool,
     pub pop: bool,
 }
@@ -55,8 +54,7 @@ fn allows(form: ThreadForm, stage: Stage) -> bool
     ensures { result ≡ allows form stage }
 {
     match stage {
-        Stage::NotBegun => form.not_begun,
-        Stage::Answered => form.answered,
+        Stage::Over => form.over,
         Stage::Pending(procedure) => match procedure {
             ProcedureKind::Push => form.push,
             ProcedureKind::Pop => form.pop,
@@ -166,8 +164,7 @@ fn thread_form(checked: &Checked, thread: &Thread) -> ThreadForm
     let push = Stage::Pending(ProcedureKind::Push);
     let pop = Stage::Pending(ProcedureKind::Pop);
     ThreadForm {
-        not_begun: thread_at_stage(checked, thread, Stage::NotBegun),
-        answered: thread_at_stage(checked, thread, Stage::Answered),
+        over: thread_at_stage(checked, thread, Stage::Over),
         push: thread_at_stage(checked, thread, push),
         pop: thread_at_stage(checked, thread, pop),
     }

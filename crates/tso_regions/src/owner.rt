@@ -8,6 +8,13 @@ use tso_hist::{Call, History};
 use tso_list::Seq;
 use tso_prog::CallKind;
 
+/// One of so many owners.
+#[derive(Clone, Copy, PartialEq, Eq)]
+pub struct Owner {
+    pub number: u64,
+    pub count: u64,
+}
+
 // A residue with another word.
 fn with_word(residue: u64, word: u64) -> u64
     ensures { result ≡ with_word residue word }

@@ -1,19 +1,22 @@
 //! States on their way to their owner.
 
-ghost use Rattle.std.specs.Prelude.{◌≡◌, ◌<◌, ◌^◌, [], IfOk, IfSome, None, Ok, OnErr, Some, length, slice_get};
+ghost use Rattle.std.specs.Prelude.{◌≡◌, ◌<◌, ◌^◌, [], IfOk, IfSome, None, Ok, OnErr, Some, length, map, slice_get};
 ghost use Rattle.tso_parts.specs.Numbers.{Extends};
 ghost use Rattle.tso_regions.specs.Regions.{AreSound, IsSound};
 ghost use Rattle.tso_prog.specs.declared.client.Client.{Client};
 ghost use Rattle.tso_state.specs.declared.state.State.{State as StateValue};
-ghost use Rattle.tso_keys.specs.Keys.{FitsClient};
+ghost use Rattle.tso_keys.specs.Keys.{AreSomeones, FitsClient, states_at};
+ghost use Rattle.tso_regions.specs.Gathering.{belongs, owned_below};
+ghost use Rattle.tso_regions.specs.Owners.{owner_of};
 
 use crate::halt::Halt;
-use crate::owner::owners_of;
+use crate::owner::{Owner, owners_of};
 use crate::realm::Realm;
 use std::alloc::{AllocError, Global};
 use std::marker::{Model, PhantomData};
 use tso_flow::Checked;
-use tso_keys::View;
+use tso_keys::{Key, Parts, View};
+use tso_parts::Pool;
 use tso_store::{AddError, Store};
 
 /// States on their way to their owner. All are met, and the runs to each are good.
@@ -82,6 +85,41 @@ fn count_of(store: &Store<'_>) -> u32
     u32::try_from(store.len()).unwrap_or(u32::MAX)
 }
 
+// Whether a state belongs to this owner, where these are the owners of histories.
+fn belongs_to(keys: &Pool<Key>, owners: &[u64], number: u32, owner: u64) -> bool
+    ensures { result ≡ belongs owners.now owner (slice_get keys.now number) }
+{
+    let Some(key) = keys.get(number) else {
+        return false;
+    };
+    match owners.get(key.history as usize) {
+        Some(found) => *found == owner,
+        None => false,
+    }
+}
+
+// The numbers of the states of these parts and keys that belong to this owner, where these are the owners of the histories.
+fn own_numbers(
+    alloc: Global,
+    parts: &Parts,
+    keys: &Pool<Key>,
+    owners: &[u64],
+    owner: Owner,
+) -> Result<Vec<u32>, AllocError>
+    requires kept { AreSomeones parts.now keys.now }
+    requires owners { owners.now ≡ map (owner_of owner.count) parts.now.histories }
+    ensures { IfOk result (λ numbers. numbers.items ≡ owned_below owner.count owner.number (states_at parts.now keys.now) (length keys.now)) }
+{
+    keys.is_numbered();
+    let mut numbers = Vec::new(alloc);
+    for number in 0..keys.len() as u32 {
+        if belongs_to(keys, owners, number, owner.number) {
+            numbers.push(number)?;
+        }
+    }
+    Ok(numbers)
+}
+
 impl<'a, U: Realm> Parcel<'a, U> {
     /// No states.
     pub fn new(alloc: Global, checked: &'a Checked) -> Self
@@ -133,19 +171,15 @@ impl<'a, U: Realm> Parcel<'a, U> {
         self.store.view(number)
     }
 
-    /// The owners, of so many, of states with its histories, by the numbers of these.
+    /// The numbers of the states that belong to this owner, in their order.
     ///
     /// Errors: where a growth was refused.
-    pub fn owners(&self, alloc: Global, count: u64) -> Result<Vec<u64>, AllocError>
-        requires { 0 < count }
+    pub fn own(&self, alloc: Global, owner: Owner) -> Result<Vec<u32>, AllocError>
+        requires { 0 < owner.count }
+        ensures { IfOk result (λ numbers. numbers.items ≡ owned_below owner.count owner.number self.now (length self.now)) }
     {
-        let (parts, _) = self.store.keyed_parts();
-        owners_of(alloc, parts.histories.values(), count)
-    }
-
-    /// The owner of a state, where these are those of its histories. Nothing rests on it.
-    pub fn owner_at(&self, owners: &[u64], number: u32) -> Option<u64> {
-        let history = self.store.key(number).history;
-        owners.get(history as usize).copied()
+        let (parts, keys) = self.store.keyed_parts();
+        let owners = owners_of(alloc, parts.histories.values(), owner.count)?;
+        own_numbers(alloc, parts, keys, owners.as_slice(), owner)
     }
 }

@@ -11,7 +11,7 @@ ghost use Rattle.tso_search.specs.Searched.{AreDone};
 
 use crate::agenda::Agenda;
 use crate::halt::Halt;
-use crate::owner::owner_of;
+use crate::owner::{Owner, owner_of};
 use crate::parcel::{Parcel, keep};
 use crate::realm::Realm;
 use crate::stepping::work;
@@ -23,13 +23,6 @@ use tso_keys::{NO_KEY, View};
 use tso_search::{Judged, Marks};
 use tso_state::{State, Viewed};
 use tso_store::Store;
-
-/// One of so many owners.
-#[derive(Clone, Copy, PartialEq, Eq)]
-pub struct Owner {
-    pub number: u64,
-    pub count: u64,
-}
 
 /// The states of one owner, as far as they were met, and those of others that their steps lead to. What is marked is worked.
 #[derive(Drop)]
@@ -234,11 +227,8 @@ fn take_own<U: Realm>(
     if owner.count == 0 {
         return Ok(());
     }
-    let owners = parcel.owners(alloc, owner.count)?;
-    for number in 0..parcel.count() {
-        if parcel.owner_at(owners.as_slice(), number) == Some(owner.number) {
-            take(store, agenda, own, parcel, number)?;
-        }
+    for number in &parcel.own(alloc, owner)? {
+        take(store, agenda, own, parcel, *number)?;
     }
     Ok(())
 }

@@ -7,10 +7,11 @@ ghost use Rattle.tso_regions.specs.Regions.{AreSound};
 ghost use Rattle.tso_search.specs.Searched.{AreSearched};
 
 use crate::gathering::gathered_of;
+use crate::owner::Owner;
 use crate::parcel::Parcel;
 use crate::pile::{Ended, Pile};
 use crate::realm::Realm;
-use crate::region::{Owner, Region};
+use crate::region::Region;
 use crate::settling::Asked;
 use crate::team::{Team, work_all};
 use std::alloc::{AllocError, Global};

@@ -8,7 +8,7 @@ use Rattle.tso_prog.specs.declared.answer.Answer.{Answer}
 use Rattle.tso_prog.specs.declared.answer.Answer.TheVariants.{Refused, Done, Value}
 use Rattle.tso_prog.specs.declared.client.Client.{Client}
 use Rattle.tso_state.specs.declared.stage.Stage.{Stage}
-use Rattle.tso_state.specs.declared.stage.Stage.TheVariants.{NotBegun, Answered, Pending, Misanswered}
+use Rattle.tso_state.specs.declared.stage.Stage.TheVariants.{Over, Pending, Misanswered}
 use Rattle.tso_state.specs.declared.state.Core.{Core}
 use Rattle.tso_state.specs.declared.state.Core.TheVariants.{Idle, Running, Stopped}
 use Rattle.tso_state.specs.declared.state.Thread.{Thread}
@@ -18,14 +18,14 @@ use Rattle.tso_state.specs.WellFormed.{IsFrameOf, last_call, word_count}
 -- a call of this kind with this answer
 abbrev pub stage_by : CallKind → Option Answer → Stage
 stage_by kind None = Pending (kind_of kind)
-stage_by kind (Some Refused) = Answered
-stage_by (Push v) (Some Done) = Answered
+stage_by kind (Some Refused) = Over
+stage_by (Push v) (Some Done) = Over
 stage_by Pop (Some Done) = Misanswered
 stage_by (Push v) (Some (Value w)) = Misanswered
-stage_by Pop (Some (Value w)) = Answered
+stage_by Pop (Some (Value w)) = Over
 
 abbrev pub stage_if : Option Call → Stage
-stage_if None = NotBegun
+stage_if None = Over
 stage_if (Some call) = stage_by call.kind call.answer
 
 -- the last of these calls
@@ -34,12 +34,9 @@ stage_of calls = stage_if (last_call calls)
 
 -- a core at this stage of its thread's last call
 abbrev pub CoreAtStage : Client → Stage → Core → Type 0
-CoreAtStage c NotBegun Idle = Unit {0}
-CoreAtStage c NotBegun (Running f) = ⊥
-CoreAtStage c NotBegun Stopped = ⊥
-CoreAtStage c Answered Idle = Unit {0}
-CoreAtStage c Answered (Running f) = ⊥
-CoreAtStage c Answered Stopped = ⊥
+CoreAtStage c Over Idle = Unit {0}
+CoreAtStage c Over (Running f) = ⊥
+CoreAtStage c Over Stopped = ⊥
 CoreAtStage c (Pending procedure) Idle = ⊥
 CoreAtStage c (Pending procedure) (Running f) = IsFrameOf c procedure f
 CoreAtStage c (Pending procedure) Stopped = Unit {0}

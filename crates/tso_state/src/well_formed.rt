@@ -120,14 +120,14 @@ fn stage_of_call(call: &Call) -> Stage
 {
     match call.answer {
         None => Stage::Pending(ProcedureKind::from(call.kind)),
-        Some(Answer::Refused) => Stage::Answered,
+        Some(Answer::Refused) => Stage::Over,
         Some(Answer::Done) => match call.kind {
-            CallKind::Push(_) => Stage::Answered,
+            CallKind::Push(_) => Stage::Over,
             CallKind::Pop => Stage::Misanswered,
         },
         Some(Answer::Value(_)) => match call.kind {
             CallKind::Push(_) => Stage::Misanswered,
-            CallKind::Pop => Stage::Answered,
+            CallKind::Pop => Stage::Over,
         },
     }
 }
@@ -138,7 +138,7 @@ pub fn stage_of(calls: &[Call]) -> Stage
 {
     match calls.split_last() {
         Some((last, _)) => stage_of_call(last),
-        None => Stage::NotBegun,
+        None => Stage::Over,
     }
 }
 
@@ -147,8 +147,7 @@ fn core_at_stage(client: &Client, core: &Core, stage: Stage) -> bool
     ensures { IsTrue result ↔ CoreAtStage client.now stage core.now }
 {
     match stage {
-        Stage::NotBegun => matches!(core, Core::Idle),
-        Stage::Answered => matches!(core, Core::Idle),
+        Stage::Over => matches!(core, Core::Idle),
         Stage::Pending(procedure) => match core {
             Core::Idle => false,
             Core::Running(frame) => is_frame_of(client, procedure, frame),
