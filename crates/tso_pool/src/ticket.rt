@@ -28,7 +28,9 @@ impl Due {
     }
 }
 
-/// Hands out a ticket that is due. It can't be lost: where the deque refuses it, it is on the own list.
+/// Hands out a ticket that is due: where the deque refuses it, it is on the worker's own list.
+///
+/// Errors: where a growth was refused. The ticket is not handed out then, and the worker has to end.
 pub fn offer(seat: &mut Seat<Ticket>, due: Due) -> Result<(), AllocError>
     ensures place { place_of seat.new ≡ place_of seat.old }
     ensures offered { OnOk result (IsOffered (tally_of seat.old) (tally_of seat.new) due.ticket) }

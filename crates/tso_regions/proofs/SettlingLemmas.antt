@@ -1,24 +1,21 @@
 -- Regions that are found to be settled, state by state and region by region.
-use Rattle.std.proofs.Common.{◌≡◌, ◌∙◌, ◌==◌, ◌++◌, ◌∷◌, ℕ, ◌+◌, ◌<◌, ◌≤◌, ◌⊎◌, inl, inr, Bool, if◌then◌else◌, List, [], length, map, Option, Some, slice_get, refl, sym, ap, subst, arith, add-one, option_map}
+use Rattle.std.proofs.Common.{◌≡◌, ◌∙◌, ℕ, ◌+◌, ◌<◌, ◌≤◌, ◌⊎◌, inl, inr, List, [], length, map, Option, Some, slice_get, refl, sym, ap, subst, arith, option_map}
 use Rattle.std.specs.Prelude.{IsTrue}
 use Rattle.std.proofs.lemmas.Bool.{cases_lt}
 use Rattle.std.proofs.lemmas.List.{take_all}
-use Rattle.std.proofs.lemmas.Option.{get_or_from_slice_get, same_Some, slice_get-map, slice_get_cases, slice_get_within}
+use Rattle.std.proofs.lemmas.Option.{get_or_from_slice_get, same_Some, slice_get-map, slice_get_within}
 use Rattle.tso_foot.specs.declared.table.Table.{Table}
 use Rattle.tso_parts.specs.Numbers.{IsNumbered}
 use Rattle.tso_prog.specs.declared.client.Client.{Client}
 use Rattle.tso_regions.proofs.GatheringLemmas.{by_option, owned_next_other, owned_next_own}
-use Rattle.tso_regions.specs.Gathering.{AreHalvesOf, AreOwners, belongs, belongs_by, AreSettled, AreSettledBetween, IsHeld, IsHeldAbroad, IsKnownRegion, IsNextOwn, IsSettled, IsSettledBelow, owned_below}
-use Rattle.tso_regions.specs.Gathering.{state_at as numbered}
+use Rattle.tso_regions.specs.Gathering.{AreHalvesOf, AreOwners, AreSettled, AreSettledBetween, IsHeld, IsHeldAbroad, IsKnownRegion, IsNextOwn, IsSettled, IsSettledBelow, owned_below}
 use Rattle.tso_regions.specs.Owners.{owner_in, owner_of}
 use Rattle.tso_regions.specs.Regions.{Domain}
 use Rattle.tso_search.specs.Marking.{is_marked}
 use Rattle.tso_search.specs.Reached.{AllMet}
 use Rattle.tso_search.specs.Searched.{AreDone}
 use Rattle.tso_state.specs.declared.state.State.{State}
-use Rattle.tso_store.specs.Gathering.{no_state}
-use Rattle.tso_keys.proofs.StateLemmas.{kept_at, state_got}
-use Rattle.tso_keys.specs.Keys.{AreKept, state_at, states_at}
+use Rattle.tso_keys.specs.Keys.{state_at, states_at}
 use Rattle.tso_keys.specs.declared.key.Key.{Key}
 use Rattle.tso_keys.specs.declared.parts.Parts.{Parts}
 
@@ -135,28 +132,6 @@ owners_known count p keys owners states are same n owner k at here =
       at = ap (λ (xs : List State). slice_get xs n) (sym same) ∙ slice_get-map (state_at p) keys n ∙ ap (option_map (state_at p)) at;
       is = ap (owner_of count) (get_or_from_slice_get p.histories k.history h [] kept) ∙ is;
     }
-
--- whether a state belongs to an owner is told by its history's number
-belongs_is : (c : Client) (count i : ℕ) (p : Parts) (keys : List Key) (owners : List ℕ) (n : ℕ) → AreKept c p keys → owners ≡ map (owner_of count) p.histories → n < length keys
-    → belongs owners i (slice_get keys n) ≡ (owner_in count (numbered (states_at p keys) n) == i)
-belongs_is c count i p keys owners n kept are lt = elim (slice_get_cases keys n).1 [
-  | inl (k, below, here, get) ↦
-      let history = (kept_at c p keys n k kept here).key.history in
-      let owner : slice_get owners k.history ≡ Some (owner_in count (state_at p k)) =
-      ap (λ (xs : List ℕ). slice_get xs k.history) are ∙ slice_get-map (owner_of count) p.histories k.history ∙ ap (option_map (owner_of count)) history in
-      let state : numbered (states_at p keys) n ≡ state_at p k = get_or_from_slice_get (states_at p keys) n (state_at p k) no_state (state_got p keys n k here) in
-      ap (belongs owners i) here ∙ ap (belongs_by i) owner ∙ ap (λ (s : State). owner_in count s == i) (sym state)
-  | inr (past, none) ↦ absurd (omega (arith, past, lt))
-]
-
--- the numbers of an owner's states, with one more looked at
-pub owned_more : (c : Client) (count i : ℕ) (p : Parts) (keys : List Key) (owners : List ℕ) (n : ℕ) → AreKept c p keys → owners ≡ map (owner_of count) p.histories → n < length keys
-    → (ns : List ℕ) → ns ≡ owned_below count i (states_at p keys) n → (b : Bool) → b ≡ belongs owners i (slice_get keys n)
-    → (if b then ns ++ n ∷ [] else ns) ≡ owned_below count i (states_at p keys) (n + 1)
-owned_more c count i p keys owners n kept are lt ns is b same =
-    let states = states_at p keys in
-    let told : b ≡ (owner_in count (numbered states n) == i) = same ∙ belongs_is c count i p keys owners n kept are lt in
-    (λ j. if told j then is j ++ n ∷ [] else is j) ∙ ap (owned_below count i states) (sym (add-one n))
 
 -- the state with this number is the next one of its own
 pub own_next : (count place : ℕ) (owners : List ℕ) (keys : List Key) (d : Domain) (n before o : ℕ) (k : Key) → AreOwners count owners keys d.states → slice_get keys n ≡ Some k → slice_get owners k.history ≡ Some o → o ≡ place

@@ -1,5 +1,5 @@
 -- What several regions have among them, and the states of all of them together.
-use Rattle.std.specs.Prelude.{◌≡◌, ◌<◌, ◌≤◌, ◌==◌, ◌++◌, ◌∷◌, ℕ, zero, suc, Bool, false, IsTrue, List, [], if◌then◌else◌, length, None, Option, Some, slice_get, slice_index_or, take}
+use Rattle.std.specs.Prelude.{◌≡◌, ◌<◌, ◌≤◌, ◌==◌, ◌++◌, ◌∷◌, ℕ, zero, suc, IsTrue, List, [], if◌then◌else◌, length, Option, Some, slice_get, slice_index_or, take}
 use Rattle.tso_compact.specs.Laws.{initial_of}
 use Rattle.tso_foot.specs.declared.table.Table.{Table}
 use Rattle.tso_parts.specs.Numbers.{IsNumbered}
@@ -28,15 +28,6 @@ pub record IsOwnedAt (count : ℕ) (states : List State) (n owner : ℕ) : Type 
   pub state : State
   pub at : slice_get states n ≡ Some state
   pub is : owner_in count state ≡ owner
-
--- a state with this key belongs to owner i, where these are the owners of histories
-abbrev pub belongs_by : ℕ → Option ℕ → Bool
-belongs_by i None = false
-belongs_by i (Some owner) = owner == i
-
-abbrev pub belongs : List ℕ → ℕ → Option Key → Bool
-belongs owners i None = false
-belongs owners i (Some k) = belongs_by i (slice_get owners k.history)
 
 -- whose the states with these keys are stands at the numbers of their histories
 abbrev pub AreOwners : (count : ℕ) → List ℕ → List Key → List State → Type 0

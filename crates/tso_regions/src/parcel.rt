@@ -1,13 +1,13 @@
 //! States on their way to their owner.
 
-ghost use Rattle.std.specs.Prelude.{◌≡◌, ◌<◌, ◌^◌, [], IfOk, IfSome, None, Ok, OnErr, Some, length, map, slice_get};
+ghost use Rattle.std.specs.Prelude.{◌≡◌, ◌==◌, ◌<◌, ◌^◌, [], IfOk, IfSome, None, Ok, OnErr, Some, length, map, slice_get};
 ghost use Rattle.tso_parts.specs.Numbers.{Extends};
 ghost use Rattle.tso_regions.specs.Regions.{AreSound, IsSound};
 ghost use Rattle.tso_prog.specs.declared.client.Client.{Client};
 ghost use Rattle.tso_state.specs.declared.state.State.{State as StateValue};
 ghost use Rattle.tso_keys.specs.Keys.{AreSomeones, FitsClient, states_at};
-ghost use Rattle.tso_regions.specs.Gathering.{belongs, owned_below};
-ghost use Rattle.tso_regions.specs.Owners.{owner_of};
+ghost use Rattle.tso_regions.specs.Gathering.{owned_below, state_at};
+ghost use Rattle.tso_regions.specs.Owners.{owner_in, owner_of};
 
 use crate::halt::Halt;
 use crate::owner::{Owner, owners_of};
@@ -85,15 +85,18 @@ fn count_of(store: &Store<'_>) -> u32
     u32::try_from(store.len()).unwrap_or(u32::MAX)
 }
 
-// Whether a state belongs to this owner, where these are the owners of histories.
-fn belongs_to(keys: &Pool<Key>, owners: &[u64], number: u32, owner: u64) -> bool
-    ensures { result ≡ belongs owners.now owner (slice_get keys.now number) }
+// Whether the state with this number, of these parts and keys, belongs to the owner, where these are the owners of the histories.
+fn belongs_to(parts: &Parts, keys: &Pool<Key>, owners: &[u64], owner: Owner, number: u32) -> bool
+    requires kept { AreSomeones parts.now keys.now }
+    requires owners { owners.now ≡ map (owner_of owner.count) parts.now.histories }
+    requires there { number < length keys.now }
+    ensures { result ≡ (owner_in owner.count (state_at (states_at parts.now keys.now) number) == owner.number) }
 {
     let Some(key) = keys.get(number) else {
         return false;
     };
     match owners.get(key.history as usize) {
-        Some(found) => *found == owner,
+        Some(found) => *found == owner.number,
         None => false,
     }
 }
@@ -113,7 +116,7 @@ fn own_numbers(
     keys.is_numbered();
     let mut numbers = Vec::new(alloc);
     for number in 0..keys.len() as u32 {
-        if belongs_to(keys, owners, number, owner.number) {
+        if belongs_to(parts, keys, owners, owner, number) {
             numbers.push(number)?;
         }
     }
