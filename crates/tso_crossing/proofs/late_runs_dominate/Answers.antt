@@ -1,0 +1,5 @@
+use Rattle.tso_crossing.proofs.Dominance as lemmas
+use Rattle.tso_crossing.proofs.late_runs_dominate.Goals as goal
+
+pub returns : goal.returns
+returns g c = lemmas.late_runs_dominate _
