@@ -129,12 +129,12 @@ late_ends_are_met F p n size sound rank r kept closed s t steps k w own run z =
 
 -- THE COMPOSITION
 
-module _ {F : Type 0} (p : Program F) (n : Extent) (memory : List ℕ) (sound : CallKind → F → Bool) (rank : F → ℕ) (t : Table F) (object : Object) (kept : State F → Bool) (r : IsRanked p (length memory) sound rank) (c : IsCrossing p n memory sound t object kept) where
+module _ {F : Type 0} (p : Program F) (n : Extent) (memory : List ℕ) (sound : CallKind → F → Bool) (rank : F → ℕ) (t u : Table F) (object : Object) (kept : State F → Bool) (r : IsRanked p (length memory) sound rank) (c : IsCrossing p n memory sound t u object kept) where
   abbrev f : Future F
-  f = table_future p t
+  f = table_future p u
 
   laws : IsFuture p (IsWellFormed p (length memory) sound) f
-  laws = tables_hold_futures F p (length memory) sound t c.closed
+  laws = tables_hold_futures F p (length memory) sound u c.closed_apart
 
   un : IsUnwritten p n (λ x. IsWellFormed p (length memory) sound x × IsApart p n f x)
   un = apart_unwritten p n (length memory) sound rank r f laws
@@ -158,14 +158,14 @@ module _ {F : Type 0} (p : Program F) (n : Extent) (memory : List ℕ) (sound : 
     | inl (d, free, next) ↦ (
       d,
       [],
-      free_is_persistent F p n (length memory) sound rank t r c.closed s d (c.well_formed s k.0) k.1 free,
+      free_is_persistent F p n (length memory) sound rank t u r c.closed c.closed_apart s d (c.well_formed s k.0) k.1 free,
       λ b s'' h eb. (elim h [ inl same ↦ next s'' (subst (λ x. late_move p n s x ≡ Some s'') (sym same) eb) | inr none ↦ absurd none ], apart_after s s'' b k eb),
     )
     | inr (inl all) ↦ chosen_whole s s' a k e all (movers p n s (length s.threads)) (is_whole p n s)
     | inr (inr (d, rest, valid, next)) ↦ (
       d,
       rest,
-      valid_moves_are_persistent F p n (length memory) sound rank t r c.closed s (d ∷ rest) (c.well_formed s k.0) k.1 valid,
+      valid_moves_are_persistent F p n (length memory) sound rank t u r c.closed c.closed_apart s (d ∷ rest) (c.well_formed s k.0) k.1 valid,
       λ b s'' h eb. (next b s'' h eb, apart_after s s'' b k eb),
     )
   ]
@@ -175,9 +175,9 @@ module _ {F : Type 0} (p : Program F) (n : Extent) (memory : List ℕ) (sound : 
   good_end actors end steps over =
       let first = first_state p memory in
       let w = c.well_formed first c.has_initial in
-      let (u, (k, apart), z, h) = met p n _ Kept un kept_closed first end actors (w, c.apart) (c.has_initial, c.apart) (first_shaped p memory) steps over in
-      let (order, l) = c.orders u k z in
-      ((λ i (th, at, is). c.unstopped u i k z (th, ap (λ ts. slice_get ts i) h.threads ∙ at, is)), (order, orders_serve_looser F object u end order h l))
+      let (last, (k, apart), z, h) = met p n _ Kept un kept_closed first end actors (w, c.apart) (c.has_initial, c.apart) (first_shaped p memory) steps over in
+      let (order, l) = c.orders last k z in
+      ((λ i (th, at, is). c.unstopped last i k z (th, ap (λ ts. slice_get ts i) h.threads ∙ at, is)), (order, orders_serve_looser F object last end order h l))
 
   good_run : (ls : List Label) (m : Machine F) → Run p (first_machine p memory) ls m → IsGood object ls
   good_run ls m run =
@@ -188,4 +188,4 @@ module _ {F : Type 0} (p : Program F) (n : Extent) (memory : List ℕ) (sound : 
       ((λ i f. up i (x.faults i f)), beginnings_are_linearizable F p memory ls m object x.more run (order, told object _ (events_of (ls ++ x.more)) order tells whole))
 
 pub every_crossed_run_is_good : (F : Type 0) → EveryCrossedRunIsGood F
-every_crossed_run_is_good F p n memory sound rank t object kept r c ls m run = good_run p n memory sound rank t object kept r c ls m run
+every_crossed_run_is_good F p n memory sound rank t u object kept r c ls m run = good_run p n memory sound rank t u object kept r c ls m run

@@ -273,11 +273,12 @@ in_range : {F : Type 0} (p : Program F) (size : ℕ) (sound : CallKind → F →
 in_range p size sound s w i t at = rw w.memory (w.buffers i t at)
 
 pub valid_moves_are_persistent : (F : Type 0) → ValidMovesArePersistent F
-valid_moves_are_persistent F p n size sound rank t r closed s chosen w apart valid =
+valid_moves_are_persistent F p n size sound rank t u r closed closed_apart s chosen w apart valid =
     let f : Future F = table_future p t in
     let laws : IsFuture p (IsWellFormed p size sound) f = tables_hold_futures F p size sound t closed in
-    let Apart : State F → Type 0 = λ x. IsWellFormed p size sound x × IsApart p n f x in
-    let un : IsUnwritten p n Apart = apart_unwritten p n size sound rank r f laws in
+    let g : Future F = table_future p u in
+    let Apart : State F → Type 0 = λ x. IsWellFormed p size sound x × IsApart p n g x in
+    let un : IsUnwritten p n Apart = apart_unwritten p n size sound rank r g (tables_hold_futures F p size sound u closed_apart) in
     let inv : IsInvariant p Apart = record {
       in_range = λ x v. in_range p size sound x v.0;
       stays = λ x b m v e. un.stays x (perform x (thread_of b) m) b v (moves.step_is p x b m e);
@@ -306,7 +307,7 @@ free_is_valid p n f s a (ms, e, free) b (inl same) = subst (IsValid p n f s (a �
 )
 
 pub free_is_persistent : (F : Type 0) → FreeIsPersistent F
-free_is_persistent F p n size sound rank t r closed s a w apart free = valid_moves_are_persistent F p n size sound rank t r closed s (a ∷ []) w apart (free_is_valid p n (table_future p t) s a free)
+free_is_persistent F p n size sound rank t u r closed closed_apart s a w apart free = valid_moves_are_persistent F p n size sound rank t u r closed closed_apart s (a ∷ []) w apart (free_is_valid p n (table_future p t) s a free)
 
 -- ALL THAT HAVE A MOVE
 

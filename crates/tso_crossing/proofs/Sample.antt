@@ -225,6 +225,7 @@ ordered s (inr is) z = subst (λ x. (order : List Placed) × IsOrder (Queue Stri
 pub sample_is_crossed : SampleIsCrossed
 sample_is_crossed = record {
   closed = closed;
+  closed_apart = closed;
   has_initial = refl;
   well_formed = λ s k. well_formed_kept s (kept_is s k);
   apart = apart_at_start;
@@ -234,4 +235,4 @@ sample_is_crossed = record {
 }
 
 pub sample_is_good : SampleIsGood
-sample_is_good ls m run = every_crossed_run_is_good ℕ sample sample_extent (0 ∷ []) (λ k f. true) rank_of sample_table (Queue Strict 1) sample_kept ranked sample_is_crossed ls m run
+sample_is_good ls m run = every_crossed_run_is_good ℕ sample sample_extent (0 ∷ []) (λ k f. true) rank_of sample_table sample_table (Queue Strict 1) sample_kept ranked sample_is_crossed ls m run

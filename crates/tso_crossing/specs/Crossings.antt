@@ -46,13 +46,14 @@ abbrev pub AllLead : {F : Type 0} → Program F → Extent → (State F → Bool
 AllLead {F} p n kept s = (b : Actor) (s' : State F) → late_move p n s b ≡ Some s' → IsTrue (kept s')
 
 -- the states that pass the test `kept` are those of a crossing of the program with this memory at first
-pub record IsCrossing {F : Type 0} (p : Program F) (n : Extent) (memory : List ℕ) (sound : CallKind → F → Bool) (t : Table F) (object : Object) (kept : State F → Bool) : Type 0 where
+pub record IsCrossing {F : Type 0} (p : Program F) (n : Extent) (memory : List ℕ) (sound : CallKind → F → Bool) (t u : Table F) (object : Object) (kept : State F → Bool) : Type 0 where
   -- the table holds all that may be read and written, the first state is kept, and kept states are well-formed
   pub closed : IsTableClosed p sound t
   pub has_initial : IsTrue (kept (first_state p memory))
   pub well_formed : (s : State F) → IsTrue (kept s) → IsWellFormed p (length memory) sound s
-  -- no other thread writes what a thread's openings may read, but for the prologue's
-  pub apart : IsApart p n (table_future p t) (first_state p memory)
+  -- no other thread writes what a thread's openings may read, but for the prologue's, by a closed table
+  pub closed_apart : IsTableClosed p sound u
+  pub apart : IsApart p n (table_future p u) (first_state p memory)
   -- where an actor has a move, a free actor's leads to a kept state, or all do, or those of valid actors
   pub choices : (s s' : State F) (a : Actor) → IsTrue (kept s) → late_move p n s a ≡ Some s' → IsFreely p n (table_future p t) kept s ⊎ (AllLead p n kept s ⊎ IsChoice p n (table_future p t) kept s)
   -- where none has, no thread is stopped, and there is an order
@@ -62,6 +63,6 @@ pub record IsCrossing {F : Type 0} (p : Program F) (n : Extent) (memory : List �
 -- then every run of labels is good, ended or not
 abbrev pub EveryCrossedRunIsGood : Type 0 → Type 0
 EveryCrossedRunIsGood F =
-    (p : Program F) (n : Extent) (memory : List ℕ) (sound : CallKind → F → Bool) (rank : F → ℕ) (t : Table F) (object : Object) (kept : State F → Bool)
-    → IsRanked p (length memory) sound rank → IsCrossing p n memory sound t object kept
+    (p : Program F) (n : Extent) (memory : List ℕ) (sound : CallKind → F → Bool) (rank : F → ℕ) (t u : Table F) (object : Object) (kept : State F → Bool)
+    → IsRanked p (length memory) sound rank → IsCrossing p n memory sound t u object kept
     → (ls : List Label) (m : Machine F) → Run p (first_machine p memory) ls m → IsGood object ls

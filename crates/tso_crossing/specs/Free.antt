@@ -25,11 +25,12 @@ MayPassThread {F} p n f s chosen ms j = IsInside p n s chosen j ⊎ ((m : Move F
 abbrev pub IsValid : {F : Type 0} → Program F → Extent → Future F → State F → List Actor → Actor → Type 0
 IsValid {F} p n f s chosen a = (ms : List (Move F)) × (parts p n s a ≡ Some ms) × ((j : ℕ) → j < length s.threads → j ≢ thread_of a → MayPassThread p n f s chosen ms j)
 
--- chosen actors that are valid are a persistent choice of moves
+-- Chosen actors that are valid are a persistent choice of moves. Which places are a thread's own may be told by another closed table than
+-- what may still be accessed.
 abbrev pub ValidMovesArePersistent : Type 0 → Type 0
 ValidMovesArePersistent F =
-    (p : Program F) (n : Extent) (size : ℕ) (sound : CallKind → F → Bool) (rank : F → ℕ) (t : Table F) → IsRanked p size sound rank → IsTableClosed p sound t
-    → (s : State F) (chosen : List Actor) → IsWellFormed p size sound s → IsApart p n (table_future p t) s
+    (p : Program F) (n : Extent) (size : ℕ) (sound : CallKind → F → Bool) (rank : F → ℕ) (t u : Table F) → IsRanked p size sound rank → IsTableClosed p sound t → IsTableClosed p sound u
+    → (s : State F) (chosen : List Actor) → IsWellFormed p size sound s → IsApart p n (table_future p u) s
     → ((a : Actor) → Has chosen a → IsValid p n (table_future p t) s chosen a) → Persistent (late_move p n) AtLeast s chosen
 
 -- the part of a move needs no chosen actor to come before thread j's steps: its opening, and then its step
@@ -48,8 +49,8 @@ IsFree {F} p n f s a =
 -- a free actor alone is a persistent choice of moves
 abbrev pub FreeIsPersistent : Type 0 → Type 0
 FreeIsPersistent F =
-    (p : Program F) (n : Extent) (size : ℕ) (sound : CallKind → F → Bool) (rank : F → ℕ) (t : Table F) → IsRanked p size sound rank → IsTableClosed p sound t
-    → (s : State F) (a : Actor) → IsWellFormed p size sound s → IsApart p n (table_future p t) s → IsFree p n (table_future p t) s a → Persistent (late_move p n) AtLeast s (a ∷ [])
+    (p : Program F) (n : Extent) (size : ℕ) (sound : CallKind → F → Bool) (rank : F → ℕ) (t u : Table F) → IsRanked p size sound rank → IsTableClosed p sound t → IsTableClosed p sound u
+    → (s : State F) (a : Actor) → IsWellFormed p size sound s → IsApart p n (table_future p u) s → IsFree p n (table_future p t) s a → Persistent (late_move p n) AtLeast s (a ∷ [])
 
 -- the actors that are chosen all have a move, and each that has one is
 abbrev pub IsWhole : {F : Type 0} → Program F → Extent → State F → List Actor → Type 0

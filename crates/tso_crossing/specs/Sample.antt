@@ -53,7 +53,7 @@ sample_kept s = is_zero_word s.memory && (is_one_idle s.threads && is_history s.
 
 -- the kept states are a crossing, so each run is good
 abbrev pub SampleIsCrossed : Type 0
-SampleIsCrossed = IsCrossing sample sample_extent (0 ∷ []) (λ k f. true) sample_table (Queue Strict 1) sample_kept
+SampleIsCrossed = IsCrossing sample sample_extent (0 ∷ []) (λ k f. true) sample_table sample_table (Queue Strict 1) sample_kept
 
 abbrev pub SampleIsGood : Type 0
 SampleIsGood = (ls : List Label) (m : Machine ℕ) → Run sample (first_machine sample (0 ∷ [])) ls m → IsGood (Queue Strict 1) ls
