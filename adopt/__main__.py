@@ -1,0 +1,5 @@
+"""`python3 -m adopt`."""
+
+from .cli import main
+
+main()
