@@ -1,8 +1,8 @@
-// Counts the pops that come out of a producer's order: a value that its producer had pushed before one that was popped already.
+// Counts the pops that come out of a producer's order: a value comes out while one that the same producer had pushed before is still inside.
 //
-//   producer_order ITEMS PAUSE STALL
+//   producer_order PRODUCERS ITEMS PAUSE STALL
 //
-// Two threads push ITEMS values each, and one thread pops them all. A further thread sends the producers signals by turns, one every PAUSE
+// PRODUCERS threads push ITEMS values each, and one thread pops them all. A further thread sends the producers signals by turns, one every PAUSE
 // microseconds, and the handler sleeps STALL microseconds, as a thread does that the system puts off its core. With a PAUSE of 0 there are
 // no signals. QUEUE is the type of the queue, as -DQUEUE='AtomicQueue<uint64_t, 2, 0, false, false>'.
 #include <atomic_queue/atomic_queue.h>
@@ -11,17 +11,16 @@
 #include <signal.h>
 #include <sys/select.h>
 
-#include <array>
 #include <atomic>
 #include <cerrno>
 #include <chrono>
 #include <cstdio>
 #include <cstdlib>
 #include <thread>
+#include <vector>
 
 namespace {
 
-constexpr unsigned PRODUCERS = 2;
 constexpr int NUMBER_BITS = 32;
 
 atomic_queue::QUEUE queue;
@@ -42,36 +41,46 @@ void produce(uint64_t producer, uint64_t items)
             atomic_queue::spin_loop_pause();
 }
 
-struct Counts {
-    uint64_t pops = 0;
-    uint64_t out_of_order = 0;
+// The values of a producer that have come out.
+class Popped {
+public:
+    explicit Popped(uint64_t items) : has_come(items + 2), next(1) {}
+
+    // Notes a value, and says whether one before it is still inside.
+    bool is_early(uint64_t number)
+    {
+        bool is = number != next;
+        has_come[number] = true;
+        while (has_come[next])
+            ++next;
+        return is;
+    }
+
+private:
+    std::vector<bool> has_come;
+    uint64_t next;
 };
 
-Counts consume(uint64_t total)
+uint64_t consume(uint64_t producers, uint64_t items)
 {
-    Counts counts;
-    std::array<uint64_t, PRODUCERS + 1> newest{};
-    while (counts.pops < total) {
+    std::vector<Popped> popped(producers, Popped(items));
+    uint64_t early = 0;
+    for (uint64_t pops = 0; pops < producers * items;) {
         uint64_t value;
         if (!queue.try_pop(value)) {
             atomic_queue::spin_loop_pause();
             continue;
         }
-        uint64_t number = value & ((uint64_t{1} << NUMBER_BITS) - 1);
-        uint64_t &last = newest[value >> NUMBER_BITS];
-        ++counts.pops;
-        if (number < last)
-            ++counts.out_of_order;
-        else
-            last = number;
+        early += popped[value >> NUMBER_BITS].is_early(value & ((uint64_t{1} << NUMBER_BITS) - 1));
+        ++pops;
     }
-    return counts;
+    return early;
 }
 
-void disturb(std::array<std::thread, PRODUCERS> &producers, std::chrono::microseconds pause)
+void disturb(std::vector<std::thread> &producers, std::chrono::microseconds pause)
 {
-    for (unsigned turn = 0; !is_over; ++turn) {
-        pthread_kill(producers[turn % PRODUCERS].native_handle(), SIGUSR1);
+    for (size_t turn = 0; !is_over; ++turn) {
+        pthread_kill(producers[turn % producers.size()].native_handle(), SIGUSR1);
         std::this_thread::sleep_for(pause);
     }
 }
@@ -87,31 +96,36 @@ uint64_t number_of(const char *word)
     return number;
 }
 
-} // namespace
-
-int main(int count, char **words)
+void handle_signals(uint64_t microseconds)
 {
-    if (count != 4) {
-        std::fprintf(stderr, "usage: producer_order ITEMS PAUSE STALL\n");
-        return 64;
-    }
-    uint64_t items = number_of(words[1]), pause = number_of(words[2]), length = number_of(words[3]);
-    stall = {static_cast<time_t>(length / 1000000), static_cast<long>(length % 1000000 * 1000)};
+    stall = {static_cast<time_t>(microseconds / 1000000), static_cast<long>(microseconds % 1000000 * 1000)};
     struct sigaction action {};
     action.sa_handler = sleep_here;
     action.sa_flags = SA_RESTART;
     sigaction(SIGUSR1, &action, nullptr);
-    std::array<std::thread, PRODUCERS> producers;
-    for (unsigned it = 0; it < PRODUCERS; ++it)
-        producers[it] = std::thread(produce, it + 1, items);
+}
+
+} // namespace
+
+int main(int count, char **words)
+{
+    if (count != 5) {
+        std::fprintf(stderr, "usage: producer_order PRODUCERS ITEMS PAUSE STALL\n");
+        return 64;
+    }
+    uint64_t number = number_of(words[1]), items = number_of(words[2]), pause = number_of(words[3]);
+    handle_signals(number_of(words[4]));
+    std::vector<std::thread> producers;
+    for (uint64_t it = 0; it < number; ++it)
+        producers.emplace_back(produce, it, items);
     std::thread disturber;
     if (pause)
         disturber = std::thread(disturb, std::ref(producers), std::chrono::microseconds(pause));
-    Counts counts = consume(PRODUCERS * items);
+    uint64_t early = consume(number, items);
     is_over = true;
     if (pause)
         disturber.join();
     for (std::thread &it : producers)
         it.join();
-    std::printf("%lu pops, %lu out of their producer's order\n", counts.pops, counts.out_of_order);
+    std::printf("%lu pops, %lu out of their producer's order\n", number * items, early);
 }

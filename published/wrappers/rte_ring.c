@@ -1,13 +1,12 @@
-/* DPDK's ring, laid out as rte_ring_init lays it out for SLOTS slots and ITEMS items. SYNC says how its two ends are shared. */
+/* DPDK's ring, laid out as rte_ring_init lays it out for SLOTS slots, of which one stays free. SYNC says how its two ends are shared. */
 #include <rte_ring.h>
 
 static struct {
     struct rte_ring ring;
     void *slots[SLOTS];
-} queue = {.ring = {.flags = RING_F_EXACT_SZ,
-                    .size = SLOTS,
+} queue = {.ring = {.size = SLOTS,
                     .mask = SLOTS - 1,
-                    .capacity = ITEMS,
+                    .capacity = SLOTS - 1,
                     .prod = {.sync_type = SYNC},
                     .cons = {.sync_type = SYNC}}};
 
