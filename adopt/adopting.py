@@ -6,8 +6,10 @@ from dataclasses import dataclass, field
 from . import cloning
 from .allocating import Colours, allocate
 from .constants import Constants
+from .dead import DeadBranches
 from .debuginfo import DebugInfo, Type
 from .decoding import Decoder, graph_of
+from .initializing import initialize, type_heap
 from .interpreter import Machine, read_program
 from .ir import Procedure, signed
 from .layout import Cell, Layout
@@ -64,8 +66,11 @@ class Adoption:
     def __init__(self, path: pathlib.Path, options: Options) -> None:
         self.options = options
         self.placed = read_object(path)
+        if options.init:
+            initialize(self.placed, options.init)
         self.debug = DebugInfo(self.placed)
         self.layout = Layout(self.placed, self.debug)
+        type_heap(self.layout)
         self.memory = Memory(self.placed, self.layout)
         self.bounds = Bounds(options.calls, options.bound, options.bound_at)
         self.signatures = {name: self.signature(name, symbol) for name, symbol in (("push", options.push), ("pop", options.pop))}
@@ -99,11 +104,19 @@ class Adoption:
             made = [self.lifted(name) for name in ("push", "pop")]
             changed = False
             for procedure in made:
-                Constants(procedure, self.memory.initial).run().rewrite()
-                Simplifier(procedure).run()
+                self.simplify(procedure)
                 changed |= self.memory.note_writes(procedure)
             if not changed:
                 return made
+
+    def simplify(self, procedure: Procedure) -> None:
+        """Constants and algebra in turn, until no branch goes away."""
+        count, is_changed = -1, True
+        while is_changed or count != len(procedure.flows):
+            count = len(procedure.flows)
+            Constants(procedure, self.memory.initial).run().rewrite()
+            Simplifier(procedure).run()
+            is_changed = DeadBranches(procedure).run() or any(it.condition is not None and it.condition.is_number for it in procedure.flows.values())
 
     def adopt(self) -> Adopted:
         procedures = self.reduced()

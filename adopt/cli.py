@@ -125,6 +125,13 @@ def located(adoption: Adoption, refusal: Refusal) -> str:
     return f"{place}\n  {refusal.reason}"
 
 
+def check_text(text: str) -> None:
+    """Asks tsoq whether it reads the text. One that it refuses is an error of this program."""
+    parsed = subprocess.run([str(TOP / "tsoq"), "parse", "-", "--verbose"], input=text, capture_output=True, text=True)
+    if parsed.returncode:
+        raise Refusal(f"tsoq refuses the text that was made, which is an error of this program:\n{parsed.stderr or parsed.stdout}")
+
+
 def write_text(text: str, out: str | None) -> None:
     if out is None:
         sys.stdout.write(text)
@@ -176,6 +183,7 @@ def main(arguments: list[str] | None = None) -> None:
     try:
         with tempfile.TemporaryDirectory() as folder:
             adopted = run(words, options, pathlib.Path(folder))
+        check_text(adopted.text)
     except Refusal as refusal:
         print(f"refused: {refusal.reason}", file=sys.stderr)
         sys.exit(REFUSED)

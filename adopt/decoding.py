@@ -92,7 +92,7 @@ class Block:
 
 @dataclass
 class Graph:
-    """The blocks of a procedure. Block 0 is entered first."""
+    """The blocks of a procedure. Block 0 is entered first; it has no instructions, and none goes back to it."""
 
     blocks: dict[int, Block]
 
@@ -160,6 +160,9 @@ class Decoder:
         value = memory.disp
         if base == "rip":
             base, value = "", found.address + found.size + memory.disp
+            entry = self.placed.table_entry(value) if operand.size == 8 and found.mnemonic in ("mov", "cmp", "add", "push") else None
+            if entry is not None:
+                return Operand("number", 8, value=entry)
         return Operand("memory", operand.size, value=value, base=base, index=index, scale=memory.scale, segment=segment)
 
 
@@ -220,9 +223,7 @@ class Builder:
         context = found.context
         if not target.is_number:
             name = self.external_of(target)
-            if name is None:
-                return ("unknown", [], "", f"`{found.text}` calls a function that is known only when it runs")
-            return self.called_outside(name, following)
+            return ("fall", [following], "", "") if name is None else self.called_outside(name, following)
         if target.value in self.placed.externals:
             return self.called_outside(self.placed.externals[target.value], following)
         name = next((it.name for it in self.placed.symbols.values() if it.address == target.value and it.kind == "FUNC"), "")
@@ -240,7 +241,7 @@ class Builder:
         return None
 
     def called_outside(self, name: str, following: Node) -> tuple[str, list[Node], str, str]:
-        if name in WAITING or any(it in name for it in WAITING_WORDS):
+        if is_waiting(name):
             return ("waits", [following], "", name)
         if is_ending(name):
             return ("stop", [], "", f"{name} is called")
@@ -271,9 +272,9 @@ class Builder:
             for successor in successors:
                 count[successor] = count.get(successor, 0) + (1 if len(successors) == 1 else 2)
         heads = [self.entry] + [it for it in self.ends if count.get(it, 0) > 1 and it != self.entry]
-        numbers = {it: number for number, it in enumerate(heads)}
+        numbers = {it: number for number, it in enumerate(heads, 1)}
         blocks = {number: self.block(number, head, numbers) for head, number in numbers.items()}
-        return Graph(blocks)
+        return Graph({0: Block(0, [], [1])} | blocks)
 
     def block(self, number: int, head: Node, numbers: dict[Node, int]) -> Block:
         node, made = head, Block(number, [])
@@ -286,6 +287,11 @@ class Builder:
             made.end, made.condition, made.reason = kind, condition, reason
             made.successors = [numbers[it] for it in successors]
             return made
+
+
+def is_waiting(name: str) -> bool:
+    """Whether a function of this name only waits."""
+    return name in WAITING or any(it in name for it in WAITING_WORDS)
 
 
 def is_ending(name: str) -> bool:

@@ -3,16 +3,17 @@
 import unicorn  # type: ignore[import]
 from unicorn import x86_const as x86
 
-from .decoding import WAITING, WAITING_WORDS
+from .decoding import is_waiting
 from .lifting import Signature
-from .objectfile import BASE, ObjectFile
+from .objectfile import BASE, HEAP, ObjectFile
 from .refusing import Refusal
 
 PAGE = 0x1000
 STACK, STACK_SIZE = 0x7000_0000, 0x4_0000
 SCRATCH = 0x6800_0000
 STOP = 0x6900_0000
-MOST_STEPS = 100_000
+HEAP_SIZE = 0x10_0000
+MOST_STEPS = 3000
 RETURN = b"\xc3"
 
 
@@ -31,9 +32,10 @@ class Emulator:
         self.machine.mem_map(STACK, STACK_SIZE)
         self.machine.mem_map(SCRATCH, PAGE)
         self.machine.mem_map(STOP, PAGE)
+        self.machine.mem_map(HEAP, HEAP_SIZE)
         self.restore()
         for address, name in placed.externals.items():
-            if name in WAITING or any(it in name for it in WAITING_WORDS):
+            if is_waiting(name):
                 self.machine.mem_write(address, RETURN)
 
     def restore(self) -> None:
@@ -48,18 +50,18 @@ class Emulator:
     def write(self, address: int, size: int, value: int) -> None:
         self.machine.mem_write(address, (value % 2 ** (8 * size)).to_bytes(size, "little"))
 
-    def call(self, address: int, argument: int) -> tuple[int, int]:
-        """Calls a function with RDI, and returns RAX and RDX."""
+    def call(self, address: int, argument: int, steps: int = MOST_STEPS) -> tuple[int, int]:
+        """Calls a function with RDI, and returns RAX and RDX. A call that goes round is ended after so many instructions."""
         top = STACK + STACK_SIZE - PAGE - 8
         self.write(top, 8, STOP)
         self.machine.reg_write(x86.UC_X86_REG_RSP, top)
         self.machine.reg_write(x86.UC_X86_REG_RDI, argument)
         try:
-            self.machine.emu_start(address, STOP, count=MOST_STEPS)
+            self.machine.emu_start(address, STOP, count=steps)
         except unicorn.UcError as error:
             raise Stuck(str(error)) from None
         if self.machine.reg_read(x86.UC_X86_REG_RIP) != STOP:
-            raise Stuck(f"no return after {MOST_STEPS} instructions")
+            raise Stuck(f"no return after {steps} instructions")
         return self.machine.reg_read(x86.UC_X86_REG_RAX), self.machine.reg_read(x86.UC_X86_REG_RDX)
 
     def address(self, symbol: str) -> int:

@@ -15,7 +15,7 @@ class Cell:
     """A field in all items of an array, or alone where the count is 1: what becomes an array of the text."""
 
     object: Symbol
-    path: str
+    path: str = field(compare=False)
     start: int
     stride: int
     count: int
@@ -66,6 +66,9 @@ class Layout:
                 item = type_.item
                 if item is None or item.size == 0:
                     raise Refusal(f"{found.name} has an array of which no item's size is known")
+                if item.size < size and type_.size >= size:
+                    type_ = as_words(type_, size)
+                    continue
                 is_index = count == 1 and not stride and all(it % item.size == 0 for it in left) and (type_.count > 1 or bool(left))
                 if is_index:
                     index, stride, count, left = offset // item.size, item.size, type_.count, []
@@ -99,15 +102,31 @@ class Layout:
         return names
 
 
+def as_words(type_: Type, size: int) -> Type:
+    """Storage that is declared as bytes, as words of the size of an access; one word where it has just that size."""
+    word = Type("base", "", size)
+    return word if type_.size == size else Type("array", "", type_.size, item=word, count=type_.size // size)
+
+
 def real_members(type_: Type) -> list[str]:
     """The members of a struct that have a size."""
     return [it.name for it in type_.members if it.type.size]
 
 
 def member_at(type_: Type, offset: int, size: int) -> Member | None:
-    """The member that an access lies in; of a union the largest."""
+    """The member that an access lies in; of a union the first with a field of just this place and size, else the largest."""
     inside = [it for it in type_.members if it.offset <= offset and offset + size <= it.offset + it.type.size]
-    return max(inside, key=lambda it: it.type.size, default=None)
+    exact = [it for it in inside if has_field(it.type, offset - it.offset, size)]
+    return exact[0] if exact else max(inside, key=lambda it: it.type.size, default=None)
+
+
+def has_field(type_: Type, offset: int, size: int) -> bool:
+    """Whether a type has a field of this place and size."""
+    if type_.kind in ("base", "pointer"):
+        return offset == 0 and type_.size == size
+    if type_.kind == "array" and type_.item is not None and type_.item.size:
+        return has_field(type_.item, offset % type_.item.size, size)
+    return any(has_field(it.type, offset - it.offset, size) for it in type_.members if it.offset <= offset < it.offset + max(it.type.size, 1))
 
 
 def clean(name: str) -> str:

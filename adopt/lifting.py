@@ -5,10 +5,10 @@ from typing import Callable
 
 from . import private
 from .conditions import condition_of
-from .decoding import Block, Graph, Instruction, Operand
+from .decoding import Block, Graph, Instruction, Operand, is_waiting
 from .ir import Flow, Procedure, Value, computed, constant
 from .objectfile import ObjectFile
-from .private import IN, MASK, OUT, Known, is_private, is_stack
+from .private import IN, OUT, Known
 from .refusing import Refusal
 from .registers import CALLER_SAVED, PARTS
 
@@ -301,6 +301,8 @@ class Lifter:
             for found in block.instructions:
                 self.source = found
                 flow.source = found
+                if block.end in ("stop", "unknown") and found is block.instructions[-1]:
+                    break
                 self.instruction(found)
                 private.step(self.known, found)
             self.finish(block, flow)
@@ -335,10 +337,8 @@ class Lifter:
     def instruction(self, found: Instruction) -> None:
         """One instruction."""
         name, operands = found.name, found.operands
-        if found.waits_in:
-            self.procedure.note("dropped", found, f"the call of {found.waits_in}, which only waits")
-            for register in CALLER_SAVED:
-                self.write(register, Value("undef", [], 64, name=f"{register} after a call"))
+        if found.waits_in or (name == "call" and not operands[0].is_number):
+            self.waits(found)
             return
         if name == "pause":
             self.make("pause", [], 64)
@@ -355,6 +355,20 @@ class Lifter:
         if rule is None:
             raise Refusal(f"`{found.text}` has no form in a text")
         rule(self, found)
+
+    def waits(self, found: Instruction) -> None:
+        """A call of a function outside, which has to be one that only waits."""
+        name = found.waits_in
+        if not name:
+            target = found.operands[0]
+            address = self.known.get(target.register) if target.is_register else None
+            name = self.placed.externals.get(address or 0, "")
+            if not is_waiting(name):
+                called = name or "a function that is known only when it runs"
+                raise Refusal(f"`{found.text}` calls {called}, whose body the object does not have")
+        self.procedure.note("dropped", found, f"the call of {name}, which only waits")
+        for register in CALLER_SAVED:
+            self.write(register, Value("undef", [], 64, name=f"{register} after a call"))
 
     def conditional(self, kind: str, name: str, found: Instruction) -> None:
         """`setcc` and `cmovcc`."""
@@ -381,11 +395,23 @@ class Lifter:
         LOCKED_RULES[found.name](self, found, self.address(target), bits)
 
     def locked_private(self, found: Instruction, place: int) -> None:
-        """A locked instruction on private memory is a fence."""
+        """A locked instruction on private memory is a fence, and does there what it does without the lock."""
         self.make("fence", [], 64)
-        if not is_stack(place) or found.name not in ("or", "add", "sub", "and") or found.operands[1].value & 255 not in (0, 255):
-            raise Refusal(f"`{found.text}` changes private memory")
         self.procedure.note("changed", found, "a locked operation on the stack is mfence")
+        target = found.operands[0]
+        old = self.load(target)
+        if found.name == "cmpxchg":
+            expected, new = self.part(self.read("rax"), old.bits), self.value(found.operands[1])
+            self.flags("compare", [expected, old])
+            self.store_private(place, self.make("select", [self.condition("e"), new, old], old.bits))
+            self.set_register({8: "al", 16: "ax", 32: "eax", 64: "rax"}[old.bits], old)
+        elif found.name == "xchg":
+            self.store_private(place, self.value(found.operands[1]))
+            self.assign(found.operands[1], old)
+        elif found.name in RULES:
+            RULES[found.name](self, found)
+        else:
+            raise Refusal(f"`{found.text}` has no form in a text")
 
 
 Rule = Callable[[Lifter, Instruction], None]
@@ -492,7 +518,10 @@ def shift(op: str) -> Rule:
         if len(found.operands) > 1:
             amount = lifter.value(found.operands[1], 8)
         if not amount.is_number:
-            raise Refusal(f"`{found.text}` shifts by a number that is known only when it runs")
+            made = lifter.make("shift", [one, amount], one.bits, name=found.text)
+            lifter.flags("shift", [made])
+            lifter.assign(target, made)
+            return
         by = amount.number & (63 if one.bits == 64 else 31)
         made = lifter.make(op, [one], one.bits, by) if by else one
         last = [lifter.make("and", [one, constant(1 << (by - 1), one.bits)], one.bits)] if op in ("shr", "sar") and by else []
@@ -598,6 +627,13 @@ def locked_compare(lifter: Lifter, found: Instruction, address: Value, bits: int
     lifter.set_register({8: "al", 16: "ax", 32: "eax", 64: "rax"}[bits], old)
 
 
+def locked_bits(lifter: Lifter, found: Instruction, address: Value, bits: int) -> None:
+    """`lock and`, `lock or`, `lock xor`."""
+    other = lifter.value(found.operands[1], bits)
+    old = lifter.make("locked", [address, other], bits, name=found.name)
+    lifter.flags("result", [lifter.make(found.name, [old, other], bits)])
+
+
 RULES: dict[str, Rule] = {
     "mov": move, "movabs": move, "movzx": extend("zext"), "movsx": extend("sext"), "movsxd": extend("sext"), "lea": effective,
     "push": push, "pop": pop, "leave": leave, "add": arithmetic("add"), "sub": arithmetic("sub"), "and": arithmetic("and"),
@@ -608,7 +644,5 @@ RULES: dict[str, Rule] = {
 }  # fmt: skip
 LOCKED_RULES: dict[str, LockedRule] = {
     "xchg": locked_exchange, "xadd": locked_add, "add": locked_add, "sub": locked_add, "inc": locked_add, "dec": locked_add,
-    "cmpxchg": locked_compare,
+    "cmpxchg": locked_compare, "and": locked_bits, "or": locked_bits, "xor": locked_bits,
 }  # fmt: skip
-
-__all__ = ["Lifter", "Signature", "is_private", "MASK"]

@@ -40,6 +40,7 @@ class Lowering:
         self.wanted = self.find_wanted()
         self.tests = self.find_tests()
         self.block = CodeBlock(0)
+        self.lasts: dict[int, CodeBlock] = {}
         self.source: Instruction | None = None
         self.last_exchange: Value | None = None
         self.last_difference: tuple[Value, Line] | None = None
@@ -122,6 +123,7 @@ class Lowering:
         for number in self.procedure.order():
             self.block = self.code.blocks[number]
             self.flow(self.procedure.flows[number])
+            self.lasts[number] = self.block
         for number in self.procedure.order():
             self.copies(self.procedure.flows[number])
         return self.code
@@ -163,7 +165,7 @@ class Lowering:
         if len(flow.successors) != 1:
             return
         following = self.procedure.flows[flow.successors[0]]
-        self.block, self.source = self.code.blocks[flow.number], flow.source
+        self.block, self.source = self.lasts[flow.number], flow.source
         for phi in following.phis:
             if phi in self.wanted:
                 arg = phi.args[following.predecessors.index(flow.number)]
@@ -178,7 +180,7 @@ class Lowering:
         self.emit("mov", self.given[phi], Number(0))
 
     def end(self, flow: Flow) -> None:
-        self.block.successors = list(flow.successors)
+        self.block.successors, self.block.source = list(flow.successors), flow.source
         if flow.end == "branch":
             assert flow.condition is not None
             if flow.condition.op != "cmp":
@@ -350,13 +352,11 @@ class Lowering:
         return value.name
 
     def has_flags(self, value: Value, first: Reg, second: Operand) -> bool:
-        """Whether the last instruction that wrote flags wrote those of this comparison."""
+        """Whether the last instruction that wrote flags wrote those of this comparison. A value's register is written once."""
         at = next((at for at in range(len(self.block.lines) - 1, -1, -1) if self.block.lines[at].writes_flags), None)
         if at is None:
             return False
-        last, after = self.block.lines[at], self.block.lines[at + 1 :]
-        if any(first in it.writes() or second in it.writes() for it in after):
-            return False
+        last = self.block.lines[at]
         if last.name == "cmp" and last.operands == [first, second]:
             return True
         if self.last_difference is not None and self.last_difference[1] is last:
@@ -429,6 +429,31 @@ class Lowering:
         self.emit("lock cmpxchg", place, new, fixed=[accumulator])
         self.emit("mov", self.register(value), accumulator)
         self.last_exchange = value
+
+    def lower_locked(self, value: Value) -> None:
+        """A loop of a load and a compare and exchange."""
+        place, accumulator = self.place(value), self.code.new("rax")
+        other = self.small(self.word(value.args[1]))
+        self.emit("mov", accumulator, place)
+        loop, behind = CodeBlock(self.number()), CodeBlock(self.number() + 1)
+        self.code.blocks |= {loop.number: loop, behind.number: behind}
+        self.block.successors, self.block.source = [loop.number], self.source
+        loop.successors, loop.condition, loop.source = [loop.number, behind.number], "ne", self.source
+        self.block = loop
+        new = self.code.new()
+        self.emit("mov", new, accumulator)
+        self.emit(value.name, new, other)
+        self.emit("lock cmpxchg", place, new, fixed=[accumulator])
+        self.block = behind
+        self.emit("mov", self.register(value), accumulator)
+        self.procedure.note("changed", self.source, f"a locked `{value.name}` is a load and a loop of a compare and exchange")
+
+    def number(self) -> int:
+        """A number that no block has."""
+        return max([*self.code.blocks, *self.procedure.flows]) + 1
+
+    def lower_shift(self, value: Value) -> None:
+        raise Refusal(f"`{value.name}` shifts by a number that is known only when it runs", self.source.address if self.source else None)
 
     def lower_fence(self, _: Value) -> None:
         self.emit("mfence")

@@ -9,7 +9,7 @@ from .private import is_private
 from .ranges import most
 from .refusing import Refusal
 
-ACCESSES = {"load", "store", "xchg", "xadd", "cmpxchg"}
+ACCESSES = {"load", "store", "xchg", "xadd", "cmpxchg", "locked"}
 # A sum: a number, and values with what each is multiplied by.
 Sum = tuple[int, dict[Value, int]]
 
@@ -92,8 +92,15 @@ class Memory:
         for value in procedure.values():
             if value.op in ACCESSES and value.op != "load":
                 found = self.resolve(value)
-                self.written.add((found.cell, found.size))
+                if not self.keeps(value, found):
+                    self.written.add((found.cell, found.size))
         return len(self.written) > before
+
+    def keeps(self, value: Value, found: Resolved) -> bool:
+        """Whether a store writes the number that the cell has from the start on, and no other store writes another."""
+        if value.op != "store" or not value.args[1].is_number or found.cell.count > 1 or self.is_written(found.cell.start, found.size):
+            return False
+        return self.placed.read(found.cell.start, found.size) == value.args[1].number
 
     def initial(self, address: int, size: int) -> int | None:
         """The value of memory that neither push nor pop writes, as far as the object has it."""
@@ -117,6 +124,9 @@ class Memory:
 
 def check_overlaps(sizes: dict[Cell, int]) -> None:
     """Refuses cells of which one lies partly in another."""
+    for cell, size in sizes.items():
+        if cell.count > 1 and cell.stride < size:
+            raise Refusal(f"{cell.object.name} is an array with {cell.stride} bytes for each item, and is accessed with {size}")
     spans = sorted((cell.address(index), cell.address(index) + size, cell) for cell, size in sizes.items() for index in range(cell.count))
     for (_, end, one), (start, _, two) in zip(spans, spans[1:]):
         if start < end and one != two:

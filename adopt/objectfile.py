@@ -22,6 +22,7 @@ GAP = 0x1_0000
 HEAP = 0x5C30_0000
 ALLOCATED, EXECUTABLE, THREAD_LOCAL, WRITABLE = 0x2, 0x4, 0x400, 0x1
 SYMBOL_SIZE = 24
+TABLE_ENTRY = "table entry "
 
 RELOCATION_NAMES = {number: name for name, number in ENUM_RELOC_TYPE_x64.items() if isinstance(number, int)}
 ABSOLUTE = {"R_X86_64_64": 8, "R_X86_64_32": 4, "R_X86_64_32S": 4}
@@ -94,6 +95,11 @@ class ObjectFile:
         """The object that an address lies in."""
         inside = [it for it in self.objects() if it.address <= address < it.address + max(it.size, 1)]
         return inside[-1] if inside else None
+
+    def table_entry(self, address: int) -> int | None:
+        """What an entry of the global offset table holds."""
+        section = self.section_at(address)
+        return self.read(address, 8) if section is not None and section.name.startswith(TABLE_ENTRY) else None
 
     def is_address(self, number: int) -> bool:
         """Whether a number is an address of the placed object."""
@@ -212,7 +218,7 @@ class Placer:
     def entry_for(self, address: int) -> int:
         """The entry of the global offset table that holds an address."""
         if address not in self.table:
-            entry = self.new_section(f"table entry {address:x}", bytearray(address.to_bytes(8, "little")), False, False)
+            entry = self.new_section(f"{TABLE_ENTRY}{address:x}", bytearray(address.to_bytes(8, "little")), False, False)
             self.table[address] = entry.address
         return self.table[address]
 

@@ -7,6 +7,7 @@ regions, so that a procedure that hands one out is noticed.
 from dataclasses import dataclass
 
 from .decoding import Graph, Instruction, Operand
+from .objectfile import BASE
 from .registers import CALLER_SAVED, PARTS, full_of
 
 # Before a call the stack is aligned to 16, and the call pushes 8 bytes.
@@ -16,7 +17,7 @@ IN = 0x7FFD_0000_0000
 LOWEST, HIGHEST = 0x7FFD_0000_0000 - 0x1000, 0x7FFF_0001_0000
 MASK = 2**64 - 1
 
-# What is known to be a pointer to private memory: registers by name, slots by address.
+# What is known to be a pointer: registers by name, slots by address.
 Known = dict[str | int, int]
 
 
@@ -41,7 +42,8 @@ class Private:
         """The private address of a memory operand."""
         if not operand.is_memory or operand.index or operand.base not in known:
             return None
-        return (known[operand.base] + operand.value) & MASK
+        place = (known[operand.base] + operand.value) & MASK
+        return place if is_private(place) else None
 
 
 def step(known: Known, found: Instruction) -> None:
@@ -65,7 +67,7 @@ def results(known: Known, found: Instruction) -> Known:
         loaded = known.get(stack)
         return {"rsp": stack + 8} | ({} if loaded is None else {operands[0].register: loaded})
     if name == "call":
-        return {"rsp": stack - 8}
+        return {"rsp": stack - 8} if found.operands[0].is_number else {"rsp": stack}
     if name == "ret":
         return {"rsp": stack + 8}
     if name == "leave":
@@ -92,6 +94,8 @@ def computed(known: Known, name: str, target: Operand, source: Operand) -> Known
     number: int | None = None
     if name == "mov" and source.is_register:
         number = known.get(source.register)
+    elif name == "mov" and source.is_number and source.value >= BASE:
+        number = source.value
     elif name == "mov" and source.is_memory:
         place = Private.address(known, source)
         number = None if place is None or source.size != 8 else known.get(place)
@@ -105,6 +109,9 @@ def computed(known: Known, name: str, target: Operand, source: Operand) -> Known
 
 def forget(known: Known, found: Instruction) -> None:
     """What an instruction writes is not known any more."""
+    if found.name == "call" and not found.operands[0].is_number:
+        for name in CALLER_SAVED:
+            known.pop(name, None)
     _, written = found.decoded.regs_access()  # type: ignore[attr-defined]
     for number in written:
         known.pop(full_of(found.decoded.reg_name(number)), None)  # type: ignore[attr-defined]

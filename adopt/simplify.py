@@ -3,6 +3,7 @@
 from typing import Callable
 
 from .ir import EFFECTS, OPPOSITE, SWAPPED, Flow, Procedure, Value, computed, constant
+from .ranges import most
 
 FOLDED = {"zext", "sext", "trunc", "xor", "and", "or", "add", "sub", "neg", "not"}
 
@@ -99,6 +100,11 @@ class Simplifier:
                 return constant(int(answer), 1)
         if one.is_number:
             return self.new("cmp", [two, one], 1, name=SWAPPED[value.name])
+        bounded = by_range(value)
+        if bounded is not None:
+            return constant(int(bounded), 1)
+        if value.name in ("e", "ne") and one.op == "shl" and two.op == "shl" and one.number == two.number:
+            return self.new("cmp", [one.args[0], two.args[0]], 1, name=value.name)
         if not two.is_number or value.name not in ("e", "ne"):
             return None
         if one.op == "select" and one.args[1].is_number and one.args[2].is_number:
@@ -136,6 +142,19 @@ def implied(value: Value, other: Value, holds: bool) -> bool | None:
     if value.name == other.name:
         return holds
     return not holds if value.name == OPPOSITE[other.name] else None
+
+
+def by_range(value: Value) -> bool | None:
+    """Whether a comparison with a number is always the same, because of how the value was made."""
+    one, two = value.args
+    if not two.is_number or value.name in ("l", "ge", "le", "g"):
+        return None
+    greatest = most(one)
+    if greatest < two.number:
+        return value.name in ("ne", "b", "be")
+    if greatest == two.number and value.name in ("a", "be"):
+        return value.name == "be"
+    return None
 
 
 def dominating(procedure: Procedure) -> dict[int, list[tuple[Value, bool]]]:
@@ -188,6 +207,9 @@ def of_trunc(simplifier: Simplifier, value: Value) -> Value | None:
     if inner.op in ("and", "or", "xor", "add", "sub") and inner.args[1].is_number:
         narrow = simplifier.new("trunc", [inner.args[0]], value.bits)
         return simplifier.new(inner.op, [narrow, constant(inner.args[1].number, value.bits)], value.bits)
+    if inner.op in ("shl", "mul", "neg", "not") and not (inner.op == "shl" and inner.number >= value.bits):
+        narrow = simplifier.new("trunc", [inner.args[0]], value.bits)
+        return simplifier.new(inner.op, [narrow], value.bits, inner.number % 2**value.bits)
     return None
 
 

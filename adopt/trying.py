@@ -12,6 +12,7 @@ from .layout import Cell
 # Where counters begin beside the object's own first values: near the end of their bits, and in the middle.
 SHIFTS = (-3, -1, 5, 1000)
 LENGTH = 50
+PATIENCE = 60
 SMALL = (0, 1, 2, 3, 4, 5, 6, 7, 8, -1, -2)
 
 
@@ -35,7 +36,7 @@ class Trial:
         self.random = random.Random(seed)
         self.emulator = Emulator(adopted.placed)
         self.program = read_program(adopted.text)
-        self.machine = Machine(self.program, has_bounds=False)
+        self.machine = Machine(self.program, has_bounds=False, patience=PATIENCE)
         self.places = {name: self.emulator.address(symbol) for name, symbol in (("push", options.push), ("pop", options.pop))}
         self.value = 0
         self.calls: list[str] = []

@@ -8,10 +8,10 @@ is not negative; where that does not follow from how it was made, the upper bits
 from .ir import EFFECTS, Procedure, Value
 from .ranges import is_small, most
 
-FULLY = {"cmp", "store", "xchg", "xadd", "cmpxchg", "shr", "sar"}
+FULLY = {"cmp", "store", "xchg", "xadd", "cmpxchg", "locked", "shr", "sar"}
 LOW = {"add", "sub", "mul", "shl", "neg", "not", "or", "xor", "phi", "and"}
 SUMS = {"add", "sub", "mul", "shl", "neg", "trunc"}
-CANONICAL_USERS = {"cmp", "store", "xchg", "xadd", "cmpxchg", "shr", "sar", "sext"}
+CANONICAL_USERS = {"cmp", "store", "xchg", "xadd", "cmpxchg", "locked", "shr", "sar", "sext"}
 
 
 class Widths:

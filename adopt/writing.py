@@ -101,7 +101,7 @@ class Writer:
 
     def commented(self, text: str, source: Instruction | None) -> str:
         where = self.where(source)
-        return f"  {text}".ljust(COMMENT_COLUMN) + f"; {where}" if where else f"  {text}"
+        return f"  {text} ".ljust(COMMENT_COLUMN) + f"; {where}" if where else f"  {text}"
 
 
 def count_instructions(procedures: list[list[str]]) -> None:
