@@ -20,6 +20,7 @@ from .memory import Memory, check_overlaps
 from .objectfile import ObjectFile, read_object
 from .refusing import Refusal
 from .simplify import Simplifier
+from .strides import Strides
 from .writing import Array, Bounds, Writer, count_instructions, whole
 
 MOST_ITEMS = 16
@@ -116,7 +117,7 @@ class Adoption:
             count = len(procedure.flows)
             Constants(procedure, self.memory.initial).run().rewrite()
             Simplifier(procedure).run()
-            is_changed = DeadBranches(procedure).run() or any(it.condition is not None and it.condition.is_number for it in procedure.flows.values())
+            is_changed = DeadBranches(procedure).run() | Strides(procedure, self.placed).run() or any(it.condition is not None and it.condition.is_number for it in procedure.flows.values())
 
     def adopt(self) -> Adopted:
         procedures = self.reduced()

@@ -4,6 +4,7 @@ from typing import Callable
 
 from .ir import EFFECTS, OPPOSITE, SWAPPED, Flow, Procedure, Value, computed, constant
 from .ranges import most
+from .strides import steps_of
 
 FOLDED = {"zext", "sext", "trunc", "xor", "and", "or", "add", "sub", "neg", "not"}
 
@@ -103,8 +104,10 @@ class Simplifier:
         bounded = by_range(value)
         if bounded is not None:
             return constant(int(bounded), 1)
-        if value.name in ("e", "ne") and one.op == "shl" and two.op == "shl" and one.number == two.number:
-            return self.new("cmp", [one.args[0], two.args[0]], 1, name=value.name)
+        if value.name in ("e", "ne"):
+            found = self.of_multiples(value)
+            if found is not None:
+                return found
         if not two.is_number or value.name not in ("e", "ne"):
             return None
         if one.op == "select" and one.args[1].is_number and one.args[2].is_number:
@@ -118,6 +121,26 @@ class Simplifier:
         if one.op == "cmp" and two.number in (0, 1):
             return self.of_choice(one, (value.name == "e") == bool(two.number), (value.name == "e") != bool(two.number))
         return None
+
+    def of_multiples(self, value: Value) -> Value | None:
+        """Whether two numbers of steps of the same size are equal: the steps are compared. Neither is near 2^64 in memory that exists."""
+        parts = steps_of(*value.args)
+        if parts is None:
+            return None
+        sides = [self.total(terms) for terms in parts[1:]]
+        if sides[0].is_number:
+            return None
+        sides[1] = self.new("add", [sides[1], constant(parts[0], 64)], 64) if parts[0] else sides[1]
+        return self.new("cmp", sides, 1, name=value.name)
+
+    def total(self, terms: list[tuple[Value, int]]) -> Value:
+        """A sum of values with factors."""
+        total: Value | None = None
+        for leaf, count in terms:
+            wide = leaf if leaf.bits == 64 else self.new("zext", [leaf], 64)
+            part = wide if count == 1 else self.new("mul", [wide], 64, count % 2**64)
+            total = part if total is None else self.new("add", [total, part], 64)
+        return constant(0, 64) if total is None else total
 
     def of_choice(self, condition: Value, first: bool, second: bool) -> Value:
         """A condition by another one: whether it holds where that holds, and where not."""
@@ -234,8 +257,13 @@ def of_add(simplifier: Simplifier, value: Value) -> Value | None:
     return None
 
 
-def of_sub(_: Simplifier, value: Value) -> Value | None:
-    return value.args[0] if value.args[1].is_number and value.args[1].number == 0 else None
+def of_sub(simplifier: Simplifier, value: Value) -> Value | None:
+    one, two = value.args
+    if two.is_number and two.number == 0:
+        return one
+    if two.is_number and one.op == "add" and one.args[1].is_number:
+        return simplifier.new("add", [one.args[0], constant(one.args[1].number - two.number, value.bits)], value.bits)
+    return None
 
 
 def of_and(simplifier: Simplifier, value: Value) -> Value | None:
@@ -264,6 +292,18 @@ def of_or(simplifier: Simplifier, value: Value) -> Value | None:
     if one.is_number:
         return simplifier.new(value.op, [two, one], value.bits)
     return one if two.is_number and two.number == 0 else None
+
+
+def of_mul(simplifier: Simplifier, value: Value) -> Value | None:
+    """A product by 0, 1, -1 or a power of two."""
+    factor = value.number
+    if factor == 2**value.bits - 1:
+        return simplifier.new("neg", list(value.args), value.bits)
+    if factor & (factor - 1):
+        return None
+    if factor <= 1:
+        return value.args[0] if factor else constant(0, value.bits)
+    return simplifier.new("shl", list(value.args), value.bits, factor.bit_length() - 1)
 
 
 def of_shl(simplifier: Simplifier, value: Value) -> Value | None:
@@ -297,5 +337,5 @@ def of_select(_: Simplifier, value: Value) -> Value | None:
 Rule = Callable[[Simplifier, Value], Value | None]
 RULES: dict[str, Rule] = {
     "trunc": of_trunc, "zext": of_zext, "add": of_add, "sub": of_sub, "and": of_and, "or": of_or, "xor": of_or,
-    "shl": of_shl, "shr": of_shr, "select": of_select,
+    "shl": of_shl, "mul": of_mul, "shr": of_shr, "select": of_select,
 }  # fmt: skip
