@@ -12,7 +12,7 @@ from .decoding import Decoder, graph_of
 from .initializing import initialize, type_heap
 from .interpreter import Machine, read_program
 from .ir import Procedure, signed
-from .layout import Cell, Layout
+from .layout import Cell, Layout, read_layout
 from .lifting import Lifter, Signature
 from .linearizing import Laid, Linearizer
 from .lowering import Lowering, Tables, cells_of
@@ -41,6 +41,7 @@ class Options:
     mode: str = "strict"
     threads: list[str] = field(default_factory=lambda: ["push 1, push 2", "pop, pop"])
     before: str = ""
+    layout: list[str] = field(default_factory=list)
 
     @property
     def calls(self) -> int:
@@ -70,7 +71,7 @@ class Adoption:
         if options.init:
             initialize(self.placed, options.init)
         self.debug = DebugInfo(self.placed)
-        self.layout = Layout(self.placed, self.debug)
+        self.layout = Layout(self.placed, self.debug, dict(read_layout(it) for it in options.layout))
         type_heap(self.layout)
         self.memory = Memory(self.placed, self.layout)
         self.bounds = Bounds(options.calls, options.bound, options.bound_at)

@@ -49,6 +49,8 @@ def add_queue(made: Parser) -> None:
     group.add_argument("--push", default="push", metavar="SYMBOL", help="the function that pushes (default: push)")
     group.add_argument("--pop", default="pop", metavar="SYMBOL", help="the function that pops (default: pop)")
     group.add_argument("--init", default="", metavar="SYMBOL", help="a function that fills the queue's memory first; it runs in the emulator")
+    group.add_argument("--layout", action="append", default=[], metavar="FIELDS", help="fields of an object without debug information: "
+                       "OBJECT=NAME:OFFSET:SIZE*COUNT/STRIDE,..")
     group.add_argument("--done", type=int, choices=(0, 1), default=1, help="what a call that is done answers (default: 1); with 0, all else is refused")
 
 
@@ -96,7 +98,7 @@ def options_of(words: argparse.Namespace, made: Parser) -> Options:
     if words.capacity is not None and not 1 <= words.capacity <= 16:
         made.error("--capacity wants a number from 1 to 16")
     options = Options(words.push, words.pop, words.init, words.done, words.bound, bounds_of(words.bound_at, made), words.capacity, words.mode)
-    options.before = words.before
+    options.before, options.layout = words.before, words.layout
     if words.thread:
         options.threads = words.thread
     return options
@@ -111,7 +113,8 @@ def adopt(path: pathlib.Path, words: argparse.Namespace, options: Options) -> Ad
         raise Refusal(located(adoption, refusal)) from None
     if not words.no_try and words.tries:
         count, skipped = try_text(adopted, options, words.tries)
-        adopted.report.append(f"tried: {count} calls as compiled code and as text, {count - skipped} with answers and memory alike")
+        more = f"; {skipped} more wait without end, or go outside of an array from a made-up state" if skipped else ""
+        adopted.report.append(f"tried: {count - skipped} calls as compiled code and as text, with answers and memory alike{more}")
     return adopted
 
 

@@ -6,6 +6,7 @@ import pathlib
 from dataclasses import dataclass, field
 from typing import Any
 
+from elftools.construct import StaticField  # type: ignore[import]
 from elftools.dwarf.die import DIE  # type: ignore[import]
 from elftools.elf.elffile import ELFFile  # type: ignore[import]
 
@@ -174,6 +175,8 @@ class DebugInfo:
     # Lines.
 
     def read_lines(self, unit: Any) -> None:
+        # pyelftools 0.29 does not know the form of the sums that clang writes beside file names.
+        unit.structs.Dwarf_dw_form.setdefault("DW_FORM_data16", StaticField("", 16))
         program = self.dwarf.line_program_for_CU(unit) if self.dwarf is not None else None
         if program is None:
             return

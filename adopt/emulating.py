@@ -13,7 +13,7 @@ STACK, STACK_SIZE = 0x7000_0000, 0x4_0000
 SCRATCH = 0x6800_0000
 STOP = 0x6900_0000
 HEAP_SIZE = 0x10_0000
-MOST_STEPS = 3000
+MOST_STEPS = 20_000
 RETURN = b"\xc3"
 
 
@@ -27,7 +27,7 @@ class Emulator:
     def __init__(self, placed: ObjectFile) -> None:
         self.placed = placed
         self.machine = unicorn.Uc(unicorn.UC_ARCH_X86, unicorn.UC_MODE_64)
-        end = max(it.end for it in placed.sections) + 2 * PAGE
+        end = max(it.end for it in placed.sections if it.address < HEAP) + 2 * PAGE
         self.machine.mem_map(BASE, (end - BASE + PAGE - 1) & ~(PAGE - 1))
         self.machine.mem_map(STACK, STACK_SIZE)
         self.machine.mem_map(SCRATCH, PAGE)

@@ -33,12 +33,50 @@ class Access:
     index: int
 
 
+@dataclass(frozen=True)
+class Field:
+    """A field that --layout names: so many items of so many bytes, each so far behind the other."""
+
+    name: str
+    offset: int
+    size: int
+    count: int
+    stride: int
+
+
+FIELD = re.compile(r"(\w+):(\w+):([1248])(?:\*(\d+)(?:/(\d+))?)?")
+
+
+def read_layout(word: str) -> tuple[str, list[Field]]:
+    """An object and its fields, as `ring=head:0:8,slots:64:8*4/16`."""
+    name, _, fields = word.partition("=")
+    made = []
+    for part in fields.split(","):
+        found = FIELD.fullmatch(part.strip())
+        if not name or found is None:
+            raise Refusal(f"--layout wants OBJECT=NAME:OFFSET:SIZE*COUNT/STRIDE,.., not {word}")
+        size, count = int(found[3]), int(found[4] or 1)
+        made.append(Field(found[1], int(found[2], 0), size, count, int(found[5] or size)))
+    return name, made
+
+
+def by_hand(found: Symbol, fields: list[Field], offset: int, strides: list[int], size: int) -> Access:
+    """The access to a field that --layout names."""
+    for it in fields:
+        at, rest = divmod(offset - it.offset, it.stride)
+        if rest == 0 and 0 <= at < it.count and size <= it.size and all(step % it.stride == 0 for step in strides):
+            stride = it.stride if it.count > 1 else 0
+            return Access(Cell(found, it.name, found.address + it.offset, stride, it.count), at)
+    raise Refusal(f"--layout has no field of {found.name} at {offset:#x} with {size} bytes")
+
+
 @dataclass
 class Layout:
     """Finds cells by the types of the objects."""
 
     placed: ObjectFile
     debug: DebugInfo
+    given: dict[str, list["Field"]] = field(default_factory=dict)
     types: dict[int, Type] = field(default_factory=dict)
 
     def __post_init__(self) -> None:
@@ -49,11 +87,14 @@ class Layout:
         found = self.placed.object_at(start)
         if found is None:
             raise Refusal(f"no object of the object file lies at {start:#x}")
+        given = self.given.get(found.name)
+        if given is not None:
+            return by_hand(found, given, start - found.address, strides, size)
         made = self.types.get(found.address)
         if made is None or made.size == 0:
-            made = Type("array", "", found.size, item=Type("base", "", size), count=found.size // size) if not strides else None
-        if made is None:
-            raise Refusal(f"the debug information has no type of {found.name}, and it is accessed with an index: give --layout")
+            if strides:
+                raise Refusal(f"the debug information has no type of {found.name}, and it is accessed with an index: give --layout")
+            return Access(Cell(found, f"{start - found.address:x}", start, 0, 1), 0)
         return self.descend(found, made, start - found.address, strides, size)
 
     def descend(self, found: Symbol, type_: Type, offset: int, strides: list[int], size: int) -> Access:

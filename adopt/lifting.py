@@ -120,7 +120,7 @@ class Lifter:
         is_push = self.signature.name == "push"
         if is_push and variable == (IN if self.signature.takes_pointer else "rdi"):
             return self.argument()
-        return Value("undef", [], 64, name=str(variable))
+        return Value("undef", [], 64, name=variable if isinstance(variable, str) else "a piece of private memory")
 
     def argument(self) -> Value:
         found = next((it for it in self.flows[0].values if it.op == "argument"), None)

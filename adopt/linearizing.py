@@ -133,9 +133,34 @@ class Linearizer:
         places = {it: at for at, it in enumerate(laid.items) if isinstance(it, int)}
         for at, item in enumerate(laid.items):
             if isinstance(item, Jump) and places[item.target] <= at:
-                between = laid.items[places[item.target] : at]
-                is_retry = any(isinstance(it, Line) and it.name == "lock cmpxchg" for it in between)
-                item.back = "retry" if is_retry else "loop"
+                item.back = "retry" if self.is_retry(self.block_at(laid, at), item.target) else "loop"
+
+    @staticmethod
+    def block_at(laid: Laid, at: int) -> int:
+        """The block that an item belongs to."""
+        return next(it for it in reversed(laid.items[:at]) if isinstance(it, int))
+
+    def is_retry(self, number: int, target: int) -> bool:
+        """Whether control comes back only where a compare and exchange of this round has failed."""
+        seen, waiting = {target}, [target]
+        while waiting:
+            block = self.blocks[waiting.pop()]
+            failed = self.failed_edge(block)
+            if block.number == number and target in block.successors and target != failed:
+                return False
+            for successor in block.successors:
+                if successor not in seen and successor != failed:
+                    seen.add(successor)
+                    waiting.append(successor)
+        return True
+
+    @staticmethod
+    def failed_edge(block: CodeBlock) -> int | None:
+        """Where control goes from a compare and exchange that failed."""
+        last = next((it for it in reversed(block.lines) if it.writes_flags), None)
+        if last is None or last.name != "lock cmpxchg" or block.condition not in ("e", "ne"):
+            return None
+        return block.successors[0 if block.condition == "ne" else 1]
 
 
 def without_labels(laid: Laid) -> Laid:
