@@ -91,6 +91,8 @@ class Layout:
         if given is not None:
             return by_hand(found, given, start - found.address, strides, size)
         made = self.types.get(found.address)
+        if (made is None or made.size == 0) and found.kind == "HEAP":
+            made = Type("array", "", found.size, item=Type("base", "", size), count=found.size // size)
         if made is None or made.size == 0:
             if strides:
                 raise Refusal(f"the debug information has no type of {found.name}, and it is accessed with an index: give --layout")
