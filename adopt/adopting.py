@@ -178,7 +178,7 @@ class Adoption:
 
     def report(self, procedures: list[Procedure], sizes: dict[Cell, int], names: dict[object, str], writer: Writer, how: str) -> list[str]:
         """What was assumed, changed, widened and dropped."""
-        lines = [f"capacity: {how}", f"mode: {self.options.mode}"]
+        lines = [f"capacity: {how}", f"mode: {self.options.mode}", *self.memory.told_constants()]
         for cell, size in sizes.items():
             if size < 8:
                 lines.append(f"widened: {names[cell]} has {size * 8} bits in the object")

@@ -133,12 +133,16 @@ class Layout:
         cell = Cell(found, "_".join(path), at + offset, stride, count)
         return Access(cell, index)
 
+    def own_name(self, cell: Cell) -> str:
+        """The name of a cell's object."""
+        return clean(self.debug.names.get(cell.object.address) or cell.object.name)
+
     def names(self, cells: list[Cell]) -> dict[Cell, str]:
         """A name for each cell: its path, with the object's name in front where the path is empty or not its alone."""
         short = {it: clean(it.path) for it in cells}
         names: dict[Cell, str] = {}
         for cell in cells:
-            own = clean(self.debug.names.get(cell.object.address) or cell.object.name)
+            own = self.own_name(cell)
             is_alone = short[cell] and [it for it in cells if short[it] == short[cell]] == [cell]
             name = short[cell] if is_alone else "_".join(it for it in (own, short[cell]) if it)
             names[cell] = unused(name, set(names.values()))

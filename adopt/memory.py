@@ -67,6 +67,7 @@ class Memory:
     placed: ObjectFile
     layout: Layout
     written: set[tuple[Cell, int]] = field(default_factory=set)
+    constants: dict[tuple[int, int], int] = field(default_factory=dict)
 
     def resolve(self, value: Value) -> Resolved:
         """The cell that an access goes to."""
@@ -106,7 +107,28 @@ class Memory:
         """The value of memory that neither push nor pop writes, as far as the object has it."""
         if not self.placed.is_address(address) or self.is_written(address, size):
             return None
-        return self.placed.read(address, size)
+        number = self.placed.read(address, size)
+        if number is not None:
+            self.constants[address, size] = number
+        return number
+
+    def told_constants(self) -> list[str]:
+        """The fields whose first value was taken for their value."""
+        found = []
+        for (address, size), number in sorted(self.constants.items()):
+            section = self.placed.section_at(address)
+            if section is None or not section.is_writable or self.is_written(address, size):
+                continue
+            cell = self.layout.access(address, [], size).cell
+            own = self.layout.own_name(cell)
+            name = "_".join(it for it in (own, cell.path) if it)
+            found.append(f"assumed: {name} is {self.told(number)}, which neither push nor pop changes")
+        return list(dict.fromkeys(found))
+
+    def told(self, number: int) -> str:
+        """A number, or the object that it is the address of."""
+        found = self.placed.object_at(number) if self.placed.is_address(number) else None
+        return f"the address of {found.name}" if found is not None else str(number)
 
     def is_written(self, address: int, size: int) -> bool:
         for cell, width in self.written:
