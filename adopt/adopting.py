@@ -118,7 +118,9 @@ class Adoption:
             count = len(procedure.flows)
             Constants(procedure, self.memory.initial).run().rewrite()
             Simplifier(procedure).run()
-            is_changed = DeadBranches(procedure).run() | Strides(procedure, self.placed).run() or any(it.condition is not None and it.condition.is_number for it in procedure.flows.values())
+            is_changed = DeadBranches(procedure).run() | Strides(procedure, self.placed).run() or any(
+                it.condition is not None and it.condition.is_number for it in procedure.flows.values()
+            )
 
     def adopt(self) -> Adopted:
         procedures = self.reduced()
@@ -127,8 +129,9 @@ class Adoption:
         sizes = cells_of(lowerings)
         check_overlaps(sizes)
         self.check_sizes(lowerings, sizes)
-        names: dict[object, str] = {**self.layout.names(list(sizes))}
-        names |= {f"shifted_by_{bits}": f"shifted_by_{bits}" for bits in self.tables.lengths}
+        names: dict[object, str] = {}
+        names.update({cell: name for cell, name in self.layout.names(list(sizes)).items()})
+        names.update({f"shifted_by_{bits}": f"shifted_by_{bits}" for bits in self.tables.lengths})
         coloured = [(allocate(code), code) for code, _ in codes]
         laid: list[tuple[Laid, Colours]] = [(Linearizer(code).run(), colours) for colours, code in coloured]
         writer = Writer(self.placed, self.debug, self.bounds, names)
@@ -150,7 +153,9 @@ class Adoption:
             for value, found in lowering.resolved.items():
                 if value in lowering.wanted and value.op != "load" and found.size < sizes[found.cell]:
                     source = value.source.address if value.source else None
-                    raise Refusal(f"{found.size} bytes of a field are written that is accessed with {sizes[found.cell]} bytes elsewhere", source)
+                    raise Refusal(
+                        f"{found.size} bytes of a field are written that is accessed with {sizes[found.cell]} bytes elsewhere", source
+                    )
 
     def arrays(self, sizes: dict[Cell, int], names: dict[object, str]) -> list[Array]:
         """The arrays of the text, with the words that the object has."""
@@ -161,7 +166,9 @@ class Adoption:
         made += [Array(f"shifted_by_{bits}", [at >> bits for at in range(length)]) for bits, length in self.tables.lengths.items()]
         if len(made) > MOST_ARRAYS or sum(len(it.words) for it in made) > MOST_WORDS:
             count = sum(len(it.words) for it in made)
-            raise Refusal(f"the queue has {len(made)} fields of {count} words, and a text has at most {MOST_ARRAYS} of {MOST_WORDS}: make it smaller")
+            raise Refusal(
+                f"the queue has {len(made)} fields of {count} words, and a text has at most {MOST_ARRAYS} of {MOST_WORDS}: make it smaller"
+            )
         return made
 
     def capacity(self, arrays: list[Array], lines: list[list[str]], client: list[str]) -> tuple[int, str]:

@@ -134,7 +134,12 @@ class Allocator:
             self.colours[register] = free
 
     def is_used(self, register: Reg) -> bool:
-        return any(register == self.find(it) for block in self.code.blocks.values() for line in block.lines for it in [*line.reads(), *line.writes()])
+        return any(
+            register == self.find(it)
+            for block in self.code.blocks.values()
+            for line in block.lines
+            for it in [*line.reads(), *line.writes()]
+        )
 
 
 PREFERRED = "rcx rsi rdi rbx rbp r8 r9 r10 r11 r12 r13 r14 r15 rdx rax".split()

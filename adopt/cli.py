@@ -31,10 +31,10 @@ def parser() -> Parser:
     made = Parser(
         prog="tsoq-adopt",
         usage="tsoq-adopt FILE --push SYMBOL --pop SYMBOL --out TEXT [OPTIONS] [-- WORDS OF TSOQ]",
-        description="Reads the compiled push and pop of a ring queue, an x86-64 ELF object with debug information, and writes a program text "
-        "for tsoq. A source file (.c, .cpp, .rs) is compiled first.",
-        epilog="docs/ADOPT.md states each rule. Statuses: 0 a text was written, 2 the object is refused, 6 a file failed, 7 the text and the "
-        "compiled code differ, 64 wrong words; behind --verify and --survey the status is that of tsoq.",
+        description="Reads the compiled push and pop of a ring queue, an x86-64 ELF object with debug information, and writes a program "
+        "text for tsoq. A source file (.c, .cpp, .rs) is compiled first.",
+        epilog="docs/ADOPT.md states each rule. Statuses: 0 a text was written, 2 the object is refused, 6 a file failed, 7 the text and "
+        "the compiled code differ, 64 wrong words; behind --verify and --survey the status is that of tsoq.",
     )
     made.add_argument("file", metavar="FILE", help="an object file, or a source file that is compiled first")
     add_queue(made)
@@ -48,10 +48,19 @@ def add_queue(made: Parser) -> None:
     group = made.add_argument_group("the queue")
     group.add_argument("--push", default="push", metavar="SYMBOL", help="the function that pushes (default: push)")
     group.add_argument("--pop", default="pop", metavar="SYMBOL", help="the function that pops (default: pop)")
-    group.add_argument("--init", default="", metavar="SYMBOL", help="a function that fills the queue's memory first; it runs in the emulator")
-    group.add_argument("--layout", action="append", default=[], metavar="FIELDS", help="fields of an object without debug information: "
-                       "OBJECT=NAME:OFFSET:SIZE*COUNT/STRIDE,..")
-    group.add_argument("--done", type=int, choices=(0, 1), default=1, help="what a call that is done answers (default: 1); with 0, all else is refused")
+    group.add_argument(
+        "--init", default="", metavar="SYMBOL", help="a function that fills the queue's memory first; it runs in the emulator"
+    )
+    group.add_argument(
+        "--layout",
+        action="append",
+        default=[],
+        metavar="FIELDS",
+        help="fields of an object without debug information: " "OBJECT=NAME:OFFSET:SIZE*COUNT/STRIDE,..",
+    )
+    group.add_argument(
+        "--done", type=int, choices=(0, 1), default=1, help="what a call that is done answers (default: 1); with 0, all else is refused"
+    )
 
 
 def add_compiler(made: Parser) -> None:
@@ -64,17 +73,28 @@ def add_compiler(made: Parser) -> None:
 def add_text(made: Parser) -> None:
     group = made.add_argument_group("the text")
     group.add_argument("--out", metavar="TEXT", help="the file to write (default: standard output)")
-    group.add_argument("--capacity", type=int, metavar="N", help="the queue's capacity (default: as many pushes as are done before one is refused)")
+    group.add_argument(
+        "--capacity", type=int, metavar="N", help="the queue's capacity (default: as many pushes as are done before one is refused)"
+    )
     group.add_argument("--mode", choices=("strict", "weak"), default="strict", help="when a call may be refused (default: strict)")
     group.add_argument("--thread", action="append", metavar="CALLS", help="a thread of the client; several words make several threads")
     group.add_argument("--before", default="", metavar="CALLS", help="calls that run alone before the threads")
     group.add_argument("--bound", type=int, metavar="N", help="the bound of all jumps back")
-    group.add_argument("--bound-at", action="append", default=[], metavar="FILE:LINE=N", help="the bound of the jumps back of a source line")
+    group.add_argument(
+        "--bound-at", action="append", default=[], metavar="FILE:LINE=N", help="the bound of the jumps back of a source line"
+    )
 
 
 def add_after(made: Parser) -> None:
     group = made.add_argument_group("behind the text")
-    group.add_argument("--try", dest="tries", type=int, default=TRIES, metavar="N", help=f"calls that are held against the compiled code (default: {TRIES:,})")
+    group.add_argument(
+        "--try",
+        dest="tries",
+        type=int,
+        default=TRIES,
+        metavar="N",
+        help=f"calls that are held against the compiled code (default: {TRIES:,})",
+    )
     group.add_argument("--no-try", action="store_true", help="tries nothing")
     group.add_argument("--verify", action="store_true", help="runs `tsoq verify` on the text, with the words behind --")
     group.add_argument("--survey", action="store_true", help="runs `tsoq survey` on the text, with the words behind --")
@@ -97,7 +117,9 @@ def options_of(words: argparse.Namespace, made: Parser) -> Options:
         made.error("--bound wants a number from 0 to 15")
     if words.capacity is not None and not 1 <= words.capacity <= 16:
         made.error("--capacity wants a number from 1 to 16")
-    options = Options(words.push, words.pop, words.init, words.done, words.bound, bounds_of(words.bound_at, made), words.capacity, words.mode)
+    options = Options(
+        words.push, words.pop, words.init, words.done, words.bound, bounds_of(words.bound_at, made), words.capacity, words.mode
+    )
     options.before, options.layout = words.before, words.layout
     if words.thread:
         options.threads = words.thread

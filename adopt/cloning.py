@@ -3,7 +3,9 @@
 from .decoding import Block, Graph
 
 READS_FLAGS = {"adc", "sbb", "inc", "dec"}
-WRITES_FLAGS = set("add sub and or xor cmp test neg shl sal shr sar imul adc sbb bt xadd cmpxchg cmpxchg16b cmpxchg8b inc dec mul div idiv".split())
+WRITES_FLAGS = set(
+    "add sub and or xor cmp test neg shl sal shr sar imul adc sbb bt xadd cmpxchg cmpxchg16b cmpxchg8b inc dec mul div idiv".split()
+)
 MOST_BLOCKS = 600
 LONGEST_END = 10
 

@@ -4,7 +4,20 @@ from .ir import OPPOSITE, Value, constant
 from .refusing import Refusal
 
 # Other names of the same conditions.
-SAME = {"z": "e", "nz": "ne", "c": "b", "nc": "ae", "nae": "b", "nb": "ae", "na": "be", "nbe": "a", "nge": "l", "nl": "ge", "ng": "le", "nle": "g"}
+SAME = {
+    "z": "e",
+    "nz": "ne",
+    "c": "b",
+    "nc": "ae",
+    "nae": "b",
+    "nb": "ae",
+    "na": "be",
+    "nbe": "a",
+    "nge": "l",
+    "nl": "ge",
+    "ng": "le",
+    "nle": "g",
+}
 SIGNED = ("l", "ge", "le", "g")
 
 
@@ -18,7 +31,15 @@ def condition_of(condition: str, flags: Value) -> Value:
     condition = SAME.get(condition, condition)
     if flags.op != "flags":
         raise Refusal("the flags that are read here come from different instructions on different ways")
-    table = {"compare": of_compare, "result": of_result, "add": of_add, "count": of_count, "negated": of_negated, "shift": of_shift, "bit": of_bit}
+    table = {
+        "compare": of_compare,
+        "result": of_result,
+        "add": of_add,
+        "count": of_count,
+        "negated": of_negated,
+        "shift": of_shift,
+        "bit": of_bit,
+    }
     found = table[flags.name](condition, flags.args)
     if found is None:
         raise Refusal(f"the condition `{condition}` is read of flags that do not tell it")

@@ -84,7 +84,7 @@ class DeadBranches:
     def next_live(self, number: int) -> int | None:
         """The nearest block that control comes to in any case."""
         after = [it for it in self.later[number] if it not in (number, EXIT)]
-        return max(after, key=lambda it: len(self.later[it]), default=None)
+        return max(after, key=lambda it: len(self.later[it])) if after else None
 
     def lead(self, flow: Flow, target: int) -> None:
         source = flow.source

@@ -206,7 +206,7 @@ def name_of(name: bytes | str) -> str:
 def text_of(die: DIE, attribute: str) -> str:
     """A string of an entry, or nothing."""
     found = die.attributes.get(attribute)
-    return "" if found is None else found.value.decode(errors="replace")
+    return "" if found is None else str(found.value.decode(errors="replace"))
 
 
 def number_of(die: DIE, attribute: str, default: int = 0) -> int:

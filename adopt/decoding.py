@@ -21,7 +21,16 @@ WAITING = {"sched_yield", "pthread_yield", "usleep", "nanosleep", "rte_delay_us"
 ENDING = {"__assert_fail", "abort", "exit", "_exit", "__stack_chk_fail", "__assert", "__rte_panic", "rte_panic", "_Unwind_Resume"}
 ENDING |= {"_ZSt9terminatev", "__cxa_throw", "__cxa_rethrow", "__cxa_bad_cast", "__clang_call_terminate"}
 # What Rust's functions of this kind have in their names.
-ENDING_WORDS = ("panic", "unwrap_failed", "expect_failed", "slice_index", "assert_failed", "__throw_", "handle_alloc_error", "abort_internal")
+ENDING_WORDS = (
+    "panic",
+    "unwrap_failed",
+    "expect_failed",
+    "slice_index",
+    "assert_failed",
+    "__throw_",
+    "handle_alloc_error",
+    "abort_internal",
+)
 WAITING_WORDS = ("yield_now", "sched_yield", "spin_loop_hint")
 
 

@@ -75,11 +75,11 @@ class Emulator:
         if signature.takes_pointer:
             self.write(SCRATCH, 8, value)
         answer, _ = self.call(address, SCRATCH if signature.takes_pointer else value)
-        return answer % 2**signature.answer_bits
+        return answer & ((1 << signature.answer_bits) - 1)
 
     def pop(self, address: int, signature: Signature) -> tuple[int, int]:
         """A pop: what it answers, and its value."""
         answer, value = self.call(address, SCRATCH)
         if signature.has_out:
             value = self.read(SCRATCH, 8)
-        return answer % 2**signature.answer_bits, value
+        return answer & ((1 << signature.answer_bits) - 1), value

@@ -72,7 +72,10 @@ class Library:
 
 Action = Callable[[Library], int | None]
 ACTIONS: list[tuple[tuple[str, ...], Action]] = [
-    (("malloc", "_Znwm", "_Znam", "_ZnwmSt11align_val_t", "_ZnwmRKSt9nothrow_t", "_ZnamRKSt9nothrow_t"), lambda it: it.allocate(it.argument(0))),
+    (
+        ("malloc", "_Znwm", "_Znam", "_ZnwmSt11align_val_t", "_ZnwmRKSt9nothrow_t", "_ZnamRKSt9nothrow_t"),
+        lambda it: it.allocate(it.argument(0)),
+    ),
     (("__rust_alloc_zeroed", "__rust_alloc"), lambda it: it.allocate(it.argument(0))),
     (("calloc",), lambda it: it.allocate(it.argument(0) * it.argument(1))),
     (("aligned_alloc", "memalign"), lambda it: it.allocate(it.argument(1))),

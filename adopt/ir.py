@@ -99,12 +99,12 @@ class Procedure:
 
 def constant(number: int, bits: int) -> Value:
     """A number of so many bits."""
-    return Value("const", [], bits, number & (2**bits - 1))
+    return Value("const", [], bits, number & ((1 << bits) - 1))
 
 
 def signed(number: int, bits: int) -> int:
     """A number of so many bits, read as a signed one."""
-    return number - 2**bits if number >> (bits - 1) & 1 else number
+    return number - (1 << bits) if number >> (bits - 1) & 1 else number
 
 
 def compared(condition: str, one: int, two: int, bits: int) -> bool:
@@ -118,7 +118,7 @@ def compared(condition: str, one: int, two: int, bits: int) -> bool:
 def computed(op: str, args: list[int], bits: int, from_bits: int, number: int, name: str) -> int | None:
     """What an operation makes of numbers."""
     one, two = args[0], args[1] if len(args) > 1 else 0
-    mask = 2**bits - 1
+    mask = (1 << bits) - 1
     if op in ("zext", "trunc"):
         return one & mask
     if op == "sext":
@@ -128,7 +128,7 @@ def computed(op: str, args: list[int], bits: int, from_bits: int, number: int, n
     if op == "select":
         return args[1] if one else args[2]
     if op == "insert":
-        return (one & ~(2**number - 1) | two) & mask
+        return (one & ~((1 << number) - 1) | two) & mask
     if op == "sar":
         return signed(one, bits) >> number & mask
     table = {"add": one + two, "sub": one - two, "and": one & two, "or": one | two, "xor": one ^ two, "neg": -one, "not": ~one}

@@ -164,7 +164,9 @@ def member_at(type_: Type, offset: int, size: int) -> Member | None:
     """The member that an access lies in; of a union the first with a field of just this place and size, else the largest."""
     inside = [it for it in type_.members if it.offset <= offset and offset + size <= it.offset + it.type.size]
     exact = [it for it in inside if has_field(it.type, offset - it.offset, size)]
-    return exact[0] if exact else max(inside, key=lambda it: it.type.size, default=None)
+    if not inside:
+        return None
+    return exact[0] if exact else max(inside, key=lambda it: it.type.size)
 
 
 def has_field(type_: Type, offset: int, size: int) -> bool:
@@ -173,7 +175,9 @@ def has_field(type_: Type, offset: int, size: int) -> bool:
         return offset == 0 and type_.size == size
     if type_.kind == "array" and type_.item is not None and type_.item.size:
         return has_field(type_.item, offset % type_.item.size, size)
-    return any(has_field(it.type, offset - it.offset, size) for it in type_.members if it.offset <= offset < it.offset + max(it.type.size, 1))
+    return any(
+        has_field(it.type, offset - it.offset, size) for it in type_.members if it.offset <= offset < it.offset + max(it.type.size, 1)
+    )
 
 
 def clean(name: str) -> str:
@@ -189,5 +193,3 @@ def unused(name: str, taken: set[str]) -> str:
     while made in taken:
         made, number = f"{name[: LONGEST_NAME - 3]}_{number}", number + 1
     return made
-
-

@@ -13,7 +13,20 @@ from .refusing import Refusal
 from .registers import CALLER_SAVED, PARTS
 
 Variable = str | int
-NOTHING = {"nop", "endbr64", "pause", "lfence", "sfence", "prefetcht0", "prefetcht1", "prefetcht2", "prefetchnta", "prefetchw", "prefetch", "cld"}
+NOTHING = {
+    "nop",
+    "endbr64",
+    "pause",
+    "lfence",
+    "sfence",
+    "prefetcht0",
+    "prefetcht1",
+    "prefetcht2",
+    "prefetchnta",
+    "prefetchw",
+    "prefetch",
+    "cld",
+}
 
 
 @dataclass

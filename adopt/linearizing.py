@@ -67,7 +67,8 @@ class Linearizer:
         for number in rank:
             for successor in set(self.blocks[number].successors):
                 count[successor] += (number, successor) not in back
-        ready, order = {entry}, []
+        ready = {entry}
+        order: list[int] = []
         while ready:
             last = self.blocks[order[-1]].successors if order else []
             chosen = next((it for it in reversed(last) if it in ready), None)

@@ -79,7 +79,9 @@ class Lowering:
         return {
             it
             for it in self.wanted
-            if it.op == "and" and it not in other and all(u.op == "cmp" and u.args[1].is_number and u.args[1].number == 0 for u in users.get(it, []))
+            if it.op == "and"
+            and it not in other
+            and all(u.op == "cmp" and u.args[1].is_number and u.args[1].number == 0 for u in users.get(it, []))
         }
 
     # Words.
@@ -321,7 +323,9 @@ class Lowering:
         """A shift to the right reads a table; a number past its end is a fault of the text."""
         made = self.register(value)
         table = self.tables.name(value.number, LONGEST_TABLE)
-        self.procedure.note("changed", self.source, f"a shift by {value.number} reads a table of {LONGEST_TABLE} words; a greater number is a fault")
+        self.procedure.note(
+            "changed", self.source, f"a shift by {value.number} reads a table of {LONGEST_TABLE} words; a greater number is a fault"
+        )
         self.emit("mov", made, Place(table, self.in_register(self.word(value.args[0])), 0))
 
     def lower_select(self, value: Value) -> None:
@@ -470,5 +474,3 @@ def cells_of(lowerings: list[Lowering]) -> dict[Cell, int]:
             if value in lowering.wanted:
                 sizes[found.cell] = max(sizes.get(found.cell, 0), found.size)
     return sizes
-
-

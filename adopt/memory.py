@@ -34,9 +34,9 @@ def sum_of(value: Value) -> Sum:
 def no_wrap(value: Value) -> bool:
     """Whether a sum or product of few bits stays below its 2^bits."""
     if value.op == "add":
-        return most(value.args[0]) + most(value.args[1]) < 2**value.bits
-    factor = 2**value.number if value.op == "shl" else value.number
-    return most(value.args[0]) * factor < 2**value.bits
+        return most(value.args[0]) + most(value.args[1]) < 1 << value.bits
+    factor = 1 << value.number if value.op == "shl" else value.number
+    return most(value.args[0]) * factor < 1 << value.bits
 
 
 def plus(one: Sum, two: Sum, factor: int) -> Sum:

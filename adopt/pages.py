@@ -42,7 +42,11 @@ def escaped(text: str) -> str:
 
 def manual(made: argparse.ArgumentParser) -> str:
     """The man page."""
-    lines = ['.TH TSOQ\\-ADOPT 1 "" "tsoq" "User Commands"', ".SH NAME", "tsoq\\-adopt \\- writes the program text of a compiled ring queue"]
+    lines = [
+        '.TH TSOQ\\-ADOPT 1 "" "tsoq" "User Commands"',
+        ".SH NAME",
+        "tsoq\\-adopt \\- writes the program text of a compiled ring queue",
+    ]
     lines += [".SH SYNOPSIS", ".B tsoq\\-adopt", "\\fIFILE\\fR [\\fIoptions\\fR] [\\-\\- \\fIwords of tsoq\\fR]", ".SH DESCRIPTION"]
     lines += [escaped(made.description or ""), ".SH OPTIONS"]
     for word in words_of(made):
@@ -53,7 +57,11 @@ def manual(made: argparse.ArgumentParser) -> str:
 
 def bash(words: list[Word]) -> str:
     """The completion of bash."""
-    lines = ["# Completions of bash for tsoq-adopt.", "_tsoq_adopt() {", '  local word=${COMP_WORDS[COMP_CWORD]} before=${COMP_WORDS[COMP_CWORD-1]}']
+    lines = [
+        "# Completions of bash for tsoq-adopt.",
+        "_tsoq_adopt() {",
+        "  local word=${COMP_WORDS[COMP_CWORD]} before=${COMP_WORDS[COMP_CWORD-1]}",
+    ]
     lines.append("  case $before in")
     for word in words:
         if word.choices:
@@ -62,7 +70,13 @@ def bash(words: list[Word]) -> str:
             lines.append(f"    {word.name}) COMPREPLY=(); return ;;")
     lines += ["  esac", "  if [[ $word == -* ]]; then"]
     lines.append(f'    mapfile -t COMPREPLY < <(compgen -W "{" ".join(it.name for it in words)}" -- "$word")')
-    lines += ["  else", '    mapfile -t COMPREPLY < <(compgen -f -- "$word")', "  fi", "}", "complete -o filenames -F _tsoq_adopt tsoq-adopt"]
+    lines += [
+        "  else",
+        '    mapfile -t COMPREPLY < <(compgen -f -- "$word")',
+        "  fi",
+        "}",
+        "complete -o filenames -F _tsoq_adopt tsoq-adopt",
+    ]
     return "\n".join(lines) + "\n"
 
 

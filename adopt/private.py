@@ -61,19 +61,26 @@ def results(known: Known, found: Instruction) -> Known:
     """The pointers that an instruction writes."""
     name, operands = found.name, found.operands
     stack = known.get("rsp", STACK)
+    made: Known = {}
     if name == "push":
-        return {"rsp": stack - 8} | pointed(known, operands[0], stack - 8)
+        made = pointed(known, operands[0], stack - 8)
+        made["rsp"] = stack - 8
+        return made
     if name == "pop":
-        loaded = known.get(stack)
-        return {"rsp": stack + 8} | ({} if loaded is None else {operands[0].register: loaded})
+        made["rsp"] = stack + 8
+        if stack in known:
+            made[operands[0].register] = known[stack]
+        return made
     if name == "call":
         return {"rsp": stack - 8} if found.operands[0].is_number else {"rsp": stack}
     if name == "ret":
         return {"rsp": stack + 8}
     if name == "leave":
         frame = known.get("rbp", STACK)
-        loaded = known.get(frame)
-        return {"rsp": frame + 8} | ({} if loaded is None else {"rbp": loaded})
+        made["rsp"] = frame + 8
+        if frame in known:
+            made["rbp"] = known[frame]
+        return made
     if len(operands) == 2 and name in ("mov", "lea", "add", "sub", "and"):
         return computed(known, name, operands[0], operands[1])
     return {}

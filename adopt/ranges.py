@@ -7,7 +7,7 @@ MOST_STEPS = 10
 
 def most(value: Value, steps: int = MOST_STEPS) -> int:
     """The greatest number that a value can be, read without a sign."""
-    full = 2**value.bits - 1
+    full = (1 << value.bits) - 1
     if value.is_number:
         return value.number
     if steps == 0 or not value.args:
@@ -20,7 +20,7 @@ def most(value: Value, steps: int = MOST_STEPS) -> int:
     if value.op in ("and", "or", "xor", "add"):
         return of_two(value, most(value.args[0], steps), most(value.args[1], steps), full)
     if value.op in ("shl", "mul"):
-        made = most(value.args[0], steps) * (2**value.number if value.op == "shl" else value.number)
+        made = most(value.args[0], steps) * ((1 << value.number) if value.op == "shl" else value.number)
         return made if made <= full else full
     if value.op == "shr":
         return most(value.args[0], steps) >> value.number
@@ -34,9 +34,9 @@ def of_two(value: Value, one: int, two: int, full: int) -> int:
         return min(one, two)
     if value.op == "add":
         return one + two if one + two <= full else full
-    return int(2 ** max(one.bit_length(), two.bit_length()) - 1)
+    return (1 << max(one.bit_length(), two.bit_length())) - 1
 
 
 def is_small(value: Value) -> bool:
     """Whether a value is the same number with and without a sign."""
-    return most(value) < 2 ** (value.bits - 1)
+    return most(value) < 1 << (value.bits - 1)

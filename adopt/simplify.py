@@ -39,7 +39,9 @@ class Simplifier:
                     self.put(flow, phi, next(iter(others.values())))
 
     def put(self, flow: Flow, old: Value, new: Value) -> None:
+        """One value in the place of another."""
         flow.phis = [it for it in flow.phis if it is not old]
+        flow.values = [it for it in flow.values if it is not old]
         self.procedure.replace(lambda it: new if it is old else it)
         self.changed = True
 
@@ -52,10 +54,7 @@ class Simplifier:
             if new is None:
                 made.append(value)
                 continue
-            flow.values = [it for it in flow.values if it is not value]
-            old = value
-            self.procedure.replace(lambda it: new if it is old else it)  # noqa: B023
-            self.changed = True
+            self.put(flow, value, new)
         flow.values = made
 
     def new(self, op: str, args: list[Value], bits: int, number: int = 0, name: str = "") -> Value:
@@ -90,7 +89,10 @@ class Simplifier:
         choice = next(it for it in value.args if not it.is_number)
         if choice.op != "select" or not (choice.args[1].is_number and choice.args[2].is_number):
             return None
-        arms = [self.new(value.op, [arm if it is choice else it for it in value.args], value.bits, value.number, value.name) for arm in choice.args[1:]]
+        arms = [
+            self.new(value.op, [arm if it is choice else it for it in value.args], value.bits, value.number, value.name)
+            for arm in choice.args[1:]
+        ]
         return self.new("select", [choice.args[0], *arms], value.bits)
 
     def of_cmp(self, value: Value, flow: Flow) -> Value | None:
@@ -311,7 +313,9 @@ def of_shl(simplifier: Simplifier, value: Value) -> Value | None:
     if by == 0:
         return inner
     if inner.op == "shl":
-        return simplifier.new("shl", inner.args, value.bits, inner.number + by) if inner.number + by < value.bits else constant(0, value.bits)
+        return (
+            simplifier.new("shl", inner.args, value.bits, inner.number + by) if inner.number + by < value.bits else constant(0, value.bits)
+        )
     if inner.op == "shr" and by >= inner.number:
         cleared = simplifier.new("and", [inner.args[0], constant(-(2**inner.number), value.bits)], value.bits)
         return simplifier.new("shl", [cleared], value.bits, by - inner.number)
@@ -321,7 +325,9 @@ def of_shl(simplifier: Simplifier, value: Value) -> Value | None:
 def of_shr(simplifier: Simplifier, value: Value) -> Value | None:
     inner, by = value.args[0], value.number
     if inner.op == "shr":
-        return simplifier.new("shr", inner.args, value.bits, inner.number + by) if inner.number + by < value.bits else constant(0, value.bits)
+        return (
+            simplifier.new("shr", inner.args, value.bits, inner.number + by) if inner.number + by < value.bits else constant(0, value.bits)
+        )
     if inner.op == "shl" and inner.number == by and by:
         return simplifier.new("and", [inner.args[0], constant(2 ** (value.bits - by) - 1, value.bits)], value.bits)
     return None

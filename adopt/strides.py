@@ -123,7 +123,7 @@ Terms = list[tuple[Value, int]]
 
 
 def steps_of(one: Value, two: Value) -> tuple[int, Terms, Terms] | None:
-    """Two values to be compared, in steps: a number and terms of the second, and the terms of the first. None where they are no multiples."""
+    """Two values to be compared, in steps: a number, terms of the first, and terms of the second. None where they are no multiples."""
     if one.bits != 64 or not any(it.op in ("shl", "mul", "add", "sub") for it in (one, two)):
         return None
     first, second = sum_of(one), sum_of(two)

@@ -166,7 +166,10 @@ class Trial:
     def told(self, before: dict[str, list[int]], text: Outcome, compiled: Outcome) -> str:
         """A difference in words."""
         lines = [f"after {', '.join(self.calls[-6:])}:", f"  before:   {shown(before)}"]
-        lines += [f"  compiled: {compiled.answer or compiled.reason}  {shown(compiled.memory)}", f"  text:     {text.answer or text.reason}  {shown(text.memory)}"]
+        lines += [
+            f"  compiled: {compiled.answer or compiled.reason}  {shown(compiled.memory)}",
+            f"  text:     {text.answer or text.reason}  {shown(text.memory)}",
+        ]
         return "\n".join(lines)
 
 

@@ -92,5 +92,5 @@ class Widths:
         if value.op in ("sub", "neg"):
             return True
         if value.op == "trunc":
-            return most(value.args[0]) >= 2 ** (value.bits - 1)
-        return not (is_small(value) and most(value) < 2 ** (value.bits - 1))
+            return most(value.args[0]) >= 1 << (value.bits - 1)
+        return not is_small(value)

@@ -20,14 +20,14 @@ def test_pages_are_what_the_parser_says() -> None:
     assert differing() == []
 
 
-@pytest.mark.parametrize("path", sorted((TOP / "adopt").rglob("*.py")), ids=lambda it: it.name)
+@pytest.mark.parametrize("path", sorted((TOP / "adopt").rglob("*.py")), ids=str)
 def test_functions_are_short(path: pathlib.Path) -> None:
     for node in ast.walk(ast.parse(path.read_text())):
         if isinstance(node, ast.FunctionDef):
             assert (node.end_lineno or 0) - node.lineno < LONGEST, node.name
 
 
-@pytest.mark.parametrize("path", TEXTS, ids=lambda it: it.stem)
+@pytest.mark.parametrize("path", TEXTS, ids=str)
 def test_interpreter_runs_the_queues(path: pathlib.Path) -> None:
     machine = Machine(read_program(path.read_text()))
     first = machine.push(7)

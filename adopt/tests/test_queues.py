@@ -11,7 +11,9 @@ from .compiling import COMPILERS, LEVELS, QUEUES, TOP, adopted, compiled, parsed
 
 OPTIONS = {"status.c": Options(done=0, init="set_up")}
 SOURCES = sorted([*QUEUES.glob("*.*"), TOP / "docs/examples/ring.cpp", TOP / "docs/examples/ring.rs"])
-CASES = [(it, compiler, level) for it in SOURCES for compiler in COMPILERS[it.suffix] for level in (LEVELS if it.suffix != ".rs" else ("-O",))]
+CASES = [
+    (it, compiler, level) for it in SOURCES for compiler in COMPILERS[it.suffix] for level in (LEVELS if it.suffix != ".rs" else ("-O",))
+]
 # Beside which text by hand a queue stands, and how it is surveyed.
 BY_HAND = {"ring.cpp": "docs/examples/ring.tso", "ring.rs": "docs/examples/ring.tso", "cells.cpp": "queues/vyukov.tso"}
 MOST_STATES = 1.5

@@ -48,7 +48,9 @@ def test_locked_arithmetic() -> None:
 
 
 def test_locked_bits_are_a_loop() -> None:
-    code = ring(fields="volatile uint64_t head, tail; _Atomic uint64_t marks;", push="ring.tail = tail + 1; atomic_fetch_or(&ring.marks, 2);")
+    code = ring(
+        fields="volatile uint64_t head, tail; _Atomic uint64_t marks;", push="ring.tail = tail + 1; atomic_fetch_or(&ring.marks, 2);"
+    )
     made = body(of_code(code), "push")
     assert "lock cmpxchg qword ptr [marks]" in made and "bound 3" in made
 
@@ -114,7 +116,11 @@ def test_the_head_lists_what_was_widened() -> None:
 
 
 def test_signed_differences_keep_their_sign() -> None:
-    code = ring(fields="volatile uint32_t head, tail;").replace("uint64_t tail =", "uint32_t tail =").replace("uint64_t head =", "uint32_t head =")
+    code = (
+        ring(fields="volatile uint32_t head, tail;")
+        .replace("uint64_t tail =", "uint32_t tail =")
+        .replace("uint64_t head =", "uint32_t head =")
+    )
     made = of_code(code.replace("tail - ring.head >= 2", "(int32_t)(tail - ring.head) > 1"), tries=1000)
     assert "jg" in body(made, "push") or "jle" in body(made, "push")
 
