@@ -191,7 +191,7 @@ class Adoption:
                 lines.append(f"widened: {names[cell]} has {size * 8} bits in the object")
         for procedure in procedures:
             for kind, address, text in dict.fromkeys(procedure.notes):
-                where = f"{self.placed.offset_in_section(address):#x} {self.debug.line_of(address)}".strip()
+                where = f"{self.placed.offset_in_section(address):#x} {' '.join(self.debug.lines_of(address))}".strip()
                 lines.append(f"{kind}: {procedure.name} {where}: {text}")
         for name, line, bound, why in self.bounds.used:
             lines.append(f"bound {bound}: {name} {line}: {why}")

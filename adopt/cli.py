@@ -144,7 +144,7 @@ def located(adoption: Adoption, refusal: Refusal) -> str:
     """The reason with its source line and its address."""
     if refusal.address is None:
         return refusal.reason
-    line = adoption.debug.line_of(refusal.address)
+    line = " ".join(adoption.debug.lines_of(refusal.address))
     instruction = adoption.instruction_at(refusal.address)
     place = " ".join(it for it in (line, f"{adoption.placed.offset_in_section(refusal.address):#x}", instruction) if it)
     return f"{place}\n  {refusal.reason}"

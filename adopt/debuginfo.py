@@ -61,6 +61,7 @@ class DebugInfo:
         self.functions: dict[str, Function] = {}
         self.lines: list[tuple[int, str, int]] = []
         self.starts: list[int] = []
+        self.inlined: list[tuple[int, int, str]] = []
         if self.dwarf is not None:
             self.read()
 
@@ -76,7 +77,8 @@ class DebugInfo:
                     self.read_variable(die)
                 elif die.tag == "DW_TAG_subprogram":
                     self.read_function(die)
-            self.read_lines(unit)
+            files = self.read_lines(unit)
+            self.read_inlined(unit, files)
         self.lines.sort()
         self.starts = [it[0] for it in self.lines]
 
@@ -174,12 +176,42 @@ class DebugInfo:
 
     # Lines.
 
-    def read_lines(self, unit: Any) -> None:
+    def read_inlined(self, unit: Any, files: list[str]) -> None:
+        """Where functions are inlined into the unit's own file."""
+        own = name_of(text_of(unit.get_top_DIE(), "DW_AT_name").split("/@/")[0])
+        for die in unit.iter_DIEs():
+            if die.tag != "DW_TAG_inlined_subroutine" or "DW_AT_call_line" not in die.attributes:
+                continue
+            at = number_of(die, "DW_AT_call_file")
+            if 0 <= at < len(files) and files[at] == own:
+                line = f"{own}:{number_of(die, 'DW_AT_call_line')}"
+                self.inlined += [(start, end, line) for start, end in self.ranges_of(die, unit)]
+
+    def ranges_of(self, die: DIE, unit: Any) -> list[tuple[int, int]]:
+        """The addresses of an entry."""
+        low, high, ranges = (die.attributes.get(f"DW_AT_{it}") for it in ("low_pc", "high_pc", "ranges"))
+        if low is not None and high is not None:
+            return [(low.value, high.value if high.form == "DW_FORM_addr" else low.value + high.value)]
+        lists = self.dwarf.range_lists() if self.dwarf is not None else None
+        if ranges is None or lists is None or ranges.form != "DW_FORM_sec_offset":
+            return []
+        base = number_of(unit.get_top_DIE(), "DW_AT_low_pc")
+        found = []
+        for entry in lists.get_range_list_at_offset(ranges.value, unit):
+            if hasattr(entry, "base_address"):
+                base = entry.base_address
+            else:
+                start = 0 if getattr(entry, "is_absolute", False) else base
+                found.append((start + entry.begin_offset, start + entry.end_offset))
+        return found
+
+    def read_lines(self, unit: Any) -> list[str]:
+        """The lines of a unit. Returns the names of its files, by number."""
         # pyelftools 0.29 does not know the form of the sums that clang writes beside file names.
         unit.structs.Dwarf_dw_form.setdefault("DW_FORM_data16", StaticField("", 16))
         program = self.dwarf.line_program_for_CU(unit) if self.dwarf is not None else None
         if program is None:
-            return
+            return []
         first = 0 if program.header["version"] >= 5 else 1
         files = [name_of(it.name) for it in program.header["file_entry"]]
         for entry in program.get_entries():
@@ -189,6 +221,7 @@ class DebugInfo:
             at = state.file - first
             name = files[at] if 0 <= at < len(files) else "?"
             self.lines.append((state.address, "" if state.end_sequence else name, state.line))
+        return [""] * first + files
 
     def line_of(self, address: int) -> str:
         """The source line of an address, as `ring.cpp:12`."""
@@ -196,6 +229,13 @@ class DebugInfo:
         if at < 0 or not self.lines[at][1]:
             return ""
         return f"{self.lines[at][1]}:{self.lines[at][2]}"
+
+    def lines_of(self, address: int) -> list[str]:
+        """The line of the author's own file that an address comes from, and that of the function it is inlined from."""
+        line = self.line_of(address)
+        around = [(end - start, its) for start, end, its in self.inlined if start <= address < end]
+        own = min(around)[1] if around else line
+        return [own] if own == line or not line or line.split(":")[0] == own.split(":")[0] else [own, line]
 
 
 def name_of(name: bytes | str) -> str:

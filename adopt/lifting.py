@@ -350,6 +350,9 @@ class Lifter:
     def instruction(self, found: Instruction) -> None:
         """One instruction."""
         name, operands = found.name, found.operands
+        for address, relocation in self.placed.unsupported.items():
+            if found.address <= address < found.end:
+                raise Refusal(f"`{found.text}` has a relocation of type {relocation}")
         if found.waits_in or (name == "call" and not operands[0].is_number):
             self.waits(found)
             return

@@ -214,6 +214,8 @@ class Lowering:
         operand = self.word(flow.answer)
         if self.done == 0:
             operand = self.is_zero(flow.answer)
+        if flow.result is not None and flow.result.op == "undef" and flow.answer.is_number and operand == Number(1):
+            raise Refusal("the pop is done, and nothing has written its value", self.source.address if self.source else None)
         result: Operand = Number(0)
         if flow.result is not None and flow.result.op != "undef":
             result = self.word(flow.result)
@@ -458,6 +460,9 @@ class Lowering:
 
     def lower_shift(self, value: Value) -> None:
         raise Refusal(f"`{value.name}` shifts by a number that is known only when it runs", self.source.address if self.source else None)
+
+    def lower_sar(self, _: Value) -> None:
+        raise Refusal("a shift to the right with a sign has no form in a text", self.source.address if self.source else None)
 
     def lower_fence(self, _: Value) -> None:
         self.emit("mfence")

@@ -63,7 +63,7 @@ class Widths:
 
     def find_exact(self) -> None:
         """Values whose word has to be the value read with a sign."""
-        waiting = [it for flow in self.procedure.flows.values() for it in flow.roots()]
+        waiting = [it for flow in self.procedure.flows.values() for it in flow.roots()] + list(self.index_leaves)
         for value in self.procedure.values():
             if value.op in CANONICAL_USERS:
                 waiting += value.args[1 if value.op in EFFECTS else 0 :]

@@ -32,16 +32,17 @@ class Bounds:
     by_line: dict[str, int] = field(default_factory=dict)
     used: list[tuple[str, str, int, str]] = field(default_factory=list)
 
-    def bound(self, jump: Jump, line: str, procedure: str) -> int:
-        if line in self.by_line:
-            bound, why = self.by_line[line], "as asked for this line"
+    def bound(self, jump: Jump, lines: list[str], procedure: str) -> int:
+        asked = [self.by_line[it] for it in lines if it in self.by_line]
+        if asked:
+            bound, why = asked[-1], "as asked for this line"
         elif self.for_all is not None:
             bound, why = self.for_all, "as asked for all"
         elif jump.back == "retry":
             bound, why = min(self.calls - 1, 15), f"a retry of a compare and exchange, {self.calls} calls"
         else:
             bound, why = 1, "a loop"
-        self.used.append((procedure, line, bound, why))
+        self.used.append((procedure, " ".join(lines), bound, why))
         return bound
 
 
@@ -55,8 +56,9 @@ class Writer:
         """The address as objdump prints it, and the source line."""
         if source is None:
             return ""
-        line = self.debug.line_of(source.address)
-        return f"{self.placed.offset_in_section(source.address):#x} {line}".strip()
+        own, *inlined = self.debug.lines_of(source.address)
+        more = f" ({inlined[0]})" if inlined else ""
+        return f"{self.placed.offset_in_section(source.address):#x} {own}{more}".strip()
 
     def procedure(self, laid: Laid, colours: Colours) -> list[str]:
         labels = self.labels(laid)
@@ -91,8 +93,8 @@ class Writer:
     def jump(self, item: Jump, labels: dict[int, str], procedure: str) -> str:
         if not item.back:
             return f"{item.name} {labels[item.target]}"
-        line = self.debug.line_of(item.source.address) if item.source else ""
-        return f"{item.name} {labels[item.target]} bound {self.bounds.bound(item, line, procedure)}"
+        lines = self.debug.lines_of(item.source.address) if item.source else []
+        return f"{item.name} {labels[item.target]} bound {self.bounds.bound(item, lines, procedure)}"
 
     def line(self, item: Line, colours: Colours) -> str:
         if item.name == "assert":
