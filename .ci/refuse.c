@@ -77,6 +77,13 @@ ssize_t read(int fd, void *bytes, size_t count) {
   return answer > 0 ? next(fd, bytes, count) : answer;
 }
 
+ssize_t pread(int fd, void *bytes, size_t count, off_t at) {
+  static ssize_t (*next)(int, void *, size_t, off_t);
+  if (!next) next = dlsym(RTLD_NEXT, "pread");
+  ssize_t answer = ready && ++reads == odd_read ? odd(&count) : 1;
+  return answer > 0 ? next(fd, bytes, count, at) : answer;
+}
+
 ssize_t write(int fd, const void *bytes, size_t count) {
   static ssize_t (*next)(int, const void *, size_t);
   if (!next) next = dlsym(RTLD_NEXT, "write");

@@ -57,12 +57,13 @@ complete -c tsoq -n '__fish_seen_subcommand_from survey' -l threads -d 'how many
 complete -c tsoq -n '__fish_seen_subcommand_from survey' -l calls -d 'how many calls its threads have at most; 4 if not said' -x
 complete -c tsoq -n '__fish_seen_subcommand_from survey' -l producers -d 'how many threads push at most; all if not said' -x
 complete -c tsoq -n '__fish_seen_subcommand_from survey' -l consumers -d 'how many threads pop at most; all if not said' -x
-complete -c tsoq -n '__fish_seen_subcommand_from survey' -l before -d 'how many pushes its prologue has at most; none if not said' -x
+complete -c tsoq -n '__fish_seen_subcommand_from survey' -l before -d 'how many pushes its prologue has at most, 0 to 4; none if not said' -x
 complete -c tsoq -n '__fish_seen_subcommand_from survey' -l mode -d 'strict or weak, in place of what the text says' -x -a 'strict weak'
 complete -c tsoq -n '__fish_seen_subcommand_from survey' -l out -d 'the folder where each client\'s text and certificate or trace are written' -x -a '(__fish_complete_directories)'
 complete -c tsoq -n '__fish_seen_subcommand_from survey' -l part -d 'takes each Nth client alone, from the Ith on' -x
 complete -c tsoq -n '__fish_seen_subcommand_from survey' -l list -d 'prints the clients that would be searched, a line each'
 complete -c tsoq -n '__fish_seen_subcommand_from survey' -l all -d 'goes on behind a violation'
+complete -c tsoq -n '__fish_seen_subcommand_from survey' -l coverage -d 'prints what the records of all certificates show together, before the last line'
 complete -c tsoq -n '__fish_seen_subcommand_from survey' -l progress -d 'says on standard error how far the survey has come'
 complete -c tsoq -n '__fish_seen_subcommand_from survey' -l json -d 'prints objects of JSON, one a line, in place of the lines'
 complete -c tsoq -n '__fish_seen_subcommand_from survey' -l workers -d 'how many workers search, a client each, 1 to 64 [default: 1]' -x

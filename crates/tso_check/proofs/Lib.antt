@@ -5,6 +5,7 @@ pub mod OneAnswer
 pub mod OneVerdict
 pub mod PieceLemmas
 pub mod RisingLemmas
+pub mod ShapeLemmas
 pub mod SpanLemmas
 pub mod StoredLemmas
 pub mod VerdictLemmas

@@ -32,6 +32,7 @@ use tso_flow::Checked;
 use tso_judge::Code;
 use tso_list::Seq;
 use tso_scan::{Scanned, put_together, scan, scan_with};
+use tso_skim::{Skimmed, is_dense, skim};
 
 // The code of a fault of bytes.
 fn code_of(fault: Fault) -> Code
@@ -53,8 +54,21 @@ fn undecoded(error: DecodeError) -> Result<Verdict, AllocError>
     }
 }
 
-// The verdict on bytes, by their tree.
-fn decide_bytes(alloc: Global, checked: &Checked, bytes: &[u8]) -> Result<Verdict, AllocError>
+// The verdict on bytes that are no certificate, if they are none: without memory for what they say.
+fn decide_shape(alloc: Global, bytes: &[u8]) -> Result<Option<Verdict>, AllocError>
+    ensures { IfOk result (λ found. IfSome found (λ verdict. (c : Client) → IsVerdict c bytes.now verdict)) }
+{
+    let skimmed = skim(alloc, bytes)?;
+    match skimmed {
+        Skimmed::Whole => Ok(None),
+        Skimmed::Cut => Ok(Some(rejected(Code::K01))),
+        Skimmed::Broken => Ok(Some(rejected(Code::K01))),
+        Skimmed::Beyond => Ok(Some(rejected(Code::K02))),
+    }
+}
+
+// The verdict on bytes, decoded, by their tree.
+fn decide_decoded(alloc: Global, checked: &Checked, bytes: &[u8]) -> Result<Verdict, AllocError>
     ensures { IfOk result (IsVerdict checked.now.client bytes.now) }
 {
     match decode(alloc, bytes) {
@@ -69,6 +83,16 @@ fn decide_bytes(alloc: Global, checked: &Checked, bytes: &[u8]) -> Result<Verdic
             decide_tree(&whole)
         }
         Err(error) => undecoded(error),
+    }
+}
+
+// The verdict on bytes: by their shape, where they are no certificate, and else by their tree.
+fn decide_bytes(alloc: Global, checked: &Checked, bytes: &[u8]) -> Result<Verdict, AllocError>
+    ensures { IfOk result (IsVerdict checked.now.client bytes.now) }
+{
+    match decide_shape(alloc, bytes)? {
+        Some(verdict) => Ok(verdict),
+        None => decide_decoded(alloc, checked, bytes),
     }
 }
 
@@ -90,14 +114,35 @@ pub fn verdict_on(
     }
 }
 
-// The verdict on bytes as a certificate for a client.
-fn verdict(alloc: Global, checked: &Checked, bytes: &[u8]) -> Result<Verdict, AllocError>
+// The verdict on bytes that are dense and no certificate, if they are that: to read all of their records first would take long.
+fn decide_dense(alloc: Global, bytes: &[u8]) -> Result<Option<Verdict>, AllocError>
+    ensures { IfOk result (λ found. IfSome found (λ verdict. (c : Client) → IsVerdict c bytes.now verdict)) }
+{
+    if is_dense(alloc, bytes) {
+        decide_shape(alloc, bytes)
+    } else {
+        Ok(None)
+    }
+}
+
+// The verdict on bytes as a certificate for a client, whose records are read.
+fn verdict_read(alloc: Global, checked: &Checked, bytes: &[u8]) -> Result<Verdict, AllocError>
     ensures { IfOk result (IsVerdict checked.now.client bytes.now) }
 {
     let scanned = scan(alloc, checked, bytes)?;
     let found = verdict_on(alloc, checked, &scanned, bytes);
     drop(scanned);
     found
+}
+
+// The verdict on bytes as a certificate for a client.
+fn verdict(alloc: Global, checked: &Checked, bytes: &[u8]) -> Result<Verdict, AllocError>
+    ensures { IfOk result (IsVerdict checked.now.client bytes.now) }
+{
+    match decide_dense(alloc, bytes)? {
+        Some(verdict) => Ok(verdict),
+        None => verdict_read(alloc, checked, bytes),
+    }
 }
 
 /// The verdict on bytes as a certificate for a client: accepted exactly where they are a valid one; else the first condition
@@ -171,8 +216,8 @@ fn decide_tree_with<R: Threads + Wait + Sync, N: Notice + Sync>(
     }
 }
 
-// The verdict on bytes, by their tree and by several threads.
-fn decide_bytes_with<R: Threads + Wait + Sync, N: Notice + Sync>(
+// The verdict on bytes, decoded, by their tree and by several threads.
+fn decide_decoded_with<R: Threads + Wait + Sync, N: Notice + Sync>(
     rt: &R,
     alloc: Global,
     checked: &Checked,
@@ -194,6 +239,23 @@ fn decide_bytes_with<R: Threads + Wait + Sync, N: Notice + Sync>(
             decide_tree_with(rt, &whole, workers, notice)
         }
         Err(error) => undecoded(error),
+    }
+}
+
+// The verdict on bytes, by several threads: by their shape, where they are no certificate, and else by their tree.
+fn decide_bytes_with<R: Threads + Wait + Sync, N: Notice + Sync>(
+    rt: &R,
+    alloc: Global,
+    checked: &Checked,
+    bytes: &[u8],
+    workers: Workers,
+    notice: &N,
+) -> Result<Verdict, AllocError>
+    ensures { IfOk result (IsVerdict checked.now.client bytes.now) }
+{
+    match decide_shape(alloc, bytes)? {
+        Some(verdict) => Ok(verdict),
+        None => decide_decoded_with(rt, alloc, checked, bytes, workers, notice),
     }
 }
 
@@ -220,8 +282,8 @@ fn decide_parts_with<R: Threads + Wait + Sync, N: Notice + Sync>(
     }
 }
 
-// The verdict on bytes that may lie in several parts, by several threads.
-fn verdict_with<R: Threads + Wait + Sync, W: Watch + Sync>(
+// The verdict on bytes that may lie in several parts, by several threads, who read all records.
+fn verdict_read_with<R: Threads + Wait + Sync, W: Watch + Sync>(
     rt: &R,
     alloc: Global,
     checked: &Checked,
@@ -241,6 +303,39 @@ fn verdict_with<R: Threads + Wait + Sync, W: Watch + Sync>(
             found
         }
         None => decide_parts_with(rt, alloc, checked, bytes, more, workers, &told),
+    }
+}
+
+// The verdict on bytes that lie in one part, are dense and no certificate, if they are that.
+fn decide_dense_part(
+    alloc: Global,
+    bytes: &[u8],
+    more: &[Seq<u8>],
+) -> Result<Option<Verdict>, AllocError>
+    ensures { IfOk result (λ found. IfSome found (λ verdict. (c : Client) → IsVerdict c (text_of bytes.now more.now) verdict)) }
+{
+    match more {
+        [] => decide_dense(alloc, bytes),
+        [_, ..] => Ok(None),
+    }
+}
+
+// The verdict on bytes that may lie in several parts, by several threads.
+fn verdict_with<R: Threads + Wait + Sync, W: Watch + Sync>(
+    rt: &R,
+    alloc: Global,
+    checked: &Checked,
+    bytes: &[u8],
+    more: &[Seq<u8>],
+    workers: Workers,
+    watch: &W,
+    remains: Remains,
+) -> Result<Verdict, AllocError>
+    ensures { IfOk result (IsVerdict checked.now.client (text_of bytes.now more.now)) }
+{
+    match decide_dense_part(alloc, bytes, more)? {
+        Some(verdict) => Ok(verdict),
+        None => verdict_read_with(rt, alloc, checked, bytes, more, workers, watch, remains),
     }
 }
 

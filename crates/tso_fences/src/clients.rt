@@ -5,7 +5,7 @@ use tso_flow::ProcedureKind;
 use tso_front::Failure;
 use tso_line::CallKind;
 use tso_prog::Client;
-use tso_survey::{Asking, Bounds, Calls, listed};
+use tso_survey::{Asking, Bounds, Calls, lines_of};
 
 /// Which procedures can run beside which, in two threads.
 #[derive(Clone, Copy, PartialEq, Eq)]
@@ -117,7 +117,7 @@ pub fn clients_of<'a>(alloc: Global, survey: &Option<Asking<'a>>) -> Result<Clie
     let Some(asking) = survey else {
         return Ok(Clients::Own);
     };
-    let lines = listed(alloc, asking)?;
+    let lines = lines_of(alloc, asking)?;
     Ok(Clients::Surveyed(Surveyed {
         calls: calls_of(alloc, lines.as_str())?,
         bounds: asking.bounds,

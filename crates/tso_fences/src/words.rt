@@ -3,13 +3,9 @@
 use clap::{Arg, ArgAction, ArgMatches, Command};
 use std::alloc::{AllocError, Global};
 use tso_front::{
-    FILE, Failure, JSON, VARIANT, Variant, misused, number_argument, variant_of, with_word,
-    with_words,
+    FILE, Failure, JSON, VARIANT, Variant, number_argument, variant_of, with_word, with_words,
 };
 use tso_survey::{Asking, asking_of};
-
-const BEFORE: &str =
-    "--before is 0 to 4, how many pushes a prologue has at most, where --survey stands beside it\n";
 
 /// What is asked: of which text, of which clients, and how many fences may be added.
 #[derive(Clone, Copy)]
@@ -136,26 +132,12 @@ pub fn fences_arguments<'a>(
     survey_arguments(alloc, command)
 }
 
-// How many pushes a prologue of a survey has at most.
-fn before_of(alloc: Global, matches: &ArgMatches<'_>) -> Result<usize, Failure> {
-    let Some(word) = matches.get_str("before") else {
-        return Ok(0);
-    };
-    match word.parse::<usize>() {
-        Ok(before) if before <= 4 => Ok(before),
-        _ => Err(misused(alloc, BEFORE)),
-    }
-}
-
 // The survey whose clients are asked about, if it is one.
 fn survey_of<'a>(alloc: Global, matches: &ArgMatches<'a>) -> Result<Option<Asking<'a>>, Failure> {
     if !matches.get_flag("survey") {
         return Ok(None);
     }
-    let before = before_of(alloc, matches)?;
-    let mut asking = asking_of(alloc, matches)?;
-    asking.bounds.before = before;
-    Ok(Some(asking))
+    Ok(Some(asking_of(alloc, matches)?))
 }
 
 /// What the words ask for.

@@ -1,7 +1,9 @@
 //! Why a command does not succeed, and its status.
 
-ghost use Rattle.std.specs.Prelude.{◌≡◌};
+ghost use Rattle.std.specs.Prelude.{◌≡◌, false};
 ghost use Rattle.tso_front.specs.Statuses.{status_of};
+ghost use Rattle.tso_front.specs.Variants.{is_of_program};
+ghost use Rattle.tso_front.specs.declared.failure.Failure.TheVariants as failures;
 
 use std::alloc::{AllocError, AllocFailed, Global};
 use std::fmt;
@@ -50,7 +52,9 @@ impl Failure {
 }
 
 /// That the words are none of the program's, of which this is said.
-pub fn misused(alloc: Global, text: &str) -> Failure {
+pub fn misused(alloc: Global, text: &str) -> Failure
+    ensures { is_of_program result ≡ false }
+{
     match String::from_str(alloc, text) {
         Ok(text) => Failure::Usage(text),
         Err(_) => Failure::Memory,
@@ -93,12 +97,16 @@ impl fmt::Display for Failure {
 }
 
 impl From<AllocError> for Failure {
+    ghost from_gives = { λ _ failure. failure ≡ failures.Memory };
+
     fn from(_e: AllocError) -> Failure {
         Failure::Memory
     }
 }
 
 impl<T: Drop> From<AllocFailed<T>> for Failure {
+    ghost from_gives = { λ _ failure. failure ≡ failures.Memory };
+
     fn from(_e: AllocFailed<T>) -> Failure {
         Failure::Memory
     }

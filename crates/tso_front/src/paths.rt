@@ -2,20 +2,8 @@
 
 use crate::failure::{Failure, misused};
 use crate::files::STREAM;
+use crate::session::Session;
 use std::alloc::Global;
-
-// The path without what it may have at its front and means nothing there.
-fn plain(path: &str) -> &str {
-    match path.strip_prefix("./") {
-        Some(rest) => rest,
-        None => path,
-    }
-}
-
-// Whether two paths are the same words for one file. A device is not written over, and two streams are two.
-fn is_one_file(first: &str, second: &str) -> bool {
-    first != STREAM && !first.starts_with("/dev/") && plain(first) == plain(second)
-}
 
 /// That standard input is not read for two files.
 ///
@@ -27,27 +15,49 @@ pub fn read_apart(alloc: Global, first: &str, second: &str) -> Result<(), Failur
     Ok(())
 }
 
-/// That what is written is no file that is read.
+// Whether a file that is written is the other one, by whichever names.
+fn is_written_over<S: Session>(session: &mut S, written: &str, other: &str) -> bool {
+    written != STREAM && other != STREAM && session.are_one_file(written, other)
+}
+
+// That a file of this name may not be written, for this reason.
+fn refused(alloc: Global, name: &str, reason: &str) -> Failure {
+    match format!(in alloc; "{name}: {reason}\n") {
+        Ok(text) => Failure::Usage(text),
+        Err(_) => Failure::Memory,
+    }
+}
+
+/// That what is written is no file that is read, by whichever of its names.
 ///
-/// Errors: `Usage` where the paths are the same; `Memory`.
-pub fn written_apart(alloc: Global, written: Option<&str>, read: &str) -> Result<(), Failure> {
+/// Errors: `Usage` where it is; `Memory`.
+pub fn written_apart<S: Session>(
+    session: &mut S,
+    written: Option<&str>,
+    read: &str,
+) -> Result<(), Failure> {
     match written {
-        Some(written) if is_one_file(written, read) => Err(misused(
-            alloc,
-            "a file that is read would be written over\n",
+        Some(written) if is_written_over(session, written, read) => Err(refused(
+            session.alloc(),
+            written,
+            "a file that is read would be written over",
         )),
         _ => Ok(()),
     }
 }
 
-/// That two files that are written are two.
+/// That two files that are written are two, by whichever of their names.
 ///
-/// Errors: `Usage` where the paths are the same; `Memory`.
-pub fn both_apart(alloc: Global, first: Option<&str>, second: Option<&str>) -> Result<(), Failure> {
+/// Errors: `Usage` where they are one; `Memory`.
+pub fn both_apart<S: Session>(
+    session: &mut S,
+    first: Option<&str>,
+    second: Option<&str>,
+) -> Result<(), Failure> {
     match (first, second) {
         (Some(first), Some(second))
-            if is_one_file(first, second) || first == STREAM && second == STREAM => {
-            Err(misused(alloc, "two files would be written as one\n"))
+            if is_written_over(session, first, second) || first == STREAM && second == STREAM => {
+            Err(refused(session.alloc(), second, "two files would be written as one"))
         }
         _ => Ok(()),
     }

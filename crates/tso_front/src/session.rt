@@ -3,9 +3,9 @@
 ghost use Rattle.std.specs.Prelude.{◌≡◌, ◌≤◌, vec_len, IfOk};
 ghost use Rattle.tso_front.specs.Statuses.{status_of};
 
-use crate::draft::Draft;
-use crate::failure::{Failure, cannot_write};
-use crate::files::{Files, read_up_to};
+use crate::draft::{Draft, Opened};
+use crate::failure::{Failure, cannot_read, cannot_write};
+use crate::files::{Files, Kind, Probe, read_probed, read_up_to};
 use crate::json::json_line;
 use crate::variant::Variant;
 use serde_json::Value;
@@ -27,6 +27,11 @@ pub trait Session {
     fn read(&mut self, path: &str, limit: usize) -> Result<Vec<u8>, Failure>
         ensures short { IfOk result (λ bytes. vec_len bytes ≤ limit) };
 
+    /// The bytes of a file, as long as more of them are wanted.
+    ///
+    /// Errors: `CannotRead`; `Memory`.
+    fn read_while(&mut self, path: &str, probe: &mut dyn Probe) -> Result<Vec<u8>, Failure>;
+
     /// The bytes of a program text, and one more where it is too long.
     ///
     /// Errors: `CannotRead`; `Memory`.
@@ -46,8 +51,17 @@ pub trait Session {
     /// Errors: `CannotWrite` where the file failed; `Memory`.
     fn write(&mut self, path: &str, bytes: &[u8]) -> Result<(), Failure>;
 
-    /// Makes a folder. One that is there serves, and where there is none the first file in it says so.
+    /// Makes a folder, and those around it. One that is there serves, and where there is none the first file in it says so.
     fn make_folder(&mut self, path: &str);
+
+    /// What is at a path, behind links.
+    fn look_at(&mut self, path: &str) -> Kind;
+
+    /// Whether two paths lead to one ordinary file, or would where neither has one yet.
+    fn are_one_file(&mut self, first: &str, second: &str) -> bool;
+
+    /// Takes a file away, if there is one. What fails is not told.
+    fn take_away(&mut self, path: &str);
 
     /// Writes bytes to standard output.
     ///
@@ -86,9 +100,8 @@ pub struct Streams<'f, 'o, 'e, F: Files, O: Write, E: Write> {
     pub err: &'e mut E,
 }
 
-// Writes a file anew.
-fn write_anew<F: Files>(files: &mut F, path: &str, bytes: &[u8]) -> io::Result<()> {
-    let mut file = files.create(path)?;
+// Writes all bytes to a file.
+fn write_all<W: Write>(file: &mut W, bytes: &[u8]) -> io::Result<()> {
     file.write_all(bytes)?;
     file.flush()
 }
@@ -100,11 +113,12 @@ fn write_whole<F: Files>(
     path: &str,
     bytes: &[u8],
 ) -> Result<(), Failure> {
-    let draft = Draft::of(alloc, files, path)?;
-    let written = match write_anew(files, draft.path(), bytes) {
+    let Opened { draft, mut file } = Draft::open(alloc, files, path)?;
+    let written = match write_all(&mut file, bytes) {
         Ok(()) => Ok(()),
         Err(error) => Err(cannot_write(alloc, path, error.kind())),
     };
+    drop(file);
     draft.settle(alloc, files, written)
 }
 
@@ -123,6 +137,13 @@ impl<F: Files, O: Write, E: Write> Session for Streams<'_, '_, '_, F, O, E> {
 
     fn read(&mut self, path: &str, limit: usize) -> Result<Vec<u8>, Failure> {
         read_up_to(self.alloc, self.files, path, limit)
+    }
+
+    fn read_while(&mut self, path: &str, probe: &mut dyn Probe) -> Result<Vec<u8>, Failure> {
+        match self.files.open(path) {
+            Ok(mut reader) => read_probed(self.alloc, &mut reader, path, probe),
+            Err(_) => Err(cannot_read(self.alloc, path)),
+        }
     }
 
     fn read_program(&mut self, path: &str) -> Result<Vec<u8>, Failure> {
@@ -147,6 +168,18 @@ impl<F: Files, O: Write, E: Write> Session for Streams<'_, '_, '_, F, O, E> {
 
     fn make_folder(&mut self, path: &str) {
         let _made = self.files.create_folder(path);
+    }
+
+    fn look_at(&mut self, path: &str) -> Kind {
+        self.files.kind(path)
+    }
+
+    fn are_one_file(&mut self, first: &str, second: &str) -> bool {
+        self.files.is_same_file(first, second)
+    }
+
+    fn take_away(&mut self, path: &str) {
+        let _removed = self.files.remove(path);
     }
 
     fn print_bytes(&mut self, bytes: &[u8]) -> Result<(), Failure> {
@@ -190,6 +223,26 @@ impl<F: Files, O: Write, E: Write> Files for Streams<'_, '_, '_, F, O, E> {
 
     fn create(&mut self, path: &str) -> io::Result<F::Writer> {
         self.files.create(path)
+    }
+
+    fn create_new(&mut self, path: &str) -> io::Result<F::Writer> {
+        self.files.create_new(path)
+    }
+
+    fn process(&mut self) -> u32 {
+        self.files.process()
+    }
+
+    fn take_permissions(&mut self, from: &str, to: &str) {
+        self.files.take_permissions(from, to);
+    }
+
+    fn kind(&mut self, path: &str) -> Kind {
+        self.files.kind(path)
+    }
+
+    fn is_same_file(&mut self, first: &str, second: &str) -> bool {
+        self.files.is_same_file(first, second)
     }
 
     fn is_special(&mut self, path: &str) -> bool {

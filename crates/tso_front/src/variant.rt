@@ -1,6 +1,6 @@
 //! Other calls than those that a program text has.
 
-ghost use Rattle.std.specs.Prelude.{IfOk, MatchOption};
+ghost use Rattle.std.specs.Prelude.{◌≡◌, ◌<◌, ◌≤◌, Err, IfErr, IfOk, MatchOption, None, Ok, false, true, vec_len};
 ghost use Rattle.tso_client.specs.Headline.{DenotesChecked};
 ghost use Rattle.tso_client.specs.Programs.{IsRefused};
 ghost use Rattle.tso_prog.specs.declared.client.Client.{Client};
@@ -10,7 +10,10 @@ use crate::words::Word;
 use clap::ArgMatches;
 use std::alloc::{AllocError, Global};
 use tso_client::{CheckError, checked_of};
-use tso_prog::Fault;
+use tso_prog::{Code, Fault};
+
+/// A program text has at most so many bytes.
+pub const TEXT_BYTES: usize = 65_536;
 
 const CALLS: &str =
     "--client has the calls of one to four threads, with | between two threads; --before has those of the prologue, or none.
@@ -70,6 +73,9 @@ fn part_of(line: &[u8]) -> Part {
         Part::Other
     }
 }
+
+// What is said of options with which a text is too long.
+const LONG: &str = "the program text has more than 65536 bytes";
 
 // Puts a line of two parts at the end.
 fn put_line(text: &mut Vec<u8>, word: &[u8], rest: &[u8]) -> Result<(), AllocError> {
@@ -139,7 +145,15 @@ pub fn variant_of<'a>(matches: &ArgMatches<'a>) -> Variant<'a> {
     }
 }
 
+// The fault of a text that is too long.
+const TOO_LONG: Fault = Fault {
+    code: Code::E01,
+    line: 0,
+};
+
 impl<'a> Variant<'a> {
+    ghost use Rattle.tso_front.specs.Variants.{is_of_program, is_plain, too_long_text};
+
     /// The text as it stands.
     pub const PLAIN: Variant<'static> = Variant {
         client: None,
@@ -148,7 +162,9 @@ impl<'a> Variant<'a> {
     };
 
     // Whether nothing stands in place of anything.
-    fn is_plain(&self) -> bool {
+    fn is_plain(&self) -> bool
+        ensures { result ≡ is_plain self.now }
+    {
         self.client.is_none() && self.before.is_none() && self.mode.is_none()
     }
 
@@ -203,8 +219,59 @@ impl<'a> Variant<'a> {
         Ok(text)
     }
 
+    // Puts the names of the options that are given at the end, with a comma between two.
+    fn put_names(&self, names: &mut String) -> Result<(), AllocError> {
+        for (name, value) in [
+            ("--client", self.client),
+            ("--before", self.before),
+            ("--mode", self.mode),
+        ] {
+            if value.is_some() {
+                if !names.is_empty() {
+                    names.push_str(", ")?;
+                }
+                names.push_str(name)?;
+            }
+        }
+        Ok(())
+    }
+
+    // That the text is too long with these options.
+    fn too_long(&self, alloc: Global) -> Failure
+        ensures { is_of_program result ≡ false }
+    {
+        let mut names = String::new(alloc);
+        match self.put_names(&mut names) {
+            Ok(()) => match format!(in alloc; "{names}: with that {LONG}\n") {
+                Ok(text) => Failure::Usage(text),
+                Err(_) => Failure::Memory,
+            },
+            Err(_) => Failure::Memory,
+        }
+    }
+
+    // The text with other calls in place of its own, which is not too long.
+    fn replaced(&self, alloc: Global, text: &[u8]) -> Result<Vec<u8>, Failure>
+        ensures short { IfOk result (λ made. vec_len made ≤ 65536) }
+        ensures refused { IfErr result (λ failure. is_of_program failure ≡ false) }
+    {
+        self.refused(alloc)?;
+        let draft = self.draft_of(alloc, text)?;
+        let head_lines = draft.head_lines;
+        let text = self.completed(draft)?;
+        if text.len() > TEXT_BYTES {
+            return Err(self.too_long(alloc));
+        }
+        match fault_of(alloc, &text)? {
+            Some(fault) if fault.line > head_lines => Err(misused(alloc, CALLS)),
+            _ => Ok(text),
+        }
+    }
+
     // Refuses words that can't stand in a text.
-    fn refused(&self, alloc: Global) -> Result<(), Failure> {
+    fn refused(&self, alloc: Global) -> Result<(), Failure>
+        ensures { IfErr result (λ failure. is_of_program failure ≡ false) }
+    {
         let client = self.client.unwrap_or("");
         if !client.split('|').all(are_calls) || !are_calls(self.before.unwrap_or("")) {
             return Err(misused(alloc, CALLS));
@@ -215,20 +282,23 @@ impl<'a> Variant<'a> {
         }
     }
 
-    /// The text with other calls in place of its own. What stands before the calls keeps its lines.
+    /// The text with other calls in place of its own. What stands before the calls keeps its lines. A text that is too long is refused
+    /// as it stands, before anything of it is replaced.
     ///
-    /// Errors: `Usage` where the words are no calls, or not those of a program; `Memory`.
-    pub fn applied(&self, alloc: Global, text: Vec<u8>) -> Result<Vec<u8>, Failure> {
+    /// Errors: `Program` with E01 exactly where the text has more than 65,536 bytes and something is replaced; `Usage` where the words are
+    /// no calls, or not those of a program, or the text is too long with them; `Memory`.
+    pub fn applied(&self, alloc: Global, text: Vec<u8>) -> Result<Vec<u8>, Failure>
+        ensures plain { is_plain self.now ≡ true → result ≡ Ok text }
+        ensures long { is_plain self.now ≡ false → 65536 < vec_len text → result ≡ Err too_long_text }
+        ensures short { is_plain self.now ≡ false → IfOk result (λ made. (vec_len text ≤ 65536) × (vec_len made ≤ 65536)) }
+        ensures refused { IfErr result (λ failure. failure ≡ too_long_text → (is_plain self.now ≡ false) × (65536 < vec_len text)) }
+    {
         if self.is_plain() {
             return Ok(text);
         }
-        self.refused(alloc)?;
-        let draft = self.draft_of(alloc, &text)?;
-        let head_lines = draft.head_lines;
-        let text = self.completed(draft)?;
-        match fault_of(alloc, &text)? {
-            Some(fault) if fault.line > head_lines => Err(misused(alloc, CALLS)),
-            _ => Ok(text),
+        if text.len() > TEXT_BYTES {
+            return Err(Failure::Program(TOO_LONG));
         }
+        self.replaced(alloc, &text)
     }
 }

@@ -2,9 +2,10 @@
 
 ghost use Rattle.std.specs.Prelude.{◌≡◌, ◌≢◌};
 
-use crate::failure::Failure;
+use crate::failure::{Failure, misused};
 use clap::error::ErrorKind as ClapKind;
-use clap::{Arg, ArgAction, Command, Error, value_parser};
+use clap::parser::ValueSource;
+use clap::{Arg, ArgAction, ArgMatches, Command, Error, value_parser};
 use std::alloc::{Alloc, AllocError, Global};
 use std::env::Env;
 use std::io::{BufWriter, ErrorKind, Write};
@@ -136,6 +137,29 @@ fn argument_of<'a>(alloc: Global, word: Word) -> Arg<'a> {
             help,
         } => number_argument(alloc, name, "N", least, most).help(help),
     }
+}
+
+/// Whether the words have this option, or this word. One that has its default is not given.
+pub fn is_given(matches: &ArgMatches<'_>, name: &str) -> bool {
+    matches.value_source(name) == Some(ValueSource::CommandLine)
+}
+
+/// That none of these options is given, of which a command makes no use beside another word.
+///
+/// Errors: `Usage`, which names the first that is given; `Memory`.
+pub fn refuse_given(
+    alloc: Global,
+    matches: &ArgMatches<'_>,
+    names: &[&str],
+    beside: &str,
+) -> Result<(), Failure> {
+    for name in names {
+        if is_given(matches, name) {
+            let text = format!(in alloc; "--{name} is not used beside {beside}\n")?;
+            return Err(misused(alloc, text.as_str()));
+        }
+    }
+    Ok(())
 }
 
 /// The command with a word.

@@ -2,9 +2,11 @@
 #![tactic(auto)]
 
 mod loading;
+mod skim;
 mod source;
 mod span;
 mod workers;
 
 pub use loading::load;
+pub use skim::read_certificate;
 pub use source::Source;

@@ -1,6 +1,7 @@
 //! Files that are read as a whole, or in parts.
 
-use crate::source::Source;
+use crate::skim::read_certificate;
+use crate::source::{Opened, Source};
 use crate::span::{Span, Stretch, spans_of};
 use crate::workers::{Reading, Seeking};
 use std::alloc::{AllocError, Global};
@@ -62,20 +63,17 @@ fn stretch_of(parted: Parted, number: u64) -> Stretch {
 }
 
 // How a file is read in parts by so many workers, where that is sooner.
-fn parted_of<R: Source>(
-    rt: &R,
+fn parted_of(
+    opened: &Opened,
     alloc: Global,
     path: &str,
     workers: u64,
 ) -> Result<Option<Parted>, Failure> {
-    let count = count_for(workers);
-    let Some(length) = rt.length(path) else {
-        return Ok(None);
-    };
+    let (count, length) = (count_for(workers), opened.length);
     if count < 2 || length < LEAST {
         return Ok(None);
     }
-    let front = rt.read(alloc, path, 0, FRONT)?;
+    let front = opened.read(alloc, path, 0, FRONT)?;
     let found = forks_at(alloc, front.as_slice());
     drop(front);
     let Some(forks) = found else {
@@ -98,15 +96,16 @@ fn stretches_of(alloc: Global, parted: Parted) -> Result<Vec<Stretch>, AllocErro
 }
 
 // Where the parts behind the first begin, as far as they are found, each looked for by a worker of its own.
-fn seams_of<R: Threads + Source + Sync>(
+fn seams_of<R: Threads + Sync>(
     rt: &R,
+    opened: &Opened,
     alloc: Global,
     path: &str,
     parted: Parted,
 ) -> Result<Vec<Option<u64>>, Failure> {
     let stretches = stretches_of(alloc, parted)?;
     let seeking = Seeking {
-        source: rt,
+        opened,
         alloc,
         path,
         stretches: &stretches,
@@ -115,14 +114,15 @@ fn seams_of<R: Threads + Source + Sync>(
 }
 
 // The bytes of these parts, each read by a worker of its own.
-fn read_spans<R: Threads + Source + Sync>(
+fn read_spans<R: Threads + Sync>(
     rt: &R,
+    opened: &Opened,
     alloc: Global,
     path: &str,
     spans: &[Span],
 ) -> Result<Vec<Seq<u8>>, Failure> {
     let reading = Reading {
-        source: rt,
+        opened,
         alloc,
         path,
         spans,
@@ -130,22 +130,39 @@ fn read_spans<R: Threads + Source + Sync>(
     run_by(rt, &reading, spans.len() as u64)?
 }
 
-// The bytes of a file in parts, where it is read so.
+// The bytes of an open file in parts, where it is read so.
+fn parts_of<R: Threads + Sync>(
+    rt: &R,
+    opened: &Opened,
+    alloc: Global,
+    path: &str,
+    workers: u64,
+) -> Result<Option<Vec<Seq<u8>>>, Failure> {
+    let Some(parted) = parted_of(opened, alloc, path, workers)? else {
+        return Ok(None);
+    };
+    let seams = seams_of(rt, opened, alloc, path, parted)?;
+    match spans_of(alloc, &seams)? {
+        Some(spans) => {
+            let parts = read_spans(rt, opened, alloc, path, &spans)?;
+            Ok(Some(parts))
+        }
+        None => Ok(None),
+    }
+}
+
+// The bytes of a file in parts, where it is read so. It is opened once, however many workers read it.
 fn load_parts<R: Threads + Source + Sync>(
     rt: &R,
     alloc: Global,
     path: &str,
     workers: u64,
 ) -> Result<Option<Vec<Seq<u8>>>, Failure> {
-    let Some(parted) = parted_of(rt, alloc, path, workers)? else {
+    if workers < 2 {
         return Ok(None);
-    };
-    let seams = seams_of(rt, alloc, path, parted)?;
-    match spans_of(alloc, &seams)? {
-        Some(spans) => {
-            let parts = read_spans(rt, alloc, path, &spans)?;
-            Ok(Some(parts))
-        }
+    }
+    match rt.opened(path) {
+        Some(opened) => parts_of(rt, &opened, alloc, path, workers),
         None => Ok(None),
     }
 }
@@ -166,7 +183,7 @@ pub fn load<R: Threads + Source + Sync, S: Session>(
         Some(parts) => Ok(parts),
         None => {
             let mut parts = Vec::new(alloc);
-            let bytes = session.read(path, usize::MAX)?;
+            let bytes = read_certificate(session, path)?;
             parts.push(Seq::from_vec(bytes))?;
             Ok(parts)
         }

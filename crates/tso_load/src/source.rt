@@ -1,46 +1,77 @@
 //! Files that several threads read at one time.
 
 use std::alloc::Global;
-use std::io::{Seek, SeekFrom};
+use std::fs::File;
+use std::io::Read;
+use std::os::unix::fs::FileExt;
 use std::rt::Files;
 use std::{fs, io};
 use tso_front::{Failure, STREAM, cannot_read, read_bytes};
 
-/// What reads parts of files. It has no associated type, so that threads may share it.
+/// What opens files of which parts are read. It has no associated type, so that threads may share it.
 pub trait Source {
-    /// How many bytes an ordinary file has.
-    fn length(&self, path: &str) -> Option<u64>;
+    /// An ordinary file, open to be read, if it is one.
+    fn opened(&self, path: &str) -> Option<Opened>;
+}
 
-    /// So many bytes of a file from a place on, or fewer where it ends before.
+/// A file that is open to be read, by several threads at one time.
+#[derive(Drop)]
+pub struct Opened {
+    file: File,
+    /// How many bytes it had when it was opened.
+    pub length: u64,
+}
+
+/// The bytes of a file from a place on.
+#[derive(Drop)]
+struct Behind<'f> {
+    file: &'f File,
+    start: u64,
+}
+
+impl Read for Behind<'_> {
+    fn read(&mut self, buf: &mut [u8]) -> io::Result<usize> {
+        let count = self.file.read_at(buf, self.start)?;
+        self.start = self.start.saturating_add(count as u64);
+        Ok(count)
+    }
+}
+
+impl Opened {
+    /// So many bytes from a place on, or fewer where the file ends before.
     ///
-    /// Errors: `CannotRead` where it could not be opened or a read of it failed; `Memory`.
-    fn read(&self, alloc: Global, path: &str, start: u64, most: usize) -> Result<Vec<u8>, Failure>;
+    /// Errors: `CannotRead` of this path where a read failed; `Memory`.
+    pub fn read(
+        &self,
+        alloc: Global,
+        path: &str,
+        start: u64,
+        most: usize,
+    ) -> Result<Vec<u8>, Failure> {
+        let left = self.length.saturating_sub(start);
+        let expected = most.min(left as usize);
+        let mut behind = Behind {
+            file: &self.file,
+            start,
+        };
+        read_bytes(alloc, &mut behind, path, most, expected)
+    }
 }
 
-// Opens a file to be read from a place on.
-fn open_from<R: Files>(rt: &R, path: &str, start: u64) -> io::Result<R::File> {
-    let mut file = fs::open(rt, path)?;
-    file.seek(SeekFrom::Start(start))?;
-    Ok(file)
-}
-
-impl<R: Files> Source for R {
-    fn length(&self, path: &str) -> Option<u64> {
+impl<R: Files<File = File>> Source for R {
+    fn opened(&self, path: &str) -> Option<Opened> {
         if path == STREAM {
             return None;
         }
         match fs::metadata(self, path) {
-            Ok(found) if found.is_file() => Some(found.len()),
+            Ok(found) if found.is_file() => {
+                let file = fs::open(self, path).ok()?;
+                Some(Opened {
+                    file,
+                    length: found.len(),
+                })
+            }
             _ => None,
-        }
-    }
-
-    fn read(&self, alloc: Global, path: &str, start: u64, most: usize) -> Result<Vec<u8>, Failure> {
-        let left = self.length(path).unwrap_or(0).saturating_sub(start);
-        let expected = most.min(left as usize);
-        match open_from(self, path, start) {
-            Ok(mut file) => read_bytes(alloc, &mut file, path, most, expected),
-            Err(_) => Err(cannot_read(alloc, path)),
         }
     }
 }

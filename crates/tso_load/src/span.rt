@@ -3,7 +3,7 @@
 ghost use Rattle.std.specs.Prelude.{◌≡◌, IfOk, IfSome, None, Ok};
 ghost use Rattle.tso_load.specs.Spans.{AreOfWhole, BeginAt, RiseFrom};
 
-use crate::source::Source;
+use crate::source::Opened;
 use std::alloc::{AllocError, Global};
 use tso_front::Failure;
 use tso_scan::seam_in;
@@ -32,9 +32,9 @@ pub struct Stretch {
 
 /// Where in a file a part may begin, if it is found.
 ///
-/// Errors: those of `Source::read`.
-pub fn seam_from<S: Source>(
-    source: &S,
+/// Errors: those of `Opened::read`.
+pub fn seam_from(
+    opened: &Opened,
     alloc: Global,
     path: &str,
     stretch: Stretch,
@@ -44,7 +44,7 @@ pub fn seam_from<S: Source>(
     for turn in 0..=last {
         let start = stretch.from.saturating_add(turn.saturating_mul(stride));
         let most = WINDOW;
-        let bytes = source.read(alloc, path, start, most)?;
+        let bytes = opened.read(alloc, path, start, most)?;
         let found = seam_in(alloc, bytes.as_slice(), stretch.forks);
         drop(bytes);
         if let Some(place) = found {

@@ -1,6 +1,6 @@
 //! What several workers do with a file, each with a part of its own.
 
-use crate::source::Source;
+use crate::source::Opened;
 use crate::span::{Span, Stretch, seam_from};
 use std::alloc::{AllocError, Global};
 use tso_cert::Task;
@@ -9,8 +9,8 @@ use tso_list::Seq;
 
 /// Parts of a file, which are to be read.
 #[derive(Drop)]
-pub struct Reading<'a, S: Source> {
-    pub source: &'a S,
+pub struct Reading<'a> {
+    pub opened: &'a Opened,
     pub alloc: Global,
     pub path: &'a str,
     pub spans: &'a [Span],
@@ -18,8 +18,8 @@ pub struct Reading<'a, S: Source> {
 
 /// Stretches of a file, in each of which it is looked for where a part may begin.
 #[derive(Drop)]
-pub struct Seeking<'a, S: Source> {
-    pub source: &'a S,
+pub struct Seeking<'a> {
+    pub opened: &'a Opened,
     pub alloc: Global,
     pub path: &'a str,
     pub stretches: &'a [Stretch],
@@ -37,27 +37,27 @@ fn both<T: Drop>(
 }
 
 // The bytes of each part.
-fn read_all<S: Source>(reading: &Reading<'_, S>) -> Result<Vec<Seq<u8>>, Failure> {
+fn read_all(reading: &Reading<'_>) -> Result<Vec<Seq<u8>>, Failure> {
     let mut parts = Vec::new(reading.alloc);
     for span in reading.spans {
         let (alloc, path) = (reading.alloc, reading.path);
-        let bytes = reading.source.read(alloc, path, span.start, span.most)?;
+        let bytes = reading.opened.read(alloc, path, span.start, span.most)?;
         parts.push(Seq::from_vec(bytes))?;
     }
     Ok(parts)
 }
 
 // Where a part may begin in each stretch.
-fn seek_all<S: Source>(seeking: &Seeking<'_, S>) -> Result<Vec<Option<u64>>, Failure> {
+fn seek_all(seeking: &Seeking<'_>) -> Result<Vec<Option<u64>>, Failure> {
     let mut seams = Vec::new(seeking.alloc);
     for stretch in seeking.stretches {
-        let seam = seam_from(seeking.source, seeking.alloc, seeking.path, *stretch)?;
+        let seam = seam_from(seeking.opened, seeking.alloc, seeking.path, *stretch)?;
         seams.push(seam)?;
     }
     Ok(seams)
 }
 
-impl<'a, S: Source> Task for Reading<'a, S> {
+impl<'a> Task for Reading<'a> {
     type Output = Result<Vec<Seq<u8>>, Failure>;
 
     ghost is_ready = { λ p. Unit {0} };
@@ -76,13 +76,13 @@ impl<'a, S: Source> Task for Reading<'a, S> {
         }
         let (low, high) = self.spans.split_at(self.spans.len() / 2);
         let left = Reading {
-            source: self.source,
+            opened: self.opened,
             alloc: self.alloc,
             path: self.path,
             spans: low,
         };
         let right = Reading {
-            source: self.source,
+            opened: self.opened,
             alloc: self.alloc,
             path: self.path,
             spans: high,
@@ -101,7 +101,7 @@ impl<'a, S: Source> Task for Reading<'a, S> {
     }
 }
 
-impl<'a, S: Source> Task for Seeking<'a, S> {
+impl<'a> Task for Seeking<'a> {
     type Output = Result<Vec<Option<u64>>, Failure>;
 
     ghost is_ready = { λ p. Unit {0} };
@@ -120,13 +120,13 @@ impl<'a, S: Source> Task for Seeking<'a, S> {
         }
         let (low, high) = self.stretches.split_at(self.stretches.len() / 2);
         let left = Seeking {
-            source: self.source,
+            opened: self.opened,
             alloc: self.alloc,
             path: self.path,
             stretches: low,
         };
         let right = Seeking {
-            source: self.source,
+            opened: self.opened,
             alloc: self.alloc,
             path: self.path,
             stretches: high,

@@ -4,7 +4,7 @@ ghost use Rattle.std.specs.Prelude.{◌≡◌, ◌||◌, not};
 
 use clap::ArgMatches;
 use std::alloc::Global;
-use tso_front::{Failure, JSON, Variant, Word, read_apart, variant_of, written_apart};
+use tso_front::{Failure, JSON, STREAM, Variant, Word, read_apart, refuse_given, variant_of};
 use tso_show::Show;
 
 /// Which trace is replayed, and what is shown of it.
@@ -77,16 +77,28 @@ pub const SHOWN: [Word; 8] = [
     },
 ];
 
+// The words for what is printed, of which no use is made where the page goes to standard output.
+const PRINTED: [&str; 7] = [
+    "json",
+    "source",
+    "registers",
+    "buffers",
+    "brief",
+    "history",
+    "to",
+];
+
 /// What the words of the command ask for.
 ///
-/// Errors: `Usage` where two of its files would be one; `Memory`.
+/// Errors: `Usage` where standard input would be read for two of its files, or words are given of which no use is made; `Memory`.
 pub fn replay_of<'a>(alloc: Global, replay: &ArgMatches<'a>) -> Result<Replay<'a>, Failure> {
     let program = replay.get_str("FILE").unwrap_or("");
     let trace = replay.get_str("TRACE").unwrap_or("");
     let html = replay.get_str("html");
     read_apart(alloc, program, trace)?;
-    written_apart(alloc, html, program)?;
-    written_apart(alloc, html, trace)?;
+    if html == Some(STREAM) {
+        refuse_given(alloc, replay, &PRINTED, "--html -")?;
+    }
     Ok(Replay {
         program,
         variant: variant_of(replay),

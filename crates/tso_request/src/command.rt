@@ -15,8 +15,8 @@ use clap::{Arg, ArgAction, ArgMatches, Command, value_parser};
 use std::alloc::{AllocError, Global};
 use tso_cert::Workers;
 use tso_front::{
-    Ended, FILE, Failure, JSON, STREAM, VARIANT, VERSION, Variant, Word, both_apart, ended_words,
-    misused, number_argument, variant_of, with_word, with_words, written_apart,
+    Ended, FILE, Failure, JSON, STREAM, VARIANT, VERSION, Variant, Word, ended_words, misused,
+    number_argument, variant_of, with_word, with_words,
 };
 use tso_replay::{Replay, SHOWN, replay_of};
 use tso_say::{Topic, find};
@@ -273,16 +273,11 @@ fn limit_of(alloc: Global, matches: &ArgMatches<'_>) -> Result<StateLimit, Failu
 fn search_of<'a>(alloc: Global, verify: &ArgMatches<'a>) -> Result<Search<'a>, Failure> {
     let workers = workers_of(alloc, verify)?;
     let limit = limit_of(alloc, verify)?;
-    let program = verify.get_str("FILE").unwrap_or("");
-    let (cert, trace) = (verify.get_str("out"), verify.get_str("trace"));
-    written_apart(alloc, cert, program)?;
-    written_apart(alloc, trace, program)?;
-    both_apart(alloc, cert, trace)?;
     Ok(Search {
-        program,
+        program: verify.get_str("FILE").unwrap_or(""),
         variant: variant_of(verify),
-        cert,
-        trace,
+        cert: verify.get_str("out"),
+        trace: verify.get_str("trace"),
         form: form_of(verify),
         workers,
         limit,

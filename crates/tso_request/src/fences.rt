@@ -2,20 +2,19 @@
 
 use crate::help;
 use crate::limit::StateLimit;
-use crate::survey::Survey;
 use clap::{Arg, ArgMatches, Command};
 use std::alloc::{AllocError, Global};
+use tso_cert::Workers;
 use tso_fences::{Fences, fences_arguments, fences_of};
 use tso_front::Failure;
-use tso_survey::asking_of;
 use tso_verdict::{workers_argument, workers_of};
 
 /// What is asked about fences, by how many workers, and how many states a search may meet.
 #[derive(Clone, Copy)]
 pub struct FenceSearch<'a> {
     pub fences: Fences<'a>,
-    /// The survey that a search of clients belongs to; it writes no files.
-    pub survey: Survey<'a>,
+    pub workers: Workers,
+    pub limit: StateLimit,
 }
 
 /// The words of `fences`, with the option for how many states a search may meet.
@@ -41,10 +40,7 @@ pub fn fence_search_of<'a>(
 ) -> Result<FenceSearch<'a>, Failure> {
     Ok(FenceSearch {
         fences: fences_of(alloc, matches)?,
-        survey: Survey {
-            asking: asking_of(alloc, matches)?,
-            workers: workers_of(alloc, matches)?,
-            limit,
-        },
+        workers: workers_of(alloc, matches)?,
+        limit,
     })
 }

@@ -90,7 +90,8 @@ pub const SURVEY: &str =
     "Reads FILE, a program text, and searches its queue with other clients than the file's: all those of at most T
 threads and N calls, of which at most P threads push and C pop, each push with a value of its own. Clients that
 differ in the order of threads alone are one, and one whose threads' calls begin those of a larger one is not
-searched: where all runs of the larger one are good, so are all of its.
+searched: where all runs of the larger one are good, so are all of its. With --coverage it counts what the records of
+all certificates show together, which proves nothing: lines that were never met, and where calls were cut.
 
 Example:
   tsoq survey queues/vyukov_weak.tso --threads 3 --calls 4
@@ -98,9 +99,11 @@ Example:
 
 Status:
   0   all runs of all clients are good   accepted: every client of at most 3 threads and 4 calls, 54 searched
-  1   one is not                         violation: the smallest client that has one
+  1   one is not                         violation: the smallest client that has one; where smaller ones are not
+                                         decided, it says how many
   2   FILE is refused                    E04 line 7
-  4   more states than --states          limit reached: 1 of 54 searched
+  3   a file of --collect is refused     undecided: of 54 clients 0 at the limit, 0 missing, 1 refused
+  4   nothing follows of some clients    undecided: of 54 clients 1 at the limit, 0 missing, 0 refused
   5   out of memory
   6   a file failed                      cannot read PATH, or cannot write PATH
   64  the words are none of these";

@@ -3,9 +3,7 @@
 use crate::help;
 use clap::{Arg, ArgAction, ArgMatches, Command};
 use std::alloc::{AllocError, Global};
-use tso_front::{
-    FILE, Failure, VARIANT, Variant, read_apart, variant_of, with_words, written_apart,
-};
+use tso_front::{FILE, Failure, VARIANT, Variant, read_apart, variant_of, with_words};
 use tso_verdict::CERT;
 
 /// Which certificate is upgraded, for which program, and where the new one is written.
@@ -41,14 +39,12 @@ pub fn upgrade_command<'a>(alloc: Global) -> Result<Command<'a>, AllocError> {
 
 /// What the words of `upgrade` ask for.
 ///
-/// Errors: `Usage` where a file would be read twice, or be read and written; `Memory`.
+/// Errors: `Usage` where standard input would be read for both files; `Memory`.
 pub fn upgrading_of<'a>(alloc: Global, matches: &ArgMatches<'a>) -> Result<Upgrading<'a>, Failure> {
     let program = matches.get_str("FILE").unwrap_or("");
     let cert = matches.get_str("CERT").unwrap_or("");
     let out = matches.get_str("out").unwrap_or("");
     read_apart(alloc, program, cert)?;
-    written_apart(alloc, Some(out), program)?;
-    written_apart(alloc, Some(out), cert)?;
     Ok(Upgrading {
         program,
         variant: variant_of(matches),

@@ -20,7 +20,7 @@ page_of topic = page_behind [] topic
 abbrev pub limit_text : Client → List ℕ
 limit_text c = codes "accepted\nstep_limit: " ++ (decimal (step_limit c) ++ codes "\n")
 
--- the canonical text, where it is asked for
-abbrev pub printed_if : Bool → Client → List ℕ
-printed_if true c = printed (client c)
-printed_if false c = []
+-- the canonical text alone where it is asked for, and else that the client is accepted
+abbrev pub parsed_text : Bool → Client → List ℕ
+parsed_text true c = printed (client c)
+parsed_text false c = limit_text c

@@ -64,6 +64,36 @@ pub fn is_within_procedure(alloc: Global, text: &[u8], fault: Fault) -> bool {
         && is_inside(alloc, text, number)
 }
 
+// Whether a line is refused by itself.
+fn is_refused(alloc: Global, line: &[u8]) -> Result<bool, AllocError> {
+    let read = read_line(alloc, line)?;
+    Ok(read.slip().is_some() || read.kind().is_none() && !first_word(alloc, line).is_empty())
+}
+
+/// How many lines of push and pop behind this one are refused by themselves.
+///
+/// Errors: out of memory.
+pub fn refused_behind(alloc: Global, text: &[u8], number: usize) -> Result<usize, AllocError> {
+    let mut count: usize = 0;
+    let mut inside = false;
+    let mut rest = text;
+    for at in 1..=text.len() {
+        let Some((line, after)) = cut(rest) else {
+            break;
+        };
+        inside = match first_word(alloc, line) {
+            b".push" | b".pop" => true,
+            b".end" => false,
+            _ => inside,
+        };
+        if inside && at > number && is_refused(alloc, line)? {
+            count = count.saturating_add(1);
+        }
+        rest = after;
+    }
+    Ok(count)
+}
+
 // How a line is written that begins with this directive.
 fn shape(word: &[u8]) -> &'static str {
     match word {

@@ -3,4 +3,5 @@ pub mod KeptOrders
 pub mod LoneLemmas
 pub mod MarkLemmas
 pub mod SearchLemmas
+pub mod StartLemmas
 pub mod WayLemmas

@@ -1,80 +1,20 @@
 //! Traces with labels left out.
 
-ghost use Rattle.std.specs.Prelude.{◌≡◌, ◌≤◌, IfOk, length};
+ghost use Rattle.std.specs.Prelude.{IfOk};
 ghost use Rattle.tso_search.specs.Shortening.{IsShorter, IsTraceOf};
 
+use crate::leaving::{beginning, call_count, own_count, without, without_call};
+use crate::lessening::lessen;
+use crate::shortest::Shortest;
 use std::alloc::{AllocError, Global};
 use tso_flow::Checked;
-use tso_machine::Label;
-use tso_trace::{Trace, TraceFault};
+use tso_trace::Trace;
 
-/// How many labels all tries have together.
-const LABELS: usize = 200_000;
+/// So many rounds are made at the most.
+const ROUNDS: usize = 65_536;
 
 /// How many labels of a thread are left out at once.
 const WINDOW: usize = 16;
-
-/// A trace, and how many labels further tries may have.
-#[derive(Drop)]
-struct Shortest {
-    trace: Trace,
-    left: usize,
-}
-
-// The labels but for some of a thread's own: `count` from number `from` on, by the thread's order.
-fn without(
-    alloc: Global,
-    labels: &[Label],
-    thread: usize,
-    from: usize,
-    count: usize,
-) -> Result<Vec<Label>, AllocError>
-    ensures { IfOk result (λ rest. length rest.items ≤ length labels.now) }
-{
-    let mut rest = Vec::new(alloc);
-    let mut own: usize = 0;
-    for label in labels {
-        let is_out = label.thread == thread && own >= from && own - from < count;
-        if label.thread == thread {
-            own = own.saturating_add(1);
-        }
-        if !is_out {
-            rest.push(*label)?;
-        }
-    }
-    Ok(rest)
-}
-
-// How many labels a thread has.
-fn own_count(labels: &[Label], thread: usize) -> usize {
-    labels.iter().filter(|label| label.thread == thread).count()
-}
-
-// Takes these labels in place of the trace, if they are a run that is not good.
-fn take(
-    alloc: Global,
-    checked: &Checked,
-    shortest: &mut Shortest,
-    labels: Vec<Label>,
-) -> Result<bool, AllocError>
-    requires trace { IsTraceOf checked.now.client shortest.old.trace }
-    requires fewer { length labels.items ≤ length shortest.old.trace.labels }
-    ensures { IsShorter checked.now.client shortest.old.trace shortest.new.trace }
-{
-    if labels.len() > shortest.left {
-        shortest.left = 0;
-        return Ok(false);
-    }
-    shortest.left -= labels.len();
-    match Trace::from_labels(alloc, checked, labels) {
-        Ok(trace) => {
-            shortest.trace = trace;
-            Ok(true)
-        }
-        Err(TraceFault::Memory) => Err(AllocError),
-        Err(_) => Ok(false),
-    }
-}
 
 // Leaves some labels of a thread out, if what is left is a run that is not good.
 fn leave_out(
@@ -89,15 +29,7 @@ fn leave_out(
     ensures { IsShorter checked.now.client shortest.old.trace shortest.new.trace }
 {
     let labels = without(alloc, shortest.trace.labels.as_slice(), thread, from, count)?;
-    take(alloc, checked, shortest, labels)
-}
-
-// The first labels, so many.
-fn beginning(alloc: Global, labels: &[Label], count: usize) -> Result<Vec<Label>, AllocError>
-    ensures { IfOk result (λ begun. length begun.items ≤ length labels.now) }
-{
-    let count = count.min(labels.len());
-    Ok(Vec::from_slice(alloc, &labels[..count])?)
+    shortest.take(alloc, checked, labels)
 }
 
 // Leaves out what comes after the label with which the run is no longer good: of a run that is not good no longer one is.
@@ -110,7 +42,7 @@ fn cut_end(alloc: Global, checked: &Checked, shortest: &mut Shortest) -> Result<
     while good < bad {
         let half = good + (bad - good) / 2;
         let begun = beginning(alloc, shortest.trace.labels.as_slice(), half)?;
-        if take(alloc, checked, shortest, begun)? {
+        if shortest.take(alloc, checked, begun)? {
             bad = half;
         } else {
             good = half + 1;
@@ -138,6 +70,28 @@ fn cut_thread(
     Ok(false)
 }
 
+// Leaves out single calls of a thread, the last first, each with the drains of its stores.
+fn cut_calls(
+    alloc: Global,
+    checked: &Checked,
+    shortest: &mut Shortest,
+    thread: usize,
+) -> Result<bool, AllocError>
+    requires { IsTraceOf checked.now.client shortest.old.trace }
+    ensures { IsShorter checked.now.client shortest.old.trace shortest.new.trace }
+{
+    let mut shorter = false;
+    let count = call_count(shortest.trace.labels.as_slice(), thread);
+    for behind in 0..count {
+        let labels = shortest.trace.labels.as_slice();
+        let rest = without_call(alloc, labels, thread, count - behind)?;
+        if shortest.take(alloc, checked, rest)? {
+            shorter = true;
+        }
+    }
+    Ok(shorter)
+}
+
 // Leaves out windows of so many labels of a thread.
 fn cut_windows(
     alloc: Global,
@@ -159,7 +113,7 @@ fn cut_windows(
     Ok(shorter)
 }
 
-// Leaves out the last labels of each thread.
+// Leaves out the last labels of each thread, and then single calls.
 fn cut_threads(
     alloc: Global,
     checked: &Checked,
@@ -172,6 +126,7 @@ fn cut_threads(
     let mut shorter = false;
     for thread in 0..threads {
         shorter |= cut_thread(alloc, checked, shortest, thread)?;
+        shorter |= cut_calls(alloc, checked, shortest, thread)?;
     }
     Ok(shorter)
 }
@@ -221,8 +176,9 @@ fn shorten(
     requires { IsTraceOf checked.now.client shortest.old.trace }
     ensures { IsShorter checked.now.client shortest.old.trace shortest.new.trace }
 {
+    lessen(alloc, checked, shortest, threads)?;
     cut_end(alloc, checked, shortest)?;
-    for _ in 0..LABELS {
+    for _ in 0..ROUNDS {
         if !cut_round(alloc, checked, shortest, threads)? {
             break;
         }
@@ -230,11 +186,16 @@ fn shorten(
     Ok(())
 }
 
-/// A trace of the same client with as many labels left out as were found to be of no need: what comes after the label with which
-/// the run is no longer good, then each thread's last labels, then windows of up to 16 labels of one thread, the longest first,
-/// again until nothing goes.
+/// A shorter trace of the same client, or this one. First a run with few calls is looked for (`lessen`). Then labels are left out: those
+/// behind the label with which the run is no longer good, each thread's last labels, single calls, and windows of up to 16 labels of
+/// one thread, the longest first, again until nothing goes.
 ///
-/// Errors: where a growth was refused.
+/// So the trace is minimal: if one thread's last labels, one of its calls or a window of up to 16 of its labels is left out, the rest
+/// is no run, or a good one. A call's labels are those from its beginning up to the next call, without the drains of earlier stores and
+/// with all drains of its own. Of a call that is not its thread's last the rest is a run only if the next call is the same; the later
+/// calls go first. The trace may be longer if 200,000 labels of tries were not enough.
+///
+/// Errors: out of memory.
 pub fn shortened(
     alloc: Global,
     checked: &Checked,
@@ -244,10 +205,7 @@ pub fn shortened(
     requires { IsTraceOf checked.now.client trace }
     ensures { IfOk result (IsShorter checked.now.client trace) }
 {
-    let mut shortest = Shortest {
-        trace,
-        left: LABELS,
-    };
+    let mut shortest = Shortest::new(trace);
     let done = shorten(alloc, checked, &mut shortest, threads);
     let Shortest { trace, left: _left } = shortest;
     match done {

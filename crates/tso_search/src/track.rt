@@ -6,6 +6,9 @@ use std::collections::VecDeque;
 /// From how many states with a choice a hunt goes on.
 const TURNS: u32 = 65_536;
 
+/// The same of a probe.
+const PROBE: u32 = 1_024;
+
 /// Which of the states with a choice a hunt goes on from next.
 #[derive(Clone, Copy, PartialEq, Eq)]
 pub enum Way {
@@ -13,6 +16,16 @@ pub enum Way {
     Breadth,
     /// The one that was met last.
     Depth,
+    /// The same, but the hunt is a short one.
+    Probe,
+}
+
+// From how many states with a choice such a hunt goes on.
+fn turns_of(way: Way) -> u32 {
+    match way {
+        Way::Breadth | Way::Depth => TURNS,
+        Way::Probe => PROBE,
+    }
 }
 
 /// A state to go on from: one that was put off and has its turn, or one that was just met.
@@ -53,7 +66,7 @@ impl Track {
             met: Vec::new(alloc),
             soon: Vec::new(alloc),
             waiting,
-            turns: TURNS,
+            turns: turns_of(way),
             way,
         })
     }
@@ -69,7 +82,7 @@ impl Track {
         }
         let number = match self.way {
             Way::Breadth => self.waiting.pop_front()?,
-            Way::Depth => self.waiting.pop_back()?,
+            Way::Depth | Way::Probe => self.waiting.pop_back()?,
         };
         let in_turn = true;
         Some(Next { number, in_turn })

@@ -1,5 +1,8 @@
 //! A line as compilers write it, in the words that are read here.
 
+use crate::hints::name_of;
+use crate::narrow::{other_name, wide};
+use crate::rewriting::{summed, turned_round, with_words, zeroed};
 use crate::source::{text_of, tokens_of};
 use crate::suspect::{is_among, is_mnemonic, is_register, unlocked};
 use std::alloc::{AllocError, Global};
@@ -9,16 +12,12 @@ use tso_text::{Token, TokenKind};
 const ALIASES: &str =
     "jz je|jnz jne|jc jb|jnc jae|jnae jb|jnb jae|jna jbe|jnbe ja|jnge jl|jnl jge|jng jle|jnle jg|movabs mov";
 
-// The name that is read here, if this is another one of it.
+// The name that is read here, if this is another one of it, or one of fewer bits.
 fn read_name(word: &[u8]) -> Option<&'static str> {
-    for pair in ALIASES.split('|') {
-        if let Some((alias, name)) = pair.split_once(' ') {
-            if alias.as_bytes() == word {
-                return Some(name);
-            }
-        }
+    match other_name(ALIASES, word) {
+        Some(name) => Some(name),
+        None => wide(word),
     }
-    None
 }
 
 // Whether a word of small letters means something in an instruction.
@@ -78,21 +77,6 @@ fn reworded(alloc: Global, line: &[u8]) -> Result<Vec<u8>, AllocError> {
     Ok(all)
 }
 
-// The line up to a byte, then these words, and then the line from another byte on.
-fn with_words(
-    alloc: Global,
-    line: &[u8],
-    upto: usize,
-    words: &[u8],
-    from: usize,
-) -> Result<Vec<u8>, AllocError> {
-    let mut all = Vec::new(alloc);
-    all.extend_from_slice(line.get(..upto).unwrap_or(&[]))?;
-    all.extend_from_slice(words)?;
-    all.extend_from_slice(line.get(from..).unwrap_or(&[]))?;
-    Ok(all)
-}
-
 // The place of the first token with this text.
 fn place_of(line: &[u8], tokens: &[Token], word: &[u8]) -> Option<usize> {
     tokens
@@ -100,9 +84,9 @@ fn place_of(line: &[u8], tokens: &[Token], word: &[u8]) -> Option<usize> {
         .position(|token| text_of(line, *token) == word)
 }
 
-// The name and the `rip` of memory that is written `head[rip]`.
+// The name and the `rip` of memory that is written `head[rip]`, or the 0 of `head[0+rax*8]`.
 fn name_before(line: &[u8], tokens: &[Token]) -> Option<(Token, Token)> {
-    let at = place_of(line, tokens, b"rip")?;
+    let at = place_of(line, tokens, b"rip").or(place_of(line, tokens, b"0"))?;
     let open = tokens.get(at.checked_sub(1)?).copied()?;
     let name = tokens.get(at.checked_sub(2)?).copied()?;
     let rip = tokens.get(at).copied()?;
@@ -114,7 +98,7 @@ fn name_before(line: &[u8], tokens: &[Token]) -> Option<(Token, Token)> {
     }
 }
 
-// The line with the name of its array within the brackets, where it is written `head[rip]`.
+// The line with the name of its array within the brackets, where it is written `head[rip]` or `head[0+rax*8]`.
 fn bracketed(alloc: Global, line: Vec<u8>) -> Result<Vec<u8>, AllocError> {
     match name_before(&line, &tokens_of(alloc, &line)) {
         Some((name, rip)) => {
@@ -123,6 +107,36 @@ fn bracketed(alloc: Global, line: Vec<u8>) -> Result<Vec<u8>, AllocError> {
         }
         None => Ok(line),
     }
+}
+
+// The number, the bracket before and the one behind of memory that is written `8[rdx]`.
+fn number_before(tokens: &[Token]) -> Option<(Token, Token, Token)> {
+    let at = tokens
+        .iter()
+        .position(|token| token.kind == TokenKind::Open)?;
+    let number = tokens.get(at.checked_sub(1)?).copied()?;
+    let open = tokens.get(at).copied()?;
+    let close = tokens
+        .iter()
+        .copied()
+        .find(|token| token.kind == TokenKind::Close)?;
+    if number.kind == TokenKind::Number && open.end <= close.start {
+        Some((number, open, close))
+    } else {
+        None
+    }
+}
+
+// The line with a number within the brackets that stands before them.
+fn displaced(alloc: Global, line: Vec<u8>) -> Result<Vec<u8>, AllocError> {
+    let Some((number, open, close)) = number_before(&tokens_of(alloc, &line)) else {
+        return Ok(line);
+    };
+    let inside = line.get(open.start..close.start).unwrap_or(&[]);
+    let sum = with_words(alloc, inside, inside.len(), b" + ", inside.len())?;
+    let end = sum.len();
+    let memory = with_words(alloc, &sum, end, text_of(&line, number), end)?;
+    with_words(alloc, &line, number.start, &memory, close.start)
 }
 
 // The `rip` and the name of memory that is written `[rip + head]`.
@@ -269,18 +283,43 @@ fn one_word(alloc: Global, line: &[u8], word: &[u8]) -> Result<Vec<u8>, AllocErr
     with_words(alloc, line, start, word, line.len())
 }
 
-/// The line as it is read here, where it is one that compilers write; else it is the line in small letters, or nearly so.
+// The line without the comment that `#` begins.
+fn uncommented(line: &[u8]) -> &[u8] {
+    let len = line.iter().take_while(|byte| **byte != b'#').count();
+    line.get(..len).unwrap_or(line).trim_ascii_end()
+}
+
+// The line with its memory as it is named here.
+fn named(alloc: Global, line: Vec<u8>) -> Result<Vec<u8>, AllocError> {
+    let inside = displaced(alloc, bracketed(alloc, line)?)?;
+    rescaled(alloc, unrelated(alloc, inside)?)
+}
+
+// Whether a line that begins with this word says nothing of what is done.
+fn is_for_assembler(word: &[u8]) -> bool {
+    word.starts_with(b".cfi_")
+        || is_among(
+            word,
+            "endbr64|.p2align|.align|.text|.data|.bss|.section|.globl|.type|.size|.file|.loc|.ident|.intel_syntax",
+        )
+}
+
+/// The line as it is read here, if it is one that compilers write, two lines if it takes two instructions, and none if it says
+/// nothing; else it is the line in small letters, or nearly so.
 ///
-/// Errors: where a growth was refused.
+/// Errors: out of memory.
 pub fn respelled(alloc: Global, line: &[u8]) -> Result<Vec<u8>, AllocError> {
-    let words = bracketed(alloc, reworded(alloc, line)?)?;
+    let words = named(alloc, reworded(alloc, uncommented(line))?)?;
     let tokens = tokens_of(alloc, &words);
+    if is_for_assembler(name_of(line, &tokens_of(alloc, line))) {
+        return Ok(Vec::new(alloc));
+    }
     if is_stack_fence(&words, &tokens) {
         return one_word(alloc, &words, b"mfence");
     }
     if is_pause(&words, &tokens) {
         return one_word(alloc, &words, b"pause");
     }
-    let related = rescaled(alloc, unrelated(alloc, words)?)?;
-    turned(alloc, unlock(alloc, sized(alloc, related)?)?)
+    let plain = summed(alloc, zeroed(alloc, turned_round(alloc, words)?)?)?;
+    turned(alloc, unlock(alloc, sized(alloc, plain)?)?)
 }

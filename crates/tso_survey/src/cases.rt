@@ -4,7 +4,7 @@ use crate::calls::{Calls, Numbering};
 use crate::plan::Plan;
 use crate::words::{Asking, Part};
 use std::alloc::Global;
-use tso_front::Failure;
+use tso_front::{Failure, TEXT_BYTES};
 
 /// Clients, and the texts that they are the clients of.
 #[derive(Drop)]
@@ -50,6 +50,20 @@ impl Cases {
         Ok(())
     }
 
+    // Puts one that a plan has at the end.
+    fn put_planned(
+        &mut self,
+        alloc: Global,
+        base: &[u8],
+        asking: &Asking<'_>,
+        calls: Calls,
+    ) -> Result<(), Failure> {
+        match self.put(alloc, base, asking, calls) {
+            Err(Failure::Usage(_)) => Err(no_room(alloc, asking)),
+            put => put,
+        }
+    }
+
     /// Those that a plan searches, and of these the ones of a part.
     ///
     /// Errors: those of `text_of`.
@@ -63,7 +77,7 @@ impl Cases {
         for (number, asked) in plan.largest.iter().enumerate() {
             if is_taken(asking.part, number) {
                 let calls = asked.calls(alloc, &plan.words, Numbering::Larger)?;
-                cases.put(alloc, base, asking, calls)?;
+                cases.put_planned(alloc, base, asking, calls)?;
             }
         }
         Ok(cases)
@@ -118,6 +132,18 @@ impl Cases {
             Err(Failure::Usage(_)) => Err(no_client(alloc, asking, number)),
             put => put,
         }
+    }
+}
+
+// That a text is too long for the calls of a client.
+fn no_room(alloc: Global, asking: &Asking<'_>) -> Failure {
+    let program = asking.program;
+    let text = format!(in alloc;
+        "{program}: with the calls of a client the program text has more than {TEXT_BYTES} bytes\n"
+    );
+    match text {
+        Ok(text) => Failure::Usage(text),
+        Err(_) => Failure::Memory,
     }
 }
 

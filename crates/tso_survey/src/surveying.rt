@@ -10,14 +10,15 @@ use crate::cases::{Cases, is_taken, text_of};
 use crate::finding::{Finder, Finding};
 use crate::method::Words;
 use crate::plan::{Asked, Plan, count_of};
-use crate::tally::{Tally, Violated};
+use crate::tally::{Tally, Violated, write_apart};
+use crate::undecided::Undecided;
 use crate::words::{Asking, Part};
 use serde_json::{Value, json};
 use std::alloc::{AllocError, Global};
 use std::sync::Wait;
 use std::thread::Threads;
 use tso_client::checked_of;
-use tso_front::{Failure, Members, Session, misused};
+use tso_front::{Failure, Kind, Members, Session, Variant, misused};
 
 /// How many clients a survey asks about at the most.
 const MOST_CLIENTS: usize = 100_000;
@@ -38,7 +39,7 @@ fn put_all<S: Session>(
 ) -> Result<(), Failure> {
     for (number, finding) in findings.iter_mut().enumerate() {
         if let (Some(calls), Some(text)) = (calls.get(number), texts.get(number)) {
-            tally.put(session, asking.out, calls, text, finding)?;
+            tally.put(session, asking, calls, text, finding)?;
         }
         if is_over(tally, asking) {
             break;
@@ -229,6 +230,14 @@ fn answers_for_all(
     Ok(are_all_accepted(accepted, texts))
 }
 
+// How a survey ends: its last line, the object of JSON that says the same, and the status.
+#[derive(Drop)]
+struct Last {
+    line: String,
+    object: Value,
+    status: u8,
+}
+
 // Of how many clients nothing follows, as a line.
 fn undecided_line(alloc: Global, tally: &Tally) -> Result<String, AllocError> {
     let count = tally.count;
@@ -249,29 +258,41 @@ fn undecided_object(alloc: Global, tally: &Tally) -> Result<Value, AllocError> {
     Ok(object.object())
 }
 
-// Says of how many clients nothing follows, and gives the status.
-fn put_undecided<S: Session>(session: &mut S, tally: &mut Tally) -> Result<u8, Failure> {
-    let line = undecided_line(session.alloc(), tally)?;
-    let object = undecided_object(session.alloc(), tally)?;
-    tally.say(session, line.as_str(), &object)?;
-    Ok(if tally.refused > 0 { 3 } else { 4 })
+// That of so many clients nothing follows.
+fn undecided(alloc: Global, tally: &Tally) -> Result<Last, AllocError> {
+    Ok(Last {
+        line: undecided_line(alloc, tally)?,
+        object: undecided_object(alloc, tally)?,
+        status: if tally.refused > 0 { 3 } else { 4 },
+    })
 }
 
-// That the client with these calls has a run that is not good, as an object of JSON.
-fn violated_object(alloc: Global, calls: &str) -> Result<Value, AllocError> {
-    json!(in alloc; {"verdict": "violation", "smallest": calls})
+// That the client with these calls has a run that is not good, as an object of JSON: the smallest that has one, where all that are smaller
+// are decided, and else one beside so many that are not.
+fn violated_object(alloc: Global, calls: &str, undecided: usize) -> Result<Value, AllocError> {
+    if undecided == 0 {
+        return json!(in alloc; {"verdict": "violation", "smallest": calls});
+    }
+    let undecided = undecided as u64;
+    json!(in alloc; {"verdict": "violation", "client": calls, "smaller_undecided": undecided})
 }
 
-// Says which client has a run that is not good, by its calls, and gives the status.
-fn put_violated<S: Session>(
-    session: &mut S,
-    tally: &mut Tally,
-    calls: &str,
-) -> Result<u8, Failure> {
-    let object = violated_object(session.alloc(), calls)?;
-    let line = format!(in session.alloc(); "violation: {calls}\n")?;
-    tally.say(session, line.as_str(), &object)?;
-    Ok(1)
+// The same as a line.
+fn violated_line(alloc: Global, calls: &str, undecided: usize) -> Result<String, AllocError> {
+    match undecided {
+        0 => format!(in alloc; "violation: {calls}\n"),
+        1 => format!(in alloc; "violation: {calls}, 1 smaller client is undecided\n"),
+        more => format!(in alloc; "violation: {calls}, {more} smaller clients are undecided\n"),
+    }
+}
+
+// That the client with these calls has a run that is not good, and so many smaller ones are not decided.
+fn violated(alloc: Global, calls: &str, undecided: usize) -> Result<Last, AllocError> {
+    Ok(Last {
+        line: violated_line(alloc, calls, undecided)?,
+        object: violated_object(alloc, calls, undecided)?,
+        status: 1,
+    })
 }
 
 // That each client of a list or of a part was accepted, as a line.
@@ -290,28 +311,54 @@ fn accepted_object(alloc: Global, count: usize, of: usize) -> Result<Value, Allo
     json!(in alloc; {"verdict": "accepted", "searched": count, "of": of})
 }
 
-// Says that each client of a list or of a part was accepted, and gives the status.
-fn put_accepted<S: Session>(session: &mut S, tally: &mut Tally, of: usize) -> Result<u8, Failure> {
-    let line = accepted_line(session.alloc(), tally.count, of)?;
-    let object = accepted_object(session.alloc(), tally.count, of)?;
-    tally.say(session, line.as_str(), &object)?;
-    Ok(0)
+// That each client of a list or of a part was accepted.
+fn accepted(alloc: Global, count: usize, of: usize) -> Result<Last, AllocError> {
+    Ok(Last {
+        line: accepted_line(alloc, count, of)?,
+        object: accepted_object(alloc, count, of)?,
+        status: 0,
+    })
+}
+
+// How many of these clients have fewer calls than this.
+fn count_smaller(calls: &[Calls], size: usize) -> usize {
+    calls.iter().filter(|calls| calls.count() < size).count()
+}
+
+// How many clients of a list or a part with fewer calls than these are undecided: those of which nothing follows, and those that were not
+// looked at.
+fn smaller_left(tally: &Tally, cases: &Cases, size: usize) -> usize {
+    let left = cases.calls.get(tally.count..).unwrap_or(&[]);
+    tally
+        .undecided_below(size)
+        .saturating_add(count_smaller(left, size))
 }
 
 // Ends a survey of some clients: those of a list, or a part of those that are searched, of which there are so many.
-fn end_some<S: Session>(
-    session: &mut S,
-    tally: &mut Tally,
-    texts: &[Vec<u8>],
-    of: usize,
-) -> Result<u8, Failure> {
-    if let Some(calls) = tally.violated_line(session.alloc())? {
-        return put_violated(session, tally, calls.as_str());
+fn end_some(alloc: Global, tally: &Tally, cases: &Cases, of: usize) -> Result<Last, AllocError> {
+    if let Some(found) = &tally.violated {
+        let calls = found.calls.to_string(alloc)?;
+        return violated(
+            alloc,
+            calls.as_str(),
+            smaller_left(tally, cases, found.size()),
+        );
     }
-    if are_all_accepted(&tally.accepted, texts) {
-        put_accepted(session, tally, of)
+    if are_all_accepted(&tally.accepted, &cases.texts) {
+        accepted(alloc, tally.count, of)
     } else {
-        put_undecided(session, tally)
+        undecided(alloc, tally)
+    }
+}
+
+// That the smallest client that was found has a run that is not good: each that is smaller was looked at.
+fn end_smallest(alloc: Global, tally: &Tally) -> Result<Last, AllocError> {
+    match &tally.violated {
+        Some(found) => {
+            let calls = found.calls.to_string(alloc)?;
+            violated(alloc, calls.as_str(), tally.undecided_below(found.size()))
+        }
+        None => undecided(alloc, tally),
     }
 }
 
@@ -326,7 +373,7 @@ fn end_violated<R: Threads + Wait + Sync, D: Finder, S: Session>(
     asking: &Asking<'_>,
     plan: &Plan,
     size: usize,
-) -> Result<u8, Failure> {
+) -> Result<Last, Failure> {
     let smaller = smaller_than(session.alloc(), plan, tally.count, size)?;
     decide_smaller(
         rt,
@@ -339,10 +386,7 @@ fn end_violated<R: Threads + Wait + Sync, D: Finder, S: Session>(
         &smaller,
         size,
     )?;
-    match tally.violated_line(session.alloc())? {
-        Some(calls) => put_violated(session, tally, calls.as_str()),
-        None => put_undecided(session, tally),
-    }
+    Ok(end_smallest(session.alloc(), tally)?)
 }
 
 // That each client within the bounds was accepted, where so many were searched, as a line.
@@ -350,16 +394,13 @@ fn every_line(alloc: Global, bounds: &Bounds, count: usize) -> Result<String, Al
     format!(in alloc; "accepted: every client of {bounds}, {count} searched\n")
 }
 
-// Says that each client within the bounds was accepted, and gives the status.
-fn put_every<S: Session>(
-    session: &mut S,
-    tally: &mut Tally,
-    bounds: &Bounds,
-) -> Result<u8, Failure> {
-    let object = bounds.object(session.alloc(), tally.count)?;
-    let line = every_line(session.alloc(), bounds, tally.count)?;
-    tally.say(session, line.as_str(), &object)?;
-    Ok(0)
+// That each client within the bounds was accepted.
+fn every(alloc: Global, bounds: &Bounds, count: usize) -> Result<Last, AllocError> {
+    Ok(Last {
+        line: every_line(alloc, bounds, count)?,
+        object: bounds.object(alloc, count)?,
+        status: 0,
+    })
 }
 
 // Ends a survey of all clients within the bounds, of which these are the texts of the largest.
@@ -372,19 +413,21 @@ fn end_whole<R: Threads + Wait + Sync, D: Finder, S: Session>(
     asking: &Asking<'_>,
     plan: &Plan,
     texts: &mut Vec<Vec<u8>>,
-) -> Result<u8, Failure> {
+) -> Result<Last, Failure> {
+    let alloc = session.alloc();
     if let Some(size) = tally.violated_size() {
         return end_violated(rt, finder, session, tally, base, asking, plan, size);
     }
     if !tally.is_clean() {
-        return put_undecided(session, tally);
+        return Ok(undecided(alloc, tally)?);
     }
     let accepted = &mut tally.accepted;
-    if answers_for_all(session.alloc(), base, asking, plan, texts, accepted)? {
-        put_every(session, tally, &asking.bounds)
+    let last = if answers_for_all(alloc, base, asking, plan, texts, accepted)? {
+        every(alloc, &asking.bounds, tally.count)?
     } else {
-        put_undecided(session, tally)
-    }
+        undecided(alloc, tally)?
+    };
+    Ok(last)
 }
 
 // Writes the lines of a survey into its folder, if it has one. Of lists of clients there may be many surveys at once that write into one
@@ -403,7 +446,7 @@ fn write_index<S: Session>(
         (None, None) => format!(in alloc; "{folder}/index")?,
         (None, Some(_)) => return Ok(()),
     };
-    session.write(path.as_str(), &tally.lines)
+    write_apart(session, asking, path.as_str(), &tally.lines)
 }
 
 // Some clients: those of a list, or a part of those that are searched, of which there are so many.
@@ -415,9 +458,9 @@ fn survey_some<R: Threads + Wait + Sync, D: Finder, S: Session>(
     asking: &Asking<'_>,
     cases: &Cases,
     of: usize,
-) -> Result<u8, Failure> {
+) -> Result<Last, Failure> {
     decide_all(rt, finder, session, tally, asking, cases)?;
-    end_some(session, tally, &cases.texts, of)
+    Ok(end_some(session.alloc(), tally, cases, of)?)
 }
 
 // The clients of the lines of a list.
@@ -429,9 +472,12 @@ fn survey_lines<R: Threads + Wait + Sync, D: Finder, S: Session>(
     base: &[u8],
     asking: &Asking<'_>,
     list: &str,
-) -> Result<u8, Failure> {
+) -> Result<Last, Failure> {
     let cases = Cases::listed(session.alloc(), base, asking, list)?;
     let count = cases.texts.len();
+    if count == 0 {
+        return Err(no_clients(session.alloc(), asking));
+    }
     survey_some(rt, finder, session, tally, asking, &cases, count)
 }
 
@@ -444,11 +490,14 @@ fn survey_list<R: Threads + Wait + Sync, D: Finder, S: Session>(
     base: &[u8],
     asking: &Asking<'_>,
     list: &str,
-) -> Result<u8, Failure> {
+) -> Result<Last, Failure> {
     let bytes = session.read(list, usize::MAX)?;
     match std::str::from_utf8(&bytes) {
         Ok(list) => survey_lines(rt, finder, session, tally, base, asking, list),
-        Err(_) => Err(misused(session.alloc(), "the list of clients is not UTF-8\n")),
+        Err(_) => {
+            let text = format!(in session.alloc(); "{list}: the list of clients is not UTF-8\n")?;
+            Err(misused(session.alloc(), text.as_str()))
+        }
     }
 }
 
@@ -462,7 +511,7 @@ fn survey_cases<R: Threads + Wait + Sync, D: Finder, S: Session>(
     asking: &Asking<'_>,
     plan: &Plan,
     cases: &mut Cases,
-) -> Result<u8, Failure> {
+) -> Result<Last, Failure> {
     if asking.part.is_some() {
         let count = plan.largest.len();
         return survey_some(rt, finder, session, tally, asking, cases, count);
@@ -481,7 +530,7 @@ fn survey_plan<R: Threads + Wait + Sync, D: Finder, S: Session>(
     base: &[u8],
     asking: &Asking<'_>,
     plan: &Plan,
-) -> Result<u8, Failure> {
+) -> Result<Last, Failure> {
     let mut cases = Cases::planned(session.alloc(), base, asking, plan)?;
     survey_cases(rt, finder, session, tally, base, asking, plan, &mut cases)
 }
@@ -494,15 +543,31 @@ fn survey_bounds<R: Threads + Wait + Sync, D: Finder, S: Session>(
     tally: &mut Tally,
     base: &[u8],
     asking: &Asking<'_>,
-) -> Result<u8, Failure> {
+) -> Result<Last, Failure> {
     let plan = plan_of(session.alloc(), asking)?;
     survey_plan(rt, finder, session, tally, base, asking, &plan)
 }
 
-// The clients within the bounds, if they are not too many.
+// That there is no client to be asked about.
+fn no_clients(alloc: Global, asking: &Asking<'_>) -> Failure {
+    let bounds = asking.bounds;
+    let text = match asking.clients {
+        Some(list) => format!(in alloc; "{list} has no client\n"),
+        None => format!(in alloc; "there is no client of {bounds}\n"),
+    };
+    match text {
+        Ok(text) => Failure::Usage(text),
+        Err(_) => Failure::Memory,
+    }
+}
+
+// The clients within the bounds, if there are any, and not too many.
 fn plan_of(alloc: Global, asking: &Asking<'_>) -> Result<Plan, Failure> {
     let bounds = asking.bounds;
     let count = count_of(alloc, &bounds)?;
+    if count == 0 {
+        return Err(no_clients(alloc, asking));
+    }
     if count > MOST_CLIENTS {
         let text = format!(in alloc;
             "there are {count} clients of {bounds}, and a survey asks about {MOST_CLIENTS} at most\n"
@@ -530,10 +595,18 @@ fn put_largest(
     Ok(())
 }
 
-/// The clients that a survey would search, a line each, and of these the ones of a part.
+/// The clients that a survey of a program text would search, a line each, and of these the ones of a part.
 ///
-/// Errors: `Usage` where there are too many; `Memory`.
-pub fn listed(alloc: Global, asking: &Asking<'_>) -> Result<String, Failure> {
+/// Errors: `Program` with the first fault of the text; `Usage` where there are too many clients, or none; `Memory`.
+pub fn listed(alloc: Global, base: &[u8], asking: &Asking<'_>) -> Result<String, Failure> {
+    check_program(alloc, base, asking)?;
+    lines_of(alloc, asking)
+}
+
+/// The clients that a survey would search, a line each, and of these the ones of a part, whichever the queue is.
+///
+/// Errors: `Usage` where there are too many, or none; `Memory`.
+pub fn lines_of(alloc: Global, asking: &Asking<'_>) -> Result<String, Failure> {
     let plan = plan_of(alloc, asking)?;
     let mut lines = String::new(alloc);
     let put = put_largest(alloc, &plan, asking.part, &mut lines);
@@ -547,6 +620,16 @@ pub fn listed(alloc: Global, asking: &Asking<'_>) -> Result<String, Failure> {
     }
 }
 
+// Prints what the certificates show together, where that was counted, and then the last line.
+fn say_last<S: Session>(session: &mut S, tally: &mut Tally, last: &Last) -> Result<(), Failure> {
+    if let Some(shown) = tally.shown.take() {
+        let (text, object) = (shown.text(session.alloc())?, shown.object(session.alloc())?);
+        drop(shown);
+        tally.say(session, text.as_str(), &object)?;
+    }
+    tally.say(session, last.line.as_str(), &last.object)
+}
+
 // Surveys the clients of a program text, and gives the status.
 fn survey_into<R: Threads + Wait + Sync, D: Finder, S: Session>(
     rt: &R,
@@ -556,20 +639,38 @@ fn survey_into<R: Threads + Wait + Sync, D: Finder, S: Session>(
     base: &[u8],
     asking: &Asking<'_>,
 ) -> Result<u8, Failure> {
-    let status = match asking.clients {
+    let last = match asking.clients {
         Some(list) => survey_list(rt, finder, session, tally, base, asking, list)?,
         None => survey_bounds(rt, finder, session, tally, base, asking)?,
     };
+    say_last(session, tally, &last)?;
     session.flush()?;
     write_index(session, tally, asking)?;
-    Ok(status)
+    Ok(last.status)
 }
 
-// Refuses a text that is no program.
-fn check_program(alloc: Global, base: &[u8]) -> Result<(), Failure> {
+// Refuses a text that is no program, and a mode that is none.
+fn check_program(alloc: Global, base: &[u8], asking: &Asking<'_>) -> Result<(), Failure> {
     let checked = checked_of(alloc, base)?;
     drop(checked);
+    let mode = Variant {
+        mode: asking.mode,
+        ..Variant::PLAIN
+    };
+    let text = mode.applied(alloc, Vec::from_slice(alloc, base)?)?;
+    drop(text);
     Ok(())
+}
+
+// Refuses a folder that is to be collected and is none.
+fn check_folder<S: Session>(session: &mut S, asking: &Asking<'_>) -> Result<(), Failure> {
+    match asking.collect {
+        Some(folder) if session.look_at(folder) != Kind::Folder => {
+            let text = format!(in session.alloc(); "--collect: {folder} is no folder\n")?;
+            Err(misused(session.alloc(), text.as_str()))
+        }
+        _ => Ok(()),
+    }
 }
 
 /// What a survey has come to.
@@ -577,15 +678,18 @@ fn check_program(alloc: Global, base: &[u8]) -> Result<(), Failure> {
 pub struct Conclusion {
     /// The status with which the process is to end.
     pub status: u8,
-    /// The smallest client that has a run that is not good, if one has.
+    /// The smallest client that was found to have a run that is not good, if one has.
     pub violated: Option<Violated>,
+    /// The clients of which nothing follows.
+    pub undecided: Vec<Undecided>,
 }
 
 /// Surveys the clients of a program text, prints a line for each that is decided and a last one that says what follows, and writes
 /// what is asked for.
 ///
-/// Errors: `Program` with the first fault of the text; `Usage` where there are too many clients, or a line of a list is none;
-/// `CannotRead`; `CannotWrite`; `CannotPrint`; `Memory`.
+/// Errors: `Program` with the first fault of the text; `Usage` where there are too many clients, or none, a line of a list is none, the
+/// mode is none, the folder that is to be collected is none, or a file that is read would be written over; `CannotRead`;
+/// `CannotWrite`; `CannotPrint`; `Memory`.
 pub fn survey<R: Threads + Wait + Sync, D: Finder, S: Session>(
     rt: &R,
     finder: &D,
@@ -593,16 +697,21 @@ pub fn survey<R: Threads + Wait + Sync, D: Finder, S: Session>(
     base: &[u8],
     asking: &Asking<'_>,
 ) -> Result<Conclusion, Failure> {
-    check_program(session.alloc(), base)?;
+    check_program(session.alloc(), base, asking)?;
+    check_folder(session, asking)?;
     if let Some(folder) = asking.out {
         session.make_folder(folder);
     }
     let mut tally = Tally::new(session.alloc(), asking.json);
     match survey_into(rt, finder, session, &mut tally, base, asking) {
-        Ok(status) => Ok(Conclusion {
-            status,
-            violated: tally.violated,
-        }),
+        Ok(status) => {
+            let (violated, undecided) = tally.parts();
+            Ok(Conclusion {
+                status,
+                violated,
+                undecided,
+            })
+        }
         Err(failure) => Err(failure),
     }
 }

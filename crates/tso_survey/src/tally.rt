@@ -4,9 +4,12 @@ use crate::accepted::Accepted;
 use crate::calls::Calls;
 use crate::decided::Decided;
 use crate::finding::Finding;
+use crate::shown::Shown;
+use crate::undecided::{Undecided, Why, count_below};
+use crate::words::Asking;
 use serde_json::Value;
 use std::alloc::{AllocError, Global};
-use tso_front::{Failure, Session};
+use tso_front::{Failure, Session, written_apart};
 
 /// A client that has a run that is not good.
 #[derive(Drop)]
@@ -14,6 +17,13 @@ pub struct Violated {
     pub calls: Calls,
     /// How many calls it has.
     size: usize,
+}
+
+impl Violated {
+    /// How many calls it has.
+    pub fn size(&self) -> usize {
+        self.size
+    }
 }
 
 /// What a survey has come to.
@@ -28,6 +38,10 @@ pub struct Tally {
     pub missing: usize,
     /// Of how many the certificate or the trace was refused.
     pub refused: usize,
+    /// The clients of which nothing follows, in the order in which they were tried.
+    pub undecided: Vec<Undecided>,
+    /// What the certificates show together, where that is asked for.
+    pub shown: Option<Shown>,
     /// Of the clients that have a run that is not good the smallest, and of these the first.
     pub violated: Option<Violated>,
     /// All lines so far.
@@ -45,6 +59,8 @@ impl Tally {
             limits: 0,
             missing: 0,
             refused: 0,
+            undecided: Vec::new(alloc),
+            shown: None,
             violated: None,
             lines: Vec::new(alloc),
             json,
@@ -64,6 +80,11 @@ impl Tally {
         }
     }
 
+    /// How many clients with fewer calls than these were tried, of which nothing follows.
+    pub fn undecided_below(&self, size: usize) -> usize {
+        count_below(&self.undecided, size)
+    }
+
     /// Whether a client with fewer calls than these has a run that is not good.
     pub fn is_violated_below(&self, size: usize) -> bool {
         match &self.violated {
@@ -72,14 +93,24 @@ impl Tally {
         }
     }
 
-    /// The smallest client that has a run that is not good, as a line says it, if one has.
-    ///
-    /// Errors: where a growth was refused.
-    pub fn violated_line(&self, alloc: Global) -> Result<Option<String>, AllocError> {
-        match &self.violated {
-            Some(violated) => Ok(Some(violated.calls.to_string(alloc)?)),
-            None => Ok(None),
-        }
+    /// The smallest client that was found to have a run that is not good, and those of which nothing follows.
+    pub fn parts(self) -> (Option<Violated>, Vec<Undecided>) {
+        let Tally {
+            accepted,
+            count: _count,
+            limits: _limits,
+            missing: _missing,
+            refused: _refused,
+            undecided,
+            shown,
+            violated,
+            lines,
+            json: _json,
+        } = self;
+        drop(accepted);
+        drop(shown);
+        drop(lines);
+        (violated, undecided)
     }
 
     // Notes that a client was accepted.
@@ -104,20 +135,54 @@ impl Tally {
         Ok(())
     }
 
+    // Notes that nothing follows of a client.
+    fn note_undecided(&mut self, calls: &Calls, why: Why) -> Result<(), AllocError> {
+        let size = calls.count();
+        match calls.copied() {
+            Ok(calls) => {
+                self.undecided.push(Undecided { calls, size, why })?;
+                Ok(())
+            }
+            Err(reason) => {
+                drop(why);
+                Err(reason)
+            }
+        }
+    }
+
     // Counts what was found of a client.
     fn note(&mut self, calls: &Calls, decided: Decided) -> Result<(), AllocError> {
         self.count = self.count.saturating_add(1);
         match decided {
-            Decided::Accepted { client, .. } => return self.note_accepted(client),
-            Decided::Violated { .. } => return self.note_violated(calls),
-            Decided::Limit => self.limits = self.limits.saturating_add(1),
-            Decided::Missing => self.missing = self.missing.saturating_add(1),
+            Decided::Accepted { client, .. } => self.note_accepted(client),
+            Decided::Violated { .. } => self.note_violated(calls),
+            Decided::Limit => {
+                self.limits = self.limits.saturating_add(1);
+                self.note_undecided(calls, Why::Limit)
+            }
+            Decided::Missing => {
+                self.missing = self.missing.saturating_add(1);
+                self.note_undecided(calls, Why::Missing)
+            }
             Decided::Refused(why) => {
-                drop(why);
                 self.refused = self.refused.saturating_add(1);
+                self.note_undecided(calls, Why::Refused(why))
             }
         }
-        Ok(())
+    }
+
+    // Takes in what a client's certificate shows, if it was counted.
+    fn note_shown(&mut self, shown: Option<Shown>) -> Result<(), AllocError> {
+        let Some(shown) = shown else {
+            return Ok(());
+        };
+        match &mut self.shown {
+            Some(all) => all.join(shown),
+            None => {
+                self.shown = Some(shown);
+                Ok(())
+            }
+        }
     }
 
     /// Keeps a line, and prints it, or the object that says the same.
@@ -153,13 +218,13 @@ impl Tally {
     fn tell<S: Session>(
         &mut self,
         session: &mut S,
-        folder: Option<&str>,
+        asking: &Asking<'_>,
         calls: &Calls,
         text: &[u8],
         finding: &Finding,
     ) -> Result<(), Failure> {
-        if let Some(folder) = folder {
-            write_files(session, folder, calls, text, finding)?;
+        if let Some(folder) = asking.out {
+            write_files(session, asking, folder, calls, text, finding)?;
         }
         self.say_decided(session, calls, &finding.decided)?;
         session.flush()
@@ -168,37 +233,69 @@ impl Tally {
     /// Prints the line of a client, writes its files, if there is a folder for them, and counts it. What was found is taken from its
     /// place.
     ///
-    /// Errors: `CannotPrint`; `CannotWrite`; `Memory`.
+    /// Errors: `CannotPrint`; `CannotWrite`; `Usage` where a file of the client would be one that the survey reads; `Memory`.
     pub fn put<S: Session>(
         &mut self,
         session: &mut S,
-        folder: Option<&str>,
+        asking: &Asking<'_>,
         calls: &Calls,
         text: &[u8],
         finding: &mut Finding,
     ) -> Result<(), Failure> {
-        self.tell(session, folder, calls, text, finding)?;
+        self.tell(session, asking, calls, text, finding)?;
+        self.note_shown(finding.shown.take())?;
         let decided = std::mem::replace(&mut finding.decided, Decided::Missing);
         self.note(calls, decided)?;
         Ok(())
     }
 }
 
+/// Writes a file of a survey, if it is none that the survey reads.
+///
+/// Errors: `Usage` where it is one of these; `CannotWrite`; `Memory`.
+pub fn write_apart<S: Session>(
+    session: &mut S,
+    asking: &Asking<'_>,
+    path: &str,
+    bytes: &[u8],
+) -> Result<(), Failure> {
+    written_apart(session, Some(path), asking.program)?;
+    if let Some(list) = asking.clients {
+        written_apart(session, Some(path), list)?;
+    }
+    session.write(path, bytes)
+}
+
 // Writes a file of this name into a folder.
 fn write_file<S: Session>(
     session: &mut S,
+    asking: &Asking<'_>,
     folder: &str,
     name: &str,
     ending: &str,
     bytes: &[u8],
 ) -> Result<(), Failure> {
     let path = format!(in session.alloc(); "{folder}/{name}.{ending}")?;
-    session.write(path.as_str(), bytes)
+    write_apart(session, asking, path.as_str(), bytes)
 }
 
-// Writes the text of a client and what was found into a folder, if it is to be written.
+// Takes a file of this name away from a folder, if it is there.
+fn remove_file<S: Session>(
+    session: &mut S,
+    folder: &str,
+    name: &str,
+    ending: &str,
+) -> Result<(), Failure> {
+    let path = format!(in session.alloc(); "{folder}/{name}.{ending}")?;
+    session.take_away(path.as_str());
+    Ok(())
+}
+
+// Writes the text of a client and what was found into a folder, if it is to be written. A certificate takes the place of a trace that is
+// there, and a trace that of a certificate.
 fn write_files<S: Session>(
     session: &mut S,
+    asking: &Asking<'_>,
     folder: &str,
     calls: &Calls,
     text: &[u8],
@@ -207,12 +304,13 @@ fn write_files<S: Session>(
     let Some(bytes) = &finding.bytes else {
         return Ok(());
     };
-    let ending = if finding.decided.is_violated() {
-        "trace"
+    let (ending, other) = if finding.decided.is_violated() {
+        ("trace", "cert")
     } else {
-        "cert"
+        ("cert", "trace")
     };
     let name = calls.name(session.alloc())?;
-    write_file(session, folder, name.as_str(), "tso", text)?;
-    write_file(session, folder, name.as_str(), ending, bytes)
+    write_file(session, asking, folder, name.as_str(), "tso", text)?;
+    write_file(session, asking, folder, name.as_str(), ending, bytes)?;
+    remove_file(session, folder, name.as_str(), other)
 }

@@ -4,7 +4,9 @@ use crate::bounds::Bounds;
 use clap::{ArgMatches, Command};
 use std::alloc::{AllocError, Global};
 use std::fmt;
-use tso_front::{FILE, Failure, JSON, Word, misused, with_word, with_words};
+use tso_front::{
+    FILE, Failure, JSON, Word, is_given, misused, read_apart, refuse_given, with_word, with_words,
+};
 
 /// Which of the clients that are searched are taken: those whose numbers, from 0, leave `part` when divided by `parts`.
 #[derive(Clone, Copy, PartialEq, Eq)]
@@ -28,6 +30,8 @@ pub struct Asking<'a> {
     pub out: Option<&'a str>,
     /// A folder with those of an earlier survey, which are decided in place of a search.
     pub collect: Option<&'a str>,
+    /// Whether it is counted what all certificates show together.
+    pub counts: bool,
     /// Whether the clients are told and not searched.
     pub lists: bool,
     /// Whether it goes on behind a violation.
@@ -77,12 +81,11 @@ pub const COLLECTED: [Word; 6] = [
 ];
 
 // The words for prologues, for the mode, for files, and for what is printed.
-const OTHERS: [Word; 8] = [
-    Word::Number {
+const OTHERS: [Word; 9] = [
+    Word::Text {
         name: "before",
-        least: 0,
-        most: 4,
-        help: "how many pushes its prologue has at most; none if not said",
+        value: "N",
+        help: "how many pushes its prologue has at most, 0 to 4; none if not said",
     },
     Word::Text {
         name: "mode",
@@ -106,6 +109,10 @@ const OTHERS: [Word; 8] = [
     Word::Flag {
         name: "all",
         help: "goes on behind a violation",
+    },
+    Word::Flag {
+        name: "coverage",
+        help: "prints what the records of all certificates show together, before the last line",
     },
     Word::Flag {
         name: "progress",
@@ -133,34 +140,84 @@ fn asked_number(matches: &ArgMatches<'_>, name: &str, otherwise: usize) -> usize
     }
 }
 
+// How many pushes a prologue has at most.
+fn before_of(alloc: Global, matches: &ArgMatches<'_>) -> Result<usize, Failure> {
+    let Some(word) = matches.get_str("before") else {
+        return Ok(0);
+    };
+    match word.parse::<usize>() {
+        Ok(before) if before <= MOST_BEFORE => Ok(before),
+        _ => {
+            let text = format!(in alloc;
+                "--before is 0 to {MOST_BEFORE} here, how many pushes a prologue has at most, and not `{word}`\n"
+            )?;
+            Err(misused(alloc, text.as_str()))
+        }
+    }
+}
+
 // The bounds that the words say.
-fn bounds_of(matches: &ArgMatches<'_>) -> Bounds {
+fn bounds_of(alloc: Global, matches: &ArgMatches<'_>) -> Result<Bounds, Failure> {
     let threads = asked_number(matches, "threads", 3);
-    Bounds {
+    Ok(Bounds {
         threads,
         calls: asked_number(matches, "calls", 4),
-        before: asked_number(matches, "before", 0),
+        before: before_of(alloc, matches)?,
         producers: asked_number(matches, "producers", threads),
         consumers: asked_number(matches, "consumers", threads),
+    })
+}
+
+// The words that say how large clients are.
+const SIZES: [&str; 6] = [
+    "threads",
+    "calls",
+    "producers",
+    "consumers",
+    "before",
+    "part",
+];
+
+// The words of which nothing is used where clients are told alone.
+const SEARCHED: [&str; 9] = [
+    "clients", "collect", "out", "json", "all", "progress", "coverage", "workers", "states",
+];
+
+// Refuses words of which no use is made beside others.
+fn refuse_unused(alloc: Global, matches: &ArgMatches<'_>) -> Result<(), Failure> {
+    if matches.get_flag("list") {
+        refuse_given(alloc, matches, &SEARCHED, "--list")?;
     }
+    if is_given(matches, "clients") {
+        refuse_given(alloc, matches, &SIZES, "--clients")?;
+    }
+    if is_given(matches, "collect") {
+        refuse_given(alloc, matches, &["states"], "--collect")?;
+    }
+    Ok(())
 }
 
 /// What the words ask about.
 ///
 /// Errors: `Usage`; `Memory`.
 pub fn asking_of<'a>(alloc: Global, matches: &ArgMatches<'a>) -> Result<Asking<'a>, Failure> {
+    refuse_unused(alloc, matches)?;
+    let program = matches.get_str("FILE").unwrap_or("");
+    let clients = matches.get_str("clients");
+    read_apart(alloc, program, clients.unwrap_or(""))?;
     let part = match matches.get_str("part") {
         Some(word) => Some(part_of(alloc, word)?),
         None => None,
     };
     Ok(Asking {
-        program: matches.get_str("FILE").unwrap_or(""),
-        bounds: bounds_of(matches),
+        program,
+        bounds: bounds_of(alloc, matches)?,
         mode: matches.get_str("mode"),
-        clients: matches.get_str("clients"),
+        clients,
         part,
         out: matches.get_str("out"),
         collect: matches.get_str("collect"),
+        counts: matches.get_flag("coverage"),
         lists: matches.get_flag("list"),
         all: matches.get_flag("all"),
         progress: matches.get_flag("progress"),
@@ -184,6 +241,9 @@ fn part_of(alloc: Global, word: &str) -> Result<Part, Failure> {
 }
 
 const PART: &str = "--part is I/N, with I from 1 to N\n";
+
+// How many pushes a prologue of a survey has at most.
+const MOST_BEFORE: usize = 4;
 
 impl Part {
     /// Whether the client with this number belongs to it.

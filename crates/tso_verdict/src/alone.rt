@@ -1,6 +1,8 @@
 //! The program that decides certificates and does nothing else.
 
-use crate::checking::{ABOUT, Check, check_bytes, check_of, verdict_status, with_check};
+use crate::checking::{
+    ABOUT, Check, check_bytes, check_of, verdict_status, with_check, workers_of,
+};
 use crate::collecting::Collector;
 use clap::{Arg, ArgMatches, Command, Error};
 use std::alloc::{Alloc, AllocError, Global};
@@ -9,8 +11,8 @@ use std::io::Write;
 use std::sync::Wait;
 use std::thread::Threads;
 use tso_front::{
-    FILE, Failure, Files, Session, Streams, VERSION, ended_words, reported, started, with_word,
-    with_words,
+    FILE, Failure, Files, Session, Streams, VERSION, ended_words, misused, refuse_given, reported,
+    started, with_word, with_words,
 };
 use tso_load::Source;
 use tso_survey::{COLLECTED, asking_of, survey};
@@ -66,19 +68,34 @@ fn answer<R: Threads + Wait + Source + Sync, S: Session>(
     Ok(verdict_status(verdict))
 }
 
+// The words that say which clients of a folder are decided.
+const SIZES: [&str; 5] = ["clients", "threads", "calls", "producers", "consumers"];
+
+// Refuses words of which no use is made beside a folder.
+fn refuse_beside_folder(alloc: Global, matches: &ArgMatches<'_>) -> Result<(), Failure> {
+    if let Some(cert) = matches.get_str("CERT") {
+        let text = format!(in alloc; "{cert}: a certificate is not read beside --collect\n")?;
+        return Err(misused(alloc, text.as_str()));
+    }
+    refuse_given(alloc, matches, &["client"], "--collect")
+}
+
 // Decides what a folder has of the clients that the words ask about, and gives the status.
 fn collect<R: Threads + Wait + Sync, S: Session>(
     rt: &R,
     session: &mut S,
     matches: &ArgMatches<'_>,
-    asked: &Check<'_>,
     folder: &str,
 ) -> Result<u8, Failure> {
-    let asking = asking_of(session.alloc(), matches)?;
-    let base = session.read_program(asked.program)?;
+    let alloc = session.alloc();
+    refuse_beside_folder(alloc, matches)?;
+    let asking = asking_of(alloc, matches)?;
+    let workers = workers_of(alloc, matches)?;
+    let base = session.read_program(asking.program)?;
     let collector = Collector {
         folder,
-        workers: asked.workers,
+        workers,
+        counts: asking.counts,
     };
     let conclusion = survey(rt, &collector, session, &base, &asking)?;
     Ok(conclusion.status)
@@ -90,10 +107,13 @@ fn answer_to<R: Threads + Wait + Source + Sync, S: Session>(
     session: &mut S,
     matches: &ArgMatches<'_>,
 ) -> Result<u8, Failure> {
-    let asked = check_of(session.alloc(), matches)?;
     match matches.get_str("collect") {
-        Some(folder) => collect(rt, session, matches, &asked, folder),
-        None => answer(rt, session, &asked),
+        Some(folder) => collect(rt, session, matches, folder),
+        None => {
+            refuse_given(session.alloc(), matches, &SIZES, "a certificate")?;
+            let asked = check_of(session.alloc(), matches)?;
+            answer(rt, session, &asked)
+        }
     }
 }
 

@@ -18,6 +18,7 @@ use tso_line::CallKind;
 use tso_list::Seq;
 use tso_machine::calls_of;
 use tso_prog::{Array, Client, Procedure};
+use tso_survey::{LineShown, Shown};
 
 /// An instruction by its line, with what records show of it.
 #[derive(Clone, Copy, PartialEq, Eq)]
@@ -162,6 +163,19 @@ fn names_of(
     Ok(names)
 }
 
+// What a survey adds up of lines.
+fn lines_shown(alloc: Global, lines: &[LineMark]) -> Result<Vec<LineShown>, AllocError> {
+    let mut shown = Vec::new(alloc);
+    for marked in lines {
+        shown.push(LineShown {
+            line: marked.line,
+            is_met: marked.mark != Mark::NeverMet,
+            is_cut: marked.mark == Mark::Cut,
+        })?;
+    }
+    Ok(shown)
+}
+
 impl Facts {
     /// What was counted of a client's records.
     ///
@@ -191,6 +205,31 @@ impl Facts {
     {
         let coverage = counted(alloc, client, cert)?;
         Facts::of(alloc, client, &coverage)
+    }
+
+    /// The same as a survey adds it up over clients: without how far this client's calls come.
+    ///
+    /// Errors: where an allocation failed.
+    pub fn shown(self, alloc: Global) -> Result<Shown, AllocError> {
+        let Facts {
+            records,
+            ends: _ends,
+            lines,
+            calls,
+            refused,
+            rounds,
+            most_items,
+        } = self;
+        drop(calls);
+        Ok(Shown {
+            clients: 1,
+            records,
+            lines: lines_shown(alloc, &lines)?,
+            is_push_refused: refused.push,
+            is_pop_refused: refused.pop,
+            rounds,
+            most_items,
+        })
     }
 
     /// What records show of the instruction on a line, if there is one.

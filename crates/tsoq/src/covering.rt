@@ -13,6 +13,7 @@ use tso_check::Verdict;
 use tso_client::checked_of;
 use tso_flow::Checked;
 use tso_front::{Failure, Session, misused};
+use tso_load::read_certificate;
 use tso_request::Covering;
 use tso_verdict::{Check, Facts, facts_object, listed, marked, put_verdict, told, verdict_on};
 
@@ -77,7 +78,7 @@ pub fn cover<R: Threads + Wait + Sync, S: Session>(
     if asked.check.json && asked.source {
         return Err(misused(session.alloc(), PLAIN));
     }
-    let cert = session.read(asked.check.cert, usize::MAX)?;
+    let cert = read_certificate(session, asked.check.cert)?;
     let verdict = verdict_on(rt, session.alloc(), program, &cert, asked.check.workers)?;
     match verdict {
         Verdict::Accepted => {
@@ -110,7 +111,7 @@ pub fn check_told<R: Threads + Wait + Sync, S: Session>(
 ) -> Result<Verdict, Failure>
     ensures headline { result ≡ Ok verdicts.Accepted → IsVerified program.now }
 {
-    let cert = session.read(asked.cert, usize::MAX)?;
+    let cert = read_certificate(session, asked.cert)?;
     let verdict = verdict_on(rt, session.alloc(), program, &cert, asked.workers)?;
     put_verdict(session, verdict, asked.json)?;
     match verdict {

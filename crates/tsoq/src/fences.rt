@@ -16,11 +16,12 @@ fn tell_wrong<R: Threads + Wait + Sync, S: Session>(
     asked: &FenceSearch<'_>,
     wrong: &Wrong,
 ) {
-    let (program, limit) = (asked.fences.program, asked.survey.limit);
+    let (program, limit) = (asked.fences.program, asked.limit);
     match wrong {
         Wrong::Own => tell_violated(rt, session, text, limit, program, &asked.fences.variant),
         Wrong::Of(calls) => {
-            let variant = calls.variant(asked.survey.asking.mode);
+            let mode = asked.fences.survey.and_then(|asking| asking.mode);
+            let variant = calls.variant(mode);
             tell_variant(rt, session, text, limit, program, variant);
         }
     }
@@ -38,7 +39,10 @@ pub fn run_fences<R: Threads + Wait + Sync, S: Session>(
     verbose: bool,
 ) -> Result<u8, Failure> {
     let searcher = Searcher {
-        asked: &asked.survey,
+        workers: asked.workers,
+        limit: asked.limit,
+        folder: None,
+        counts: false,
     };
     let fenced = fences(rt, &searcher, session, text, &asked.fences)?;
     if let (true, Some(wrong)) = (verbose, &fenced.wrong) {

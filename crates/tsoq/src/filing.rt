@@ -17,7 +17,7 @@ use std::thread::Threads;
 use tso_cert::{Cert, Workers, WriteError};
 use tso_flow::Checked;
 use tso_foot::Table;
-use tso_front::{Draft, Failure, Files, cannot_write};
+use tso_front::{Draft, Failure, Files, Opened, cannot_write};
 use tso_list::write_bytes;
 use tso_trace::Trace;
 use tso_write::Worked;
@@ -104,19 +104,15 @@ fn put_whole<W: Write + Drop>(bytes: &[u8], out: W) -> io::Result<Taken>
 }
 
 // Writes a certificate to the draft of a file, and says what the file has taken.
-fn put_certificate<F: Files>(
+fn put_certificate<W: Write + Drop>(
     alloc: Global,
-    files: &mut F,
     draft: &Draft<'_>,
+    file: W,
     table: &Table,
     cert: &Cert,
 ) -> Result<Taken, Failure>
     ensures { IfOk result (λ taken. taken.which.numbers ≡ certificate table.now (tree_of cert.now)) }
 {
-    let file = match files.create(draft.path()) {
-        Ok(file) => file,
-        Err(error) => return Err(cannot_write(alloc, draft.name(), error.kind())),
-    };
     match put_bytes(alloc, table, cert, file) {
         Ok(taken) => Ok(taken),
         Err(WriteError::Io(error)) => Err(cannot_write(alloc, draft.name(), error.kind())),
@@ -125,11 +121,11 @@ fn put_certificate<F: Files>(
 }
 
 // Writes worked states as a certificate to the draft of a file, and says what the file has taken.
-fn put_worked<R: Threads + Wait + Sync, F: Files>(
+fn put_worked<R: Threads + Wait + Sync, W: Write + Drop>(
     rt: &R,
     alloc: Global,
-    files: &mut F,
     draft: &Draft<'_>,
+    file: W,
     checked: &Checked,
     worked: &Worked<'_>,
     table: &Table,
@@ -138,10 +134,6 @@ fn put_worked<R: Threads + Wait + Sync, F: Files>(
     requires worked { AreWorkedOut checked.now.client worked.now }
     ensures { IfOk result (λ taken. IsSpelledOf checked.now.client worked.now table.now taken.which.numbers) }
 {
-    let file = match files.create(draft.path()) {
-        Ok(file) => file,
-        Err(error) => return Err(cannot_write(alloc, draft.name(), error.kind())),
-    };
     match put_worked_bytes(rt, alloc, checked, worked, table, workers, file) {
         Ok(taken) => Ok(taken),
         Err(WriteError::Io(error)) => Err(cannot_write(alloc, draft.name(), error.kind())),
@@ -150,18 +142,14 @@ fn put_worked<R: Threads + Wait + Sync, F: Files>(
 }
 
 // Writes a trace to the draft of a file, and says what the file has taken.
-fn put_trace<F: Files>(
+fn put_trace<W: Write + Drop>(
     alloc: Global,
-    files: &mut F,
     draft: &Draft<'_>,
+    file: W,
     trace: &Trace,
 ) -> Result<Taken, Failure>
     ensures { IfOk result (λ taken. taken.which.numbers ≡ trace_text trace.now.checked.client.arrays trace.now.labels) }
 {
-    let file = match files.create(draft.path()) {
-        Ok(file) => file,
-        Err(error) => return Err(cannot_write(alloc, draft.name(), error.kind())),
-    };
     match put_text(alloc, trace, file) {
         Ok(taken) => Ok(taken),
         Err(error) => Err(cannot_write(alloc, draft.name(), error.kind())),
@@ -169,18 +157,14 @@ fn put_trace<F: Files>(
 }
 
 // Writes these bytes to the draft of a file, and says what the file has taken.
-fn put_draft<F: Files>(
+fn put_draft<W: Write + Drop>(
     alloc: Global,
-    files: &mut F,
     draft: &Draft<'_>,
+    file: W,
     bytes: &[u8],
 ) -> Result<Taken, Failure>
     ensures { IfOk result (λ taken. taken.which.numbers ≡ bytes.now) }
 {
-    let file = match files.create(draft.path()) {
-        Ok(file) => file,
-        Err(error) => return Err(cannot_write(alloc, draft.name(), error.kind())),
-    };
     match put_whole(bytes, file) {
         Ok(taken) => Ok(taken),
         Err(error) => Err(cannot_write(alloc, draft.name(), error.kind())),
@@ -199,8 +183,8 @@ pub fn file_certificate<F: Files>(
 ) -> Result<Taken, Failure>
     ensures { IfOk result (λ taken. taken.which.numbers ≡ certificate table.now (tree_of cert.now)) }
 {
-    let draft = Draft::of(alloc, files, path)?;
-    let written = put_certificate(alloc, files, &draft, table, cert);
+    let Opened { draft, file } = Draft::open(alloc, files, path)?;
+    let written = put_certificate(alloc, &draft, file, table, cert);
     draft.settle(alloc, files, written)
 }
 
@@ -221,8 +205,8 @@ pub fn file_worked<R: Threads + Wait + Sync, F: Files>(
     requires worked { AreWorkedOut checked.now.client worked.now }
     ensures { IfOk result (λ taken. IsSpelledOf checked.now.client worked.now table.now taken.which.numbers) }
 {
-    let draft = Draft::of(alloc, files, path)?;
-    let written = put_worked(rt, alloc, files, &draft, checked, worked, table, workers);
+    let Opened { draft, file } = Draft::open(alloc, files, path)?;
+    let written = put_worked(rt, alloc, &draft, file, checked, worked, table, workers);
     draft.settle(alloc, files, written)
 }
 
@@ -237,8 +221,8 @@ pub fn file_trace<F: Files>(
 ) -> Result<Taken, Failure>
     ensures { IfOk result (λ taken. taken.which.numbers ≡ trace_text trace.now.checked.client.arrays trace.now.labels) }
 {
-    let draft = Draft::of(alloc, files, path)?;
-    let written = put_trace(alloc, files, &draft, trace);
+    let Opened { draft, file } = Draft::open(alloc, files, path)?;
+    let written = put_trace(alloc, &draft, file, trace);
     draft.settle(alloc, files, written)
 }
 
@@ -253,7 +237,7 @@ pub fn file_bytes<F: Files>(
 ) -> Result<Taken, Failure>
     ensures { IfOk result (λ taken. taken.which.numbers ≡ bytes.now) }
 {
-    let draft = Draft::of(alloc, files, path)?;
-    let written = put_draft(alloc, files, &draft, bytes);
+    let Opened { draft, file } = Draft::open(alloc, files, path)?;
+    let written = put_draft(alloc, &draft, file, bytes);
     draft.settle(alloc, files, written)
 }

@@ -5,6 +5,7 @@ mod counted;
 mod covering;
 mod fences;
 mod filing;
+mod guard;
 mod outside;
 mod parse;
 mod people;

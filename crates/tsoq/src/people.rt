@@ -10,13 +10,14 @@ use tso_check::Verdict;
 use tso_client::checked_of;
 use tso_explore::{Outcome, explore};
 use tso_flow::Checked;
-use tso_front::{Failure, Session, Variant, fault_of};
+use tso_front::{Failure, STREAM, Session, Variant, fault_of};
 use tso_judge::Code;
 use tso_machine::{Label, LabelKind, calls_of};
 use tso_prog::{Client, Fault};
 use tso_replay::{Texts, tell_cause};
 use tso_request::{Asked, MOST_STATES, StateLimit};
 use tso_say::{Page, put_hidden, put_meaning, put_program, put_trace};
+use tso_survey::{Undecided, Why};
 use tso_trace::{TraceFault, labels_of};
 
 // What may be wrong where a certificate or a trace does not fit the client.
@@ -242,17 +243,49 @@ fn tell_searched<R: Threads + Wait + Sync, S: Session>(
     drop(outcome);
 }
 
-// Puts an option with its value, between these marks, at the end, if it has one.
+// Whether a shell takes a character as it stands.
+fn is_plain(c: char) -> bool {
+    c.is_ascii_alphanumeric()
+        || matches!(c, '/' | '.' | '_' | '-' | '+' | ',' | ':' | '=' | '@' | '%')
+}
+
+// A word as a shell takes it: between quotes where it has something else than plain characters, or nothing.
+fn quoted(alloc: Global, word: &str) -> Result<String, AllocError> {
+    if !word.is_empty() && word.chars().all(is_plain) {
+        return String::from_str(alloc, word);
+    }
+    let mut text = String::from_str(alloc, "'")?;
+    for c in word.chars() {
+        if c == '\'' {
+            text.push_str("'\\''")?;
+        } else {
+            text.push(c)?;
+        }
+    }
+    text.push('\'')?;
+    Ok(text)
+}
+
+// The name of a file as a shell takes it. One that begins with a dash would be an option.
+fn quoted_path(alloc: Global, path: &str) -> Result<String, AllocError> {
+    if path.starts_with('-') {
+        let below = format!(in alloc; "./{path}")?;
+        return quoted(alloc, below.as_str());
+    }
+    quoted(alloc, path)
+}
+
+// Puts an option with its value at the end, if it has one.
 fn put_option(
     alloc: Global,
     words: &mut String,
     name: &str,
-    mark: &str,
     value: Option<&str>,
 ) -> Result<(), AllocError> {
     match value {
         Some(value) => {
-            let option = format!(in alloc; " --{name} {mark}{value}{mark}")?;
+            let value = quoted(alloc, value)?;
+            let option = format!(in alloc; " --{name} {value}")?;
             words.push_str(option.as_str())
         }
         None => Ok(()),
@@ -262,18 +295,99 @@ fn put_option(
 // The words that put other calls, another prologue or mode in place of a text's.
 fn variant_words(alloc: Global, variant: &Variant<'_>) -> Result<String, AllocError> {
     let mut words = String::new(alloc);
-    put_option(alloc, &mut words, "client", "'", variant.client)?;
-    put_option(alloc, &mut words, "before", "'", variant.before)?;
-    put_option(alloc, &mut words, "mode", "", variant.mode)?;
+    put_option(alloc, &mut words, "client", variant.client)?;
+    put_option(alloc, &mut words, "before", variant.before)?;
+    put_option(alloc, &mut words, "mode", variant.mode)?;
     Ok(words)
 }
 
 // With which words the run of a client of a program can be seen.
 fn run_words(alloc: Global, program: &str, variant: &Variant<'_>) -> Result<String, AllocError> {
     let words = variant_words(alloc, variant)?;
+    let (saved, program) = if program == STREAM {
+        (
+            "To see this run, with standard input saved as FILE first:",
+            String::from_str(alloc, "FILE")?,
+        )
+    } else {
+        ("To see this run:", quoted_path(alloc, program)?)
+    };
     format!(in alloc;
-        "To see this run:\n  tsoq verify {program}{words} --trace TRACE\n  tsoq replay {program} TRACE{words} --verbose\n"
+        "{saved}\n  tsoq verify {program}{words} --trace TRACE\n  tsoq replay {program} TRACE{words} --verbose\n"
     )
+}
+
+// Why nothing follows of a client, as a line.
+fn undecided_line(alloc: Global, client: &Undecided) -> Result<String, AllocError> {
+    let calls = &client.calls;
+    match &client.why {
+        Why::Limit => format!(in alloc; "undecided: {calls}: limit reached\n"),
+        Why::Missing => format!(in alloc; "undecided: {calls}: missing\n"),
+        Why::Refused(why) => format!(in alloc; "undecided: {calls}: {why}\n"),
+    }
+}
+
+// What may help where more states can be reached than a search may meet.
+fn put_more_states(alloc: Global, page: &mut Page, limit: StateLimit) -> Result<(), AllocError> {
+    if u64::from(limit.count()) < MOST_STATES {
+        return page.say(format!(in alloc;
+            "`--states N` allows more states, {MOST_STATES} at most, of some 300 bytes of memory each.\n"
+        )?.as_str());
+    }
+    page.say(
+        "Fewer calls or threads have fewer states, and so have a shorter ring and smaller bounds.\n",
+    )
+}
+
+// What may help with clients of which nothing follows.
+fn put_help(
+    alloc: Global,
+    page: &mut Page,
+    undecided: &[Undecided],
+    limit: StateLimit,
+) -> Result<(), AllocError> {
+    if undecided
+        .iter()
+        .any(|client| matches!(client.why, Why::Limit))
+    {
+        put_more_states(alloc, page, limit)?;
+    }
+    if undecided
+        .iter()
+        .any(|client| matches!(client.why, Why::Missing))
+    {
+        page.say(
+            "What is missing is searched by `tsoq survey FILE --clients LIST --out DIR`, with its line in LIST.\n",
+        )?;
+    }
+    if undecided
+        .iter()
+        .any(|client| matches!(client.why, Why::Refused(_)))
+    {
+        page.say("What is refused is searched again where its file is taken away first.\n")?;
+    }
+    Ok(())
+}
+
+// Of which clients nothing follows, and what may help.
+fn put_undecided(
+    alloc: Global,
+    page: &mut Page,
+    undecided: &[Undecided],
+    limit: StateLimit,
+) -> Result<(), AllocError> {
+    for client in undecided {
+        page.say(undecided_line(alloc, client)?.as_str())?;
+    }
+    put_help(alloc, page, undecided, limit)
+}
+
+/// Says in words of which clients of a survey nothing follows, and what may help.
+pub fn tell_undecided<S: Session>(session: &mut S, undecided: &[Undecided], limit: StateLimit) {
+    let mut page = Page::new(session.alloc());
+    if put_undecided(session.alloc(), &mut page, undecided, limit).is_ok() {
+        session.note(&page.bytes);
+    }
 }
 
 /// Says in words why a run of a client is not good, which is searched once more for that, and with which words it can be seen: of

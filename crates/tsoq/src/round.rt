@@ -17,8 +17,9 @@ use tso_flow::Checked;
 use tso_foot::Table;
 use tso_front::Failure;
 use tso_request::StateLimit;
-use tso_survey::{Accepted, Decided, Finding};
+use tso_survey::{Accepted, Decided, Finding, Shown};
 use tso_trace::Trace;
+use tso_verdict::Facts;
 
 /// The texts of clients that are searched, each by one worker, and which is searched next.
 #[derive(Drop)]
@@ -32,6 +33,18 @@ pub struct Round<'a> {
     pub limit: StateLimit,
     /// Whether the bytes of what is found are asked for.
     pub writes: bool,
+    /// Whether it is counted what the records of certificates show.
+    pub counts: bool,
+}
+
+/// What is made of what is found of a client.
+#[derive(Clone, Copy)]
+pub struct Wanted {
+    pub limit: StateLimit,
+    /// Whether its bytes are asked for.
+    pub writes: bool,
+    /// Whether it is counted what the records of a certificate show.
+    pub counts: bool,
 }
 
 /// What is found of the client with this number.
@@ -55,6 +68,39 @@ fn spelled(
     }
 }
 
+// What the records of a certificate show, if that is counted.
+fn shown(
+    alloc: Global,
+    checked: &Checked,
+    cert: &Cert,
+    counts: bool,
+) -> Result<Option<Shown>, Failure> {
+    if !counts {
+        return Ok(None);
+    }
+    let facts = Facts::counted(alloc, &checked.client, cert)?;
+    let shown = facts.shown(alloc)?;
+    Ok(Some(shown))
+}
+
+// The bytes of a certificate, and what its records show, as far as they are wanted.
+fn made_of(
+    alloc: Global,
+    checked: &Checked,
+    table: &Table,
+    cert: &Cert,
+    wanted: Wanted,
+) -> Result<(Option<Vec<u8>>, Option<Shown>), Failure> {
+    let shown = shown(alloc, checked, cert, wanted.counts)?;
+    match spelled(alloc, table, cert, wanted.writes) {
+        Ok(bytes) => Ok((bytes, shown)),
+        Err(failure) => {
+            drop(shown);
+            Err(failure)
+        }
+    }
+}
+
 // That all runs of a text's client are good.
 fn certified(
     alloc: Global,
@@ -62,14 +108,14 @@ fn certified(
     checked: Checked,
     table: &Table,
     cert: &Cert,
-    writes: bool,
+    wanted: Wanted,
 ) -> Result<Finding, Failure>
     requires denoted { DenotesChecked text.now checked.client }
     requires good { EachRunIsGood checked.client }
     requires few { record_count (tree_of cert.now) ≤ 4194304 }
 {
-    let bytes = match spelled(alloc, table, cert, writes) {
-        Ok(bytes) => bytes,
+    let (bytes, shown) = match made_of(alloc, &checked, table, cert, wanted) {
+        Ok(made) => made,
         Err(failure) => {
             drop(checked);
             return Err(failure);
@@ -81,10 +127,15 @@ fn certified(
                 client: Accepted::certified(text, checked),
                 records: Some(cert.len()),
             };
-            Ok(Finding { decided, bytes })
+            Ok(Finding {
+                decided,
+                bytes,
+                shown,
+            })
         }
         Err(_) => {
             drop(bytes);
+            drop(shown);
             drop(checked);
             Err(Failure::Memory)
         }
@@ -111,7 +162,11 @@ fn violated(alloc: Global, trace: &Trace, writes: bool) -> Result<Finding, Failu
         violation: trace.violation(),
         labels: trace.labels.len(),
     };
-    Ok(Finding { decided, bytes })
+    Ok(Finding {
+        decided,
+        bytes,
+        shown: None,
+    })
 }
 
 // One worker.
@@ -129,29 +184,25 @@ pub fn found_of<R: Threads + Wait + Sync>(
     rt: &R,
     alloc: Global,
     text: &[u8],
-    limit: StateLimit,
-    writes: bool,
+    wanted: Wanted,
 ) -> Result<Finding, Failure> {
     let checked = checked_of(alloc, text)?;
-    match explore(rt, alloc, &checked, alone(), limit.count(), &NoWatch) {
+    match explore(rt, alloc, &checked, alone(), wanted.limit.count(), &NoWatch) {
         Outcome::Certificate(table, cert) => {
-            let found = certified(alloc, text, checked, &table, &cert, writes);
+            let found = certified(alloc, text, checked, &table, &cert, wanted);
             drop(cert);
             drop(table);
             found
         }
         Outcome::Trace(trace) => {
-            let found = violated(alloc, &trace, writes);
+            let found = violated(alloc, &trace, wanted.writes);
             drop(trace);
             drop(checked);
             found
         }
         Outcome::LimitReached => {
             drop(checked);
-            Ok(Finding {
-                decided: Decided::Limit,
-                bytes: None,
-            })
+            Ok(Finding::plain(Decided::Limit))
         }
         Outcome::NoMemory => {
             drop(checked);
@@ -162,6 +213,11 @@ pub fn found_of<R: Threads + Wait + Sync>(
 
 // Searches one client after another, until none is left.
 fn work<R: Threads + Wait + Sync>(rt: &R, round: &Round<'_>) -> Result<Vec<Done>, Failure> {
+    let wanted = Wanted {
+        limit: round.limit,
+        writes: round.writes,
+        counts: round.counts,
+    };
     let mut done = Vec::new(round.alloc);
     for _ in 0..round.numbers.len() {
         let taken = round.next.fetch_add(1, Ordering::SeqCst);
@@ -171,7 +227,7 @@ fn work<R: Threads + Wait + Sync>(rt: &R, round: &Round<'_>) -> Result<Vec<Done>
         let Some(text) = round.texts.get(number) else {
             break;
         };
-        let finding = found_of(rt, round.alloc, text, round.limit, round.writes)?;
+        let finding = found_of(rt, round.alloc, text, wanted)?;
         done.push(Done { number, finding })?;
     }
     Ok(done)

@@ -2,6 +2,7 @@
 
 use crate::covering::{check_told, cover};
 use crate::fences::run_fences;
+use crate::guard::guard;
 use crate::parse::parse;
 use crate::people::{tell, tell_hidden, tell_limit, tell_outside, tell_verdict};
 use crate::survey::run_survey;
@@ -14,7 +15,7 @@ use std::sync::Wait;
 use std::thread::Threads;
 use std::time::Duration;
 use tso_front::{Failure, Files, STREAM, Session, Streams, json_line, reported, started};
-use tso_load::Source;
+use tso_load::{Source, read_certificate};
 use tso_replay::{Listener, Progress, Sizes, Texts, limit_object, run_replay, tell_cause};
 use tso_request::{
     Asked, Covering, FenceSearch, Parsing, Request, Search, Survey, Upgrading, request_of,
@@ -56,7 +57,7 @@ fn upgrade_file<S: Session + Files>(
     verbose: bool,
 ) -> Result<u8, Failure> {
     texts.program = session.read_variant(asked.program, &asked.variant)?;
-    let cert = session.read(asked.cert, usize::MAX)?;
+    let cert = read_certificate(session, asked.cert)?;
     match upgrade_to(session.alloc(), session, &texts.program, &cert, asked.out)? {
         Upgraded::Written { records, .. } => {
             put_upgraded(session, records, asked.out)?;
@@ -283,6 +284,7 @@ fn perform_all<R: Threads + Wait + Source + Sync, S: Session + Files, L: Listene
     listener: &L,
     request: &Request<'_>,
 ) -> Result<u8, Failure> {
+    guard(session, &request.asked)?;
     let status = perform(rt, session, texts, listener, request)?;
     session.flush()?;
     Ok(status)

@@ -1,13 +1,14 @@
 //! The survey of a queue by searches.
 
-use crate::people::tell_variant;
+use crate::people::{tell_undecided, tell_variant};
 use crate::round::{Done, Round, work_by};
 use std::alloc::Global;
 use std::sync::Wait;
 use std::sync::atomic::AtomicUsize;
 use std::thread::Threads;
+use tso_cert::Workers;
 use tso_front::{Failure, Session};
-use tso_request::Survey;
+use tso_request::{StateLimit, Survey};
 use tso_survey::{Calls, Conclusion, Finder, Finding, listed, survey};
 use tso_verdict::Collector;
 
@@ -15,9 +16,14 @@ use tso_verdict::Collector;
 const ROUND: usize = 16;
 
 /// Decides clients by searches, but those that the folder has whole.
-#[derive(Drop)]
+#[derive(Clone, Copy)]
 pub struct Searcher<'a> {
-    pub asked: &'a Survey<'a>,
+    pub workers: Workers,
+    pub limit: StateLimit,
+    /// The folder where what is found is written, and what it has whole is taken from, if there is one.
+    pub folder: Option<&'a str>,
+    /// Whether it is counted what the records of certificates show.
+    pub counts: bool,
 }
 
 // Puts what is found of the clients of these numbers, of which each that has nothing yet has one, where it belongs.
@@ -65,10 +71,13 @@ impl<'a> Searcher<'a> {
             let Some(text) = texts.get(number) else {
                 break;
             };
-            kept.push(match self.asked.asking.out {
+            kept.push(match self.folder {
                 Some(folder) => {
-                    let workers = self.asked.workers;
-                    let collector = Collector { folder, workers };
+                    let collector = Collector {
+                        folder,
+                        workers: self.workers,
+                        counts: self.counts,
+                    };
                     collector.kept(rt, session, calls, text)?
                 }
                 None => None,
@@ -91,16 +100,17 @@ impl<'a> Searcher<'a> {
             numbers,
             next: &next,
             alloc,
-            limit: self.asked.limit,
-            writes: self.asked.asking.out.is_some(),
+            limit: self.limit,
+            writes: self.folder.is_some(),
+            counts: self.counts,
         };
-        work_by(rt, &round, self.asked.workers.count())
+        work_by(rt, &round, self.workers.count())
     }
 }
 
 impl<'a> Finder for Searcher<'a> {
     fn width(&self) -> usize {
-        match self.asked.workers.count() {
+        match self.workers.count() {
             1 => 1,
             workers => ROUND.saturating_mul(workers as usize),
         }
@@ -133,15 +143,42 @@ fn surveyed<R: Threads + Wait + Sync, S: Session>(
             let collector = Collector {
                 folder,
                 workers: asked.workers,
+                counts: asked.asking.counts,
             };
             survey(rt, &collector, session, base, &asked.asking)
         }
-        None => survey(rt, &Searcher { asked }, session, base, &asked.asking),
+        None => {
+            let searcher = Searcher {
+                workers: asked.workers,
+                limit: asked.limit,
+                folder: asked.asking.out,
+                counts: asked.asking.counts,
+            };
+            survey(rt, &searcher, session, base, &asked.asking)
+        }
     }
 }
 
+// Says in words what a survey has come to: why a run of the smallest client that was found to have such a run is not good, and of which
+// clients nothing follows.
+fn tell_conclusion<R: Threads + Wait + Sync, S: Session>(
+    rt: &R,
+    session: &mut S,
+    base: &[u8],
+    asked: &Survey<'_>,
+    conclusion: &Conclusion,
+) {
+    if let Some(violated) = &conclusion.violated {
+        let (program, mode) = (asked.asking.program, asked.asking.mode);
+        let variant = violated.calls.variant(mode);
+        tell_variant(rt, session, base, asked.limit, program, variant);
+    }
+    tell_undecided(session, &conclusion.undecided, asked.limit);
+}
+
 /// Surveys the clients of a program text: by what lies in a folder, where that is asked for, and else by searches. Where it is to
-/// be said in words, it says why a run of the smallest client that has such a run is not good. It gives the status.
+/// be said in words, it says why a run of the smallest client that was found to have such a run is not good, and of which clients
+/// nothing follows. It gives the status.
 ///
 /// Errors: those of `tso_survey::survey`.
 pub fn run_survey<R: Threads + Wait + Sync, S: Session>(
@@ -152,15 +189,13 @@ pub fn run_survey<R: Threads + Wait + Sync, S: Session>(
     verbose: bool,
 ) -> Result<u8, Failure> {
     if asked.asking.lists {
-        let lines = listed(session.alloc(), &asked.asking)?;
+        let lines = listed(session.alloc(), base, &asked.asking)?;
         session.print(lines.as_str())?;
         return Ok(0);
     }
     let conclusion = surveyed(rt, session, base, asked)?;
-    if let (true, Some(violated)) = (verbose, &conclusion.violated) {
-        let (program, mode) = (asked.asking.program, asked.asking.mode);
-        let variant = violated.calls.variant(mode);
-        tell_variant(rt, session, base, asked.limit, program, variant);
+    if verbose {
+        tell_conclusion(rt, session, base, asked, &conclusion);
     }
     Ok(conclusion.status)
 }

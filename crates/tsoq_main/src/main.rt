@@ -1,16 +1,26 @@
 //! `tsoq`: checks lock-free ring queues under x86-TSO.
 #![tactic(auto)]
 
-use std::io;
 use std::process::ExitCode;
+use std::thread::Builder;
+use std::{io, process};
 use tso_front::HostFiles;
 use tso_replay::HostListener;
 use tsoq::run_process;
 
+// Certificates are trees, gone through by recursion: this is enough for all that are allowed, whatever the stack of the main thread is.
+const STACK: usize = 1_048_576;
+
 fn main(rt: HostRuntime) -> ExitCode {
-    let mut files = HostFiles { rt: &rt };
-    let listener = HostListener::new(&rt);
-    let mut err = rt.stderr();
-    let status = run_process(&rt, &rt, &mut files, &listener, io::writer(&rt), &mut err);
-    ExitCode::from(status)
+    let process = process::id(rt.process());
+    let run = move || {
+        let mut files = HostFiles { rt: &rt, process };
+        let listener = HostListener::new(&rt);
+        let mut err = rt.stderr();
+        run_process(&rt, &rt, &mut files, &listener, io::writer(&rt), &mut err)
+    };
+    match Builder::new().stack_size(STACK).spawn(&rt, run) {
+        Ok(thread) => ExitCode::from(thread.join(&rt)),
+        Err(_) => ExitCode::from(run()),
+    }
 }

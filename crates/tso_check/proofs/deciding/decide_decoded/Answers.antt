@@ -1,7 +1,7 @@
 use Rattle.tso_cert.specs.Trees.{tree_of}
 use Rattle.tso_check.proofs.VerdictLemmas.{of_fault, whole}
 use Rattle.tso_check.proofs.WalkLemmas.{if_ok}
-use Rattle.tso_check.proofs.deciding.decide_bytes.Goals as goal
+use Rattle.tso_check.proofs.deciding.decide_decoded.Goals as goal
 use Rattle.tso_check.specs.Verdicts.{IsOfFault, IsTreeVerdict, IsVerdict}
 
 pub returns-in-Ok : goal.returns-in-Ok

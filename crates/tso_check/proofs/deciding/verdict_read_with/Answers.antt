@@ -1,6 +1,6 @@
 use Rattle.tso_check.proofs.StoredLemmas.{stored_of, stored_verdict}
 use Rattle.tso_check.proofs.WalkLemmas.{if_ok}
-use Rattle.tso_check.proofs.deciding.verdict_with.Goals as goal
+use Rattle.tso_check.proofs.deciding.verdict_read_with.Goals as goal
 use Rattle.tso_check.specs.Spans.{IsVerdictOn}
 use Rattle.tso_check.specs.Verdicts.{IsVerdict}
 use Rattle.tso_scan.specs.Parts.{text_of}

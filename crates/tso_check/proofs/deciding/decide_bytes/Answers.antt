@@ -1,0 +1,4 @@
+use Rattle.tso_check.proofs.deciding.decide_bytes.Goals as goal
+
+pub returns-in-Some : goal.returns-in-Some
+returns-in-Some c = (rw c.in-Some.is at c.in_ok-verdict.ensures) c.args.checked.now.client
