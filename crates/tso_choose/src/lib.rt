@@ -13,4 +13,5 @@ pub use choice::{Choice, Choices};
 pub use choosing::chosen;
 pub use laws::{choices_are_determined, chosen_are_valid, valid_choices_are_persistent};
 pub use making::choose;
+pub use needs::is_apart;
 pub use set::{actor_at, has_bit};

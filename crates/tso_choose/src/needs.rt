@@ -15,8 +15,9 @@ use tso_foot::Table;
 use tso_indep::{buffer_in, is_done_in, is_far_from, is_free, place_of};
 use tso_state::{Actor, Viewed};
 
-// Whether against thread `other` a step of this kind needs nobody.
-fn is_apart<S: Viewed>(
+/// Whether a step of this kind needs nobody of thread `other`: it is local or a return; or it begins a call, and the other thread
+/// has finished its calls, is stopped or is cut; or the other's future avoids its place. It takes no memory.
+pub fn is_apart<S: Viewed>(
     checked: &Checked,
     table: &Table,
     state: &S,

@@ -19,5 +19,5 @@ pub use laws::{
 pub use motion::{Motion, core_motion, drain_motion};
 pub use naming::labels;
 pub use plan::{next_call, planned};
-pub use sort::{StepKind, enabled, kind};
+pub use sort::{StepKind, enabled, kind, kind_with_buffer};
 pub use stepping::{history_after, memory_with, step};

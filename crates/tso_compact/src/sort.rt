@@ -45,8 +45,9 @@ fn if_empty(buffer: &[Entry], kind: StepKind) -> Option<StepKind>
     }
 }
 
-// The kind of the step of a running call with this buffer, whose next instruction is of this kind.
-fn kind_with_buffer(kind: ActionKind, buffer: &[Entry]) -> Option<StepKind>
+/// The kind of the step of a running call with this buffer, whose next instruction is of this kind; none of a fence or a locked
+/// instruction that waits for the buffer, and of a call that is cut.
+pub fn kind_with_buffer(kind: ActionKind, buffer: &[Entry]) -> Option<StepKind>
     ensures { result ≡ kind_with_buffer (map entry_view buffer.now) kind }
 {
     match kind {

@@ -129,7 +129,7 @@ late_ends_are_met F p n size sound rank r kept closed s t steps k w own run z =
 
 -- THE COMPOSITION
 
-module _ {F : Type 0} (p : Program F) (n : Extent) (memory : List ℕ) (sound : CallKind → F → Bool) (rank : F → ℕ) (t u : Table F) (object : Object) (kept : State F → Bool) (r : IsRanked p (length memory) sound rank) (c : IsCrossing p n memory sound t u object kept) where
+module _ {F : Type 0} (p : Program F) (n : Extent) (memory : List ℕ) (sound : CallKind → F → Bool) (rank : F → ℕ) (t u : Table F) (object : Object) (Kept : State F → Type 0) (r : IsRanked p (length memory) sound rank) (c : IsCrossing p n memory sound t u object Kept) where
   abbrev f : Future F
   f = table_future p u
 
@@ -140,20 +140,20 @@ module _ {F : Type 0} (p : Program F) (n : Extent) (memory : List ℕ) (sound : 
   un = apart_unwritten p n (length memory) sound rank r f laws
 
   -- kept, and still apart
-  abbrev Kept : State F → Type 0
-  Kept s = IsTrue (kept s) × IsApart p n f s
+  abbrev KeptApart : State F → Type 0
+  KeptApart s = Kept s × IsApart p n f s
 
-  apart_after : (s s' : State F) (b : Actor) → Kept s → late_move p n s b ≡ Some s' → IsApart p n f s'
+  apart_after : (s s' : State F) (b : Actor) → KeptApart s → late_move p n s b ≡ Some s' → IsApart p n f s'
   apart_after s s' b k e =
       let (ms, em, is) = lates p n s s' b e in
       subst (λ x. IsApart p n f x) is (holds_opened p n _ un b s (perform_all s (thread_of b) ms) (c.well_formed s k.0, k.1) (as_steps p n s b ms em)).1
 
-  chosen_whole : (s s' : State F) (a : Actor) → Kept s → late_move p n s a ≡ Some s' → ((b : Actor) (s'' : State F) → late_move p n s b ≡ Some s'' → IsTrue (kept s'')) → (xs : List Actor) → IsWhole p n s xs
-      → (d : Actor) × (rest : List Actor) × Persistent (late_move p n) AtLeast s (d ∷ rest) × ((b : Actor) (s'' : State F) → Has (d ∷ rest) b → late_move p n s b ≡ Some s'' → Kept s'')
+  chosen_whole : (s s' : State F) (a : Actor) → KeptApart s → late_move p n s a ≡ Some s' → ((b : Actor) (s'' : State F) → late_move p n s b ≡ Some s'' → Kept s'') → (xs : List Actor) → IsWhole p n s xs
+      → (d : Actor) × (rest : List Actor) × Persistent (late_move p n) AtLeast s (d ∷ rest) × ((b : Actor) (s'' : State F) → Has (d ∷ rest) b → late_move p n s b ≡ Some s'' → KeptApart s'')
   chosen_whole s s' a k e all [] whole = absurd (whole.1 a s' e)
   chosen_whole s s' a k e all (d ∷ rest) whole = (d, rest, whole_is_persistent F p n s (d ∷ rest) whole, λ b s'' h eb. (all b s'' eb, apart_after s s'' b k eb))
 
-  kept_closed : (s s' : State F) (a : Actor) → Kept s → late_move p n s a ≡ Some s' → (d : Actor) × (rest : List Actor) × Persistent (late_move p n) AtLeast s (d ∷ rest) × ((b : Actor) (s'' : State F) → Has (d ∷ rest) b → late_move p n s b ≡ Some s'' → Kept s'')
+  kept_closed : (s s' : State F) (a : Actor) → KeptApart s → late_move p n s a ≡ Some s' → (d : Actor) × (rest : List Actor) × Persistent (late_move p n) AtLeast s (d ∷ rest) × ((b : Actor) (s'' : State F) → Has (d ∷ rest) b → late_move p n s b ≡ Some s'' → KeptApart s'')
   kept_closed s s' a k e = elim (c.choices s s' a k.0 e) [
     | inl (d, free, next) ↦ (
       d,
@@ -175,12 +175,13 @@ module _ {F : Type 0} (p : Program F) (n : Extent) (memory : List ℕ) (sound : 
   good_end actors end steps over =
       let first = first_state p memory in
       let w = c.well_formed first c.has_initial in
-      let (last, (k, apart), z, h) = met p n _ Kept un kept_closed first end actors (w, c.apart) (c.has_initial, c.apart) (first_shaped p memory) steps over in
+      let (last, (k, apart), z, h) = met p n _ KeptApart un kept_closed first end actors (w, c.apart) (c.has_initial, c.apart) (first_shaped p memory) steps over in
       let (order, l) = c.orders last k z in
       ((λ i (th, at, is). c.unstopped last i k z (th, ap (λ ts. slice_get ts i) h.threads ∙ at, is)), (order, orders_serve_looser F object last end order h l))
 
-  good_run : (ls : List Label) (m : Machine F) → Run p (first_machine p memory) ls m → IsGood object ls
-  good_run ls m run =
+  -- every run is good, whichever states are kept
+  pub kept_runs_are_good : (ls : List Label) (m : Machine F) → Run p (first_machine p memory) ls m → IsGood object ls
+  kept_runs_are_good ls m run =
       let x = runs_reach_ends p (length memory) sound rank r memory ls m run in
       let (up, (order, l)) = good_end x.actors x.state x.steps x.over in
       let tells = histories_tell F p memory (ls ++ x.more) (machine_of x.state) x.run in
@@ -188,4 +189,4 @@ module _ {F : Type 0} (p : Program F) (n : Extent) (memory : List ℕ) (sound : 
       ((λ i f. up i (x.faults i f)), beginnings_are_linearizable F p memory ls m object x.more run (order, told object _ (events_of (ls ++ x.more)) order tells whole))
 
 pub every_crossed_run_is_good : (F : Type 0) → EveryCrossedRunIsGood F
-every_crossed_run_is_good F p n memory sound rank t u object kept r c ls m run = good_run p n memory sound rank t u object kept r c ls m run
+every_crossed_run_is_good F p n memory sound rank t u object kept r c ls m run = kept_runs_are_good p n memory sound rank t u object (λ s. IsTrue (kept s)) r c ls m run

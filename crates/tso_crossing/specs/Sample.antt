@@ -1,5 +1,5 @@
 -- A program with a crossing: one thread makes one call, which reads a place of its own and is refused.
-use Rattle.std.specs.Prelude.{ℕ, zero, suc, ◌&&◌, Bool, true, false, List, [], ◌∷◌, Option, Some, None}
+use Rattle.std.specs.Prelude.{ℕ, zero, suc, ◌&&◌, Bool, true, false, List, [], ◌∷◌, Option, Some, None, IsTrue}
 use Rattle.tso_model.specs.Certificate.{IsGood}
 use Rattle.tso_model.specs.Labels.{Label, Machine, Run, first_machine}
 use Rattle.tso_model.specs.Objects.{Object, Queue, Strict}
@@ -53,7 +53,7 @@ sample_kept s = is_zero_word s.memory && (is_one_idle s.threads && is_history s.
 
 -- the kept states are a crossing, so each run is good
 abbrev pub SampleIsCrossed : Type 0
-SampleIsCrossed = IsCrossing sample sample_extent (0 ∷ []) (λ k f. true) sample_table sample_table (Queue Strict 1) sample_kept
+SampleIsCrossed = IsCrossing sample sample_extent (0 ∷ []) (λ k f. true) sample_table sample_table (Queue Strict 1) (λ s. IsTrue (sample_kept s))
 
 abbrev pub SampleIsGood : Type 0
 SampleIsGood = (ls : List Label) (m : Machine ℕ) → Run sample (first_machine sample (0 ∷ [])) ls m → IsGood (Queue Strict 1) ls

@@ -1,11 +1,10 @@
 -- What the first states of a search tell.
-use Rattle.std.proofs.Common.{◌≡◌, ◌∙◌, ℕ, zero, suc, ◌<◌, ◌≤◌, ◌⊎◌, inl, inr, Bool, true, false, List, [], ◌∷◌, length, get_or, Some, slice_get, refl, sym, ap, subst, arith}
-use Rattle.std.specs.Prelude.{Err, IfOk, MatchBool, Ok, Result}
-use Rattle.std.proofs.lemmas.Option.{none-some, same_Some, slice_get-get_or, slice_get_within}
-use Rattle.tso_search.proofs.SearchLemmas.{all_searched, begun_first, done_none, has_begun, longer, searched_stays}
+use Rattle.std.proofs.Common.{◌≡◌, ◌∙◌, ℕ, ◌<◌, ◌≤◌, ◌⊎◌, inl, inr, Bool, List, [], length, get_or, Some, slice_get, sym, subst, arith}
+use Rattle.std.specs.Prelude.{Err, IfOk, Ok, Result}
+use Rattle.std.proofs.lemmas.Option.{same_Some, slice_get-get_or, slice_get_within}
+use Rattle.tso_search.proofs.SearchLemmas.{all_searched, begun_first, has_begun, longer, searched_stays}
 use Rattle.tso_explore.specs.Firsts.{IsBegunAlone, IsFirstAlone, IsFirstOf, IsFound, IsPaused}
-use Rattle.tso_search.specs.Goodness.{AllGood, IsGood}
-use Rattle.tso_search.specs.Reached.{IsBad, IsBadAt}
+use Rattle.tso_search.specs.Goodness.{AllGood}
 use Rattle.tso_search.specs.Searched.{AreSearched, IsBegun, IsHunting, IsSearched, IsStarted, IsWorked}
 use Rattle.tso_search.specs.Shortening.{IsShorter, IsTraceOf}
 use Rattle.tso_explore.specs.declared.first.First.{First}
@@ -17,33 +16,6 @@ use Rattle.tso_prog.specs.declared.client.Client.{Client}
 use Rattle.tso_state.specs.declared.state.State.{State}
 use Rattle.tso_store.specs.Sheets.{Sheet}
 use Rattle.tso_trace.specs.declared.trace.Trace.{Trace}
-
-all_good_one : (c : Client) (states : List State) (x s : State) → states ≡ x ∷ [] → slice_get states 0 ≡ Some s → IsGood c s → AllGood c states
-all_good_one c states x s only at good n t here = by n (subst (λ (xs : List State). slice_get xs n ≡ Some t) only here)
-  where
-    same : x ≡ s
-    same = same_Some x s (subst (λ (xs : List State). slice_get xs 0 ≡ Some s) only at)
-
-    by : (n : ℕ) → slice_get (x ∷ []) n ≡ Some t → IsGood c t
-    by zero e = subst (IsGood c) (sym same ∙ same_Some x t e) good
-    by (suc n) e = absurd (none-some t e)
-
--- the initial state is judged
-pub first_judged : {E : Type 0} (c : Client) (states : List State) (s : State) → slice_get states 0 ≡ Some s → IsStarted c states → (r : Result Bool E)
-    → IfOk r (λ good. good ≡ true → IsGood c s) → IfOk r (λ good. good ≡ false → IsBad c s)
-    → IfOk r (λ good. MatchBool good (AllGood c states) (IsBadAt c states 0))
-first_judged c states s at started (Ok true) good bad = all_good_one c states started.initial s started.only at (good refl)
-first_judged c states s at started (Ok false) good bad = record { state = s; at = at; bad = bad refl }
-first_judged c states s at started (Err e) good bad = tt
-
-pub hunting_first : (c : Client) (t : Table) (limit : ℕ) (states : List State) (origins : List Origin) (marks : List Bool) → IsStarted c states → origins ≡ [] → marks ≡ [] → AllGood c states → 1 ≤ limit
-    → IsHunting c t limit states origins marks
-hunting_first c t limit states origins marks started none unmarked good some = record {
-  begun = subst (IsBegun c states) (sym none) (begun_first c states started);
-  good = good;
-  few = (let e = ap (λ (xs : List State). length xs) started.only in omega (arith, e, some));
-  done = done_none c t states marks unmarked;
-}
 
 -- a search that is paused goes on by a hunt
 pub hunting_on : (c : Client) (t : Table) (limit : ℕ) (store : Sheet) (origins : List Origin) (marks : List Bool) (number : ℕ) → IsPaused c limit t store origins marks number
@@ -76,10 +48,6 @@ begun_none c states origins started none = subst (IsBegun c states) (sym none) (
 pub trace_of_shorter : {E : Type 0} (c : Client) (long : Trace) (r : Result Trace E) → IfOk r (IsShorter c long) → IfOk r (IsTraceOf c)
 trace_of_shorter c long (Ok t) is = is.trace
 trace_of_shorter c long (Err e) is = tt
-
-pub when_true : (b : Bool) (P Q : Type 0) → MatchBool b P Q → b ≡ true → P
-when_true true P Q is e = is
-when_true false P Q is e = absurd (let clash : false ≡ true = e in cc)
 
 -- where a search has come to the last state, all are worked
 pub worked_to_end : (c : Client) (t : Table) (limit : ℕ) (states : List State) (origins : List Origin) (number : ℕ) → IsSearched c t states origins number → number ≤ length states → length states ≤ number → length states ≤ limit

@@ -1,12 +1,13 @@
 //! The search of a client.
 
-ghost use Rattle.std.specs.Prelude.{◌≡◌, ◌≤◌, ◌⊎◌, [], IfErr, IfOk, IfSome, MatchBool, OnOk, Some, length, true};
+ghost use Rattle.std.specs.Prelude.{◌≡◌, ◌+◌, ◌≤◌, ◌⊎◌, [], IfErr, IfOk, IfSome, OnOk, Some, length, true};
 ghost use Rattle.tso_explore.specs.Firsts.{IsBegunAlone, IsFirstAlone, IsFirstOf, IsFound, IsPaused, IsSoon};
 ghost use Rattle.tso_search.specs.Goodness.{AllGood};
 ghost use Rattle.tso_explore.specs.Outcomes.{IsOutcome, IsStopped};
 ghost use Rattle.tso_explore.specs.Findings.{IsEnded, IsFinding};
+ghost use Rattle.tso_parts.specs.Numbers.{Extends};
 ghost use Rattle.tso_search.specs.Reached.{IsBadAt};
-ghost use Rattle.tso_search.specs.Searched.{AreSearched, HasBegun, HasMore, IsBegun, IsSearched, IsStarted, IsStop};
+ghost use Rattle.tso_search.specs.Searched.{AreSearched, HasBegun, HasMore, IsBegun, IsHunting, IsSearched, IsStarted, IsStop};
 ghost use Rattle.tso_search.specs.Shortening.{IsTraceOf};
 ghost use Rattle.tso_foot.specs.Closed.{IsClosed, IsLeastClosed};
 ghost use Rattle.tso_write.specs.Worked.{AreWorkedOut};
@@ -26,14 +27,18 @@ use tso_foot::{Table, build};
 use tso_machine::thread_count;
 use tso_pool::{Ending, search as search_together};
 use tso_regions::by_regions;
-use tso_search::{Judged, Marks, Origin, Stop, Way, hunt, is_good, search, shortened, trace_to};
-use tso_state::initial_state;
-use tso_store::{AddError, Store};
+use tso_search::{
+    Judged, Marks, Origin, Stop, Way, hunt, is_first_good, search, shortened, started, trace_to,
+};
+use tso_store::Store;
 use tso_trace::Trace;
 use tso_write::{Worked, tree_for};
 
 /// How many states a search meets before it pauses for hunts.
-const FIRST: u32 = 65_536;
+const FIRST: u32 = 4_096;
+
+/// How many probes it goes on by then.
+const PROBES: u32 = 4;
 
 /// How many states the caller meets alone before several workers go on by regions.
 const ALONE: u32 = 8_192;
@@ -43,29 +48,6 @@ const EARLY: u32 = 2_048;
 
 /// Where there are so many states, and the caller has searched all of them alone, no worker searches them once more.
 const SHARED: usize = 512;
-
-/// A store with the initial state.
-///
-/// Errors: where a growth was refused.
-pub fn started<'a>(alloc: Global, checked: &'a Checked) -> Result<Store<'a>, AllocError>
-    ensures client { IfOk result (λ store. store.client ≡ checked.now.client) }
-    ensures states { IfOk result (λ store. IsStarted checked.now.client store.states) }
-    ensures room { IfOk result (λ store. store.kept ≤ 8) }
-{
-    let state = initial_state(alloc, checked)?;
-    let mut store = Store::new(alloc, checked, 0);
-    let added = store.add(&state);
-    drop(state);
-    match added {
-        Ok(_) => Ok(store),
-        Err(AddError::Memory) => {
-            drop(store);
-            Err(AllocError)
-        }
-        Err(AddError::Misfit) => unreachable!(),
-        Err(AddError::Full) => unreachable!(),
-    }
-}
 
 // The trace of the runs to a state that are not good, short.
 fn short_trace(
@@ -84,99 +66,14 @@ fn short_trace(
     shortened(alloc, checked, trace, thread_count(&checked.client))
 }
 
-// Whether the runs to the initial state are good.
-fn is_first_good(alloc: Global, checked: &Checked, store: &Store<'_>) -> Result<bool, AllocError>
-    requires { IsStarted checked.now.client store.now.states }
-    ensures { IfOk result (λ good. MatchBool good (AllGood checked.now.client store.now.states) (IsBadAt checked.now.client store.now.states 0)) }
-{
-    match store.state(alloc, 0)? {
-        Some(state) => is_good(alloc, checked, &state),
-        None => unreachable!(),
-    }
-}
-
-// What a hunt by depth from the store's one state finds, if it finds something.
-fn hunted_from(
-    alloc: Global,
-    checked: &Checked,
-    table: &Table,
-    store: &mut Store<'_>,
-    origins: &mut Vec<Origin>,
-) -> Result<Option<Trace>, AllocError>
-    requires client { store.old.client ≡ checked.now.client }
-    requires started { IsStarted checked.now.client store.old.states }
-    requires none { origins.old.items ≡ [] }
-    requires room { store.old.kept ≤ 8 }
-    ensures { IfOk result (λ found. IfSome found (IsTraceOf checked.now.client)) }
-{
-    if !is_first_good(alloc, checked, store)? {
-        return Ok(None);
-    }
-    let mut judged = Judged::new(alloc)?;
-    let mut marks = Marks::new(alloc);
-    let (noted, worked) = (&mut judged, &mut marks);
-    match hunt(
-        alloc,
-        checked,
-        table,
-        store,
-        origins,
-        noted,
-        worked,
-        Way::Depth,
-        0,
-        4_194_304,
-    ) {
-        Err(Stop::Violation(number)) => {
-            let trace = short_trace(alloc, checked, store, origins.as_slice(), number)?;
-            Ok(Some(trace))
-        }
-        Err(Stop::Memory) => Err(AllocError),
-        Ok(()) | Err(Stop::Limit) => Ok(None),
-    }
-}
-
-// The trace that a hunt by depth from the initial state on finds, if it finds one.
-fn hunted(alloc: Global, checked: &Checked, table: &Table) -> Result<Option<Trace>, AllocError>
-    ensures { IfOk result (λ found. IfSome found (IsTraceOf checked.now.client)) }
-{
-    let mut store = started(alloc, checked)?;
-    let mut origins = Vec::new(alloc);
-    let found = hunted_from(alloc, checked, table, &mut store, &mut origins);
-    drop(store);
-    found
-}
-
-// The shorter of two traces; the first where none is.
-fn shorter(one: Trace, other: Option<Trace>) -> Trace
-    ensures either { (result ≡ one) ⊎ (other ≡ Some result) }
-    ensures first { length result.labels ≤ length one.labels }
-    ensures second { IfSome other (λ t. length result.labels ≤ length t.labels) }
-{
-    match other {
-        Some(other) => {
-            if other.labels.len() < one.labels.len() {
-                drop(one);
-                other
-            } else {
-                drop(other);
-                one
-            }
-        }
-        None => one,
-    }
-}
-
-// Why a search stopped, where it stops so. A violation is hunted by depth too, where that is asked for.
+// Why a search stopped, where it stops so.
 fn stopped(
     alloc: Global,
     checked: &Checked,
-    table: &Table,
     store: &Store<'_>,
     origins: &[Origin],
     limit: u32,
     stop: Stop,
-    hunts: bool,
 ) -> Result<Stopped, AllocError>
     requires client { store.now.client ≡ checked.now.client }
     requires stop { IsStop checked.now.client limit store.now.states origins.now stop }
@@ -185,16 +82,7 @@ fn stopped(
     match stop {
         Stop::Violation(number) => {
             let trace = short_trace(alloc, checked, store, origins, number)?;
-            if !hunts {
-                return Ok(Stopped::Trace(trace));
-            }
-            match hunted(alloc, checked, table) {
-                Ok(by_depth) => Ok(Stopped::Trace(shorter(trace, by_depth))),
-                Err(reason) => {
-                    drop(trace);
-                    Err(reason)
-                }
-            }
+            Ok(Stopped::Trace(trace))
         }
         Stop::Limit => Ok(Stopped::LimitReached),
         Stop::Memory => Err(AllocError),
@@ -205,18 +93,16 @@ fn stopped(
 fn stopped_first(
     alloc: Global,
     checked: &Checked,
-    table: &Table,
     store: &Store<'_>,
     origins: &[Origin],
     limit: u32,
     stop: Stop,
-    hunts: bool,
 ) -> Result<First, AllocError>
     requires client { store.now.client ≡ checked.now.client }
     requires stop { IsStop checked.now.client limit store.now.states origins.now stop }
     ensures { IfOk result (IsFound checked.now.client limit) }
 {
-    let why = stopped(alloc, checked, table, store, origins, limit, stop, hunts)?;
+    let why = stopped(alloc, checked, store, origins, limit, stop)?;
     Ok(First::Stopped(why))
 }
 
@@ -243,7 +129,7 @@ fn hunted_deep(
         Ok(()) => Ok(First::GoesOn(number)),
         Err(stop) => {
             let slice = origins.as_slice();
-            stopped_first(alloc, checked, table, store, slice, limit, stop, false)
+            stopped_first(alloc, checked, store, slice, limit, stop)
         }
     }
 }
@@ -273,12 +159,71 @@ fn hunted_on(
         ),
         Err(stop) => {
             let slice = origins.as_slice();
-            stopped_first(alloc, checked, table, store, slice, limit, stop, true)
+            stopped_first(alloc, checked, store, slice, limit, stop)
         }
     }
 }
 
-// The search of the first states, and where it is not over two hunts.
+// Goes on by some probes from the states with number `from` and above.
+fn probe(
+    alloc: Global,
+    checked: &Checked,
+    table: &Table,
+    store: &mut Store<'_>,
+    origins: &mut Vec<Origin>,
+    judged: &mut Judged,
+    marks: &mut Marks,
+    from: u32,
+    limit: u32,
+) -> Result<(), Stop>
+    requires client { store.old.client ≡ checked.now.client }
+    requires hunting { IsHunting checked.now.client table.now limit store.old.states origins.old.items marks.old }
+    requires room { store.old.kept ≤ 500000000 }
+    ensures hunting { OnOk result (IsHunting checked.now.client table.now limit store.new.states origins.new.items marks.new) }
+    ensures stays { OnOk result (Extends store.old.states store.new.states) }
+    ensures stop { IfErr result (IsStop checked.now.client limit store.new.states origins.new.items) }
+    ensures room { OnOk result (store.new.kept ≤ store.old.kept + 167772160) }
+    ensures client { store.new.client ≡ store.old.client }
+{
+    let way = Way::Probe;
+    for _probe in 0..PROBES {
+        hunt(
+            alloc, checked, table, store, origins, judged, marks, way, from, limit,
+        )?;
+    }
+    Ok(())
+}
+
+// Goes on by probes, and then by the long hunts.
+fn probed_on(
+    alloc: Global,
+    checked: &Checked,
+    table: &Table,
+    store: &mut Store<'_>,
+    origins: &mut Vec<Origin>,
+    judged: &mut Judged,
+    marks: &mut Marks,
+    number: u32,
+    limit: u32,
+) -> Result<First, AllocError>
+    requires paused { IsPaused checked.now.client limit table.now store.old origins.old.items marks.old number }
+    requires room { store.old.kept ≤ 500000000 }
+    ensures { IfOk result (IsFirstOf checked.now.client limit table.now store.new origins.new.items marks.new) }
+{
+    match probe(
+        alloc, checked, table, store, origins, judged, marks, number, limit,
+    ) {
+        Ok(()) => hunted_on(
+            alloc, checked, table, store, origins, judged, marks, number, limit,
+        ),
+        Err(stop) => {
+            let slice = origins.as_slice();
+            stopped_first(alloc, checked, store, slice, limit, stop)
+        }
+    }
+}
+
+// The search of the first states, and the probes and hunts if it is not over then.
 fn first_found<R: Wait, W: Watch>(
     rt: &R,
     alloc: Global,
@@ -311,13 +256,13 @@ fn first_found<R: Wait, W: Watch>(
             if number as usize >= store.len() {
                 return Ok(First::GoesOn(number));
             }
-            hunted_on(
+            probed_on(
                 alloc, checked, table, store, origins, judged, marks, number, limit,
             )
         }
         Err(stop) => {
             let slice = origins.as_slice();
-            stopped_first(alloc, checked, table, store, slice, limit, stop, true)
+            stopped_first(alloc, checked, store, slice, limit, stop)
         }
     }
 }
@@ -357,7 +302,7 @@ fn found_behind<R: Wait, W: Watch>(
         Ok(_) => Ok(Ended::Worked),
         Err(stop) => {
             let slice = origins.as_slice();
-            let why = stopped(alloc, checked, table, store, slice, limit, stop, false)?;
+            let why = stopped(alloc, checked, store, slice, limit, stop)?;
             Ok(Ended::Early(why))
         }
     }
@@ -462,7 +407,7 @@ fn first_alone<R: Wait>(
         Ok(number) => Ok(First::GoesOn(number)),
         Err(stop) => {
             let slice = origins.as_slice();
-            stopped_first(alloc, checked, table, store, slice, limit, stop, true)
+            stopped_first(alloc, checked, store, slice, limit, stop)
         }
     }
 }
@@ -805,9 +750,9 @@ fn explored_by<'c, R: Threads + Wait + Sync, W: Watch + Sync>(
 /// Searches the client's compact states from the initial one, following chosen actors alone (Godefroid 1996), with the least
 /// closed table of footprints, and hands out the states where all runs are good: nothing of a certificate is made yet.
 ///
-/// One worker searches by breadth. Where 65,536 states do not end that, it goes on for a while by hunts, one by breadth and one by
-/// depth, which come to states that lie deep sooner, and then by breadth again. A violation among the first states, or of a hunt by
-/// breadth, is hunted once more by depth, and the shorter trace is handed out, with those labels left out that it does without.
+/// One worker searches by breadth. If 4,096 states do not end that, it goes on for a while by probes, which are short depth-first
+/// searches, and by two long hunts, one by breadth and one by depth, which come to states that lie deep sooner; and then by breadth
+/// again. The trace of a run that is not good is made short (`shortened`).
 ///
 /// Several workers go on by regions where the caller, alone, has met 8,192 states and has found nothing. Of fewer, but 512 or more,
 /// it hands out its own search, and tells the watch how many they are. A client of fewer than 512 states is searched by all workers in

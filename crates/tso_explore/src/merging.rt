@@ -4,10 +4,10 @@ ghost use Rattle.std.specs.Prelude.{◌≡◌, OnOk, IfOk};
 ghost use Rattle.tso_search.specs.Searched.{HasBegun};
 ghost use Rattle.tso_table.specs.Leading.{IsKept};
 
-use crate::exploring::started;
 use std::alloc::{AllocError, Global};
 use tso_flow::Checked;
 use tso_foot::Table as Footprints;
+use tso_search::started;
 use tso_store::{AddError, Store};
 use tso_table::{Kept, Table};
 

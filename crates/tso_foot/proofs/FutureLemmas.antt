@@ -76,6 +76,11 @@ calls_have c t get joins (k ∷ ks) masks place h =
     (λ e. calls_keep c t get joins ks (union masks own) place (has_right c get joins masks own place (sym (starts c t get k place) ∙ e)))
     (λ e. calls_have c t get joins ks (union masks own) place e) h
 
+-- what some of these calls may write from its start on is in their masks
+pub calls_may_write : (c : Client) (t : ArrayTable) (ks : List CallKind) (place : ℕ)
+    → some_call (program_of c) (arrays_view c t).writes (map call_view ks) place ≡ true → has_place c.arrays (calls_masks t ks).writes place ≡ true
+calls_may_write c t ks place h = calls_have c t (λ (m : Masks). m.writes) (λ a b. refl) ks no_masks place h
+
 -- ---- cores
 
 core_has-masks : (c : Client) (t : ArrayTable) (get : Masks → ℕ) → Joins get → (name : ProcedureKind) (ks : List CallKind) (core : Core) (place : ℕ)

@@ -2,9 +2,8 @@
 
 ghost use Rattle.std.specs.Prelude.{◌≡◌};
 ghost use Rattle.tso_foot.specs.Ahead.{ahead_has, buffer_has, calls_have, cells_at, core_has, is_buffered, item_has, may_read, may_write};
-ghost use Rattle.tso_foot.specs.Masks.{has_some};
 
-use crate::masks::{Masks, array_of};
+use crate::masks::{Masks, has_place};
 use tso_cells::{Cells, IntervalTable, has_cell};
 use tso_flow::ProcedureKind;
 use tso_line::CallKind;
@@ -42,16 +41,6 @@ pub enum Future<'a> {
     Nothing,
     Arrays(ArraysAhead<'a>),
     Cells(CellsAhead<'a>),
-}
-
-// Whether a mask has this array, if there is one.
-fn has_some(mask: u16, array: Option<usize>) -> bool
-    ensures { result ≡ has_some mask array }
-{
-    match array {
-        Some(k) => k < 16 && mask >> k & 1 == 1,
-        None => false,
-    }
 }
 
 // The cells of the item at a position; none behind the last item.
@@ -142,7 +131,7 @@ impl Future<'_> {
     {
         match self {
             Future::Nothing => false,
-            Future::Arrays(ahead) => has_some(ahead.masks.reads, array_of(ahead.arrays, place)),
+            Future::Arrays(ahead) => has_place(ahead.arrays, ahead.masks.reads, place),
             Future::Cells(ahead) => ahead.has(Access::Read, place),
         }
     }
@@ -153,7 +142,7 @@ impl Future<'_> {
     {
         match self {
             Future::Nothing => false,
-            Future::Arrays(ahead) => has_some(ahead.masks.writes, array_of(ahead.arrays, place)),
+            Future::Arrays(ahead) => has_place(ahead.arrays, ahead.masks.writes, place),
             Future::Cells(ahead) => ahead.has(Access::Write, place),
         }
     }

@@ -37,15 +37,15 @@ impl ArrayTable {
             Masks::NONE
         }
     }
-}
 
-// What these calls may read and write from their first instructions on.
-fn calls_masks(table: &ArrayTable, calls: &[CallKind]) -> Masks
-    ensures { result ≡ calls_masks table.now calls.now }
-{
-    calls.iter().fold(Masks::NONE, |masks, call| {
-        masks.union(table.masks(ProcedureKind::from(*call), 0))
-    })
+    /// What these calls may read and write, from their first instructions on. It takes no memory.
+    pub fn calls_masks(&self, calls: &[CallKind]) -> Masks
+        ensures { result ≡ calls_masks self.now calls.now }
+    {
+        calls.iter().fold(Masks::NONE, |masks, call| {
+            masks.union(self.masks(ProcedureKind::from(*call), 0))
+        })
+    }
 }
 
 // The arrays that buffered entries go to.
@@ -68,10 +68,10 @@ fn core_masks(
     ensures { result ≡ core_masks table.now procedure calls.now core.now }
 {
     match core {
-        Core::Idle => calls_masks(table, calls),
+        Core::Idle => table.calls_masks(calls),
         Core::Running(frame) => table
             .masks(procedure, frame.pc)
-            .union(calls_masks(table, calls)),
+            .union(table.calls_masks(calls)),
         Core::Stopped => Masks::NONE,
     }
 }

@@ -20,6 +20,6 @@ pub use laws::{
     reached_is_within, runs_are_foreseen, within_is_sound,
 };
 pub use least::build;
-pub use masks::{Masks, array_mask, array_of, own_masks, place_mask};
+pub use masks::{Masks, array_mask, array_of, has_place, own_masks, place_mask};
 pub use table::{ArrayTable, Table};
 pub use within::{core_lies, is_within};

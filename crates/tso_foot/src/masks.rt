@@ -1,7 +1,7 @@
 //! Sets of arrays as masks.
 
 ghost use Rattle.std.specs.Prelude.{◌≡◌, ◌<◌, ◌≤◌, ◌^◌, IsTrue, IfSome, length};
-ghost use Rattle.tso_foot.specs.Masks.{array_mask, array_of, holds, no_masks, own_masks, union};
+ghost use Rattle.tso_foot.specs.Masks.{array_mask, array_of, has_place, has_some, holds, no_masks, own_masks, union};
 ghost use Rattle.tso_prog.specs.Limits.{has_array_below};
 
 use tso_line::Instruction;
@@ -94,4 +94,21 @@ pub fn place_mask(arrays: &[Array], place: usize) -> u16
         Some(array) => array_mask(array),
         None => 0,
     }
+}
+
+// Whether a mask has this array, if there is one.
+fn has_some(mask: u16, array: Option<usize>) -> bool
+    ensures { result ≡ has_some mask array }
+{
+    match array {
+        Some(k) => k < 16 && mask >> k & 1 == 1,
+        None => false,
+    }
+}
+
+/// Whether a mask has the array of this place of memory; a place of no array is in no mask. It takes no memory.
+pub fn has_place(arrays: &[Array], mask: u16, place: usize) -> bool
+    ensures { result ≡ has_place arrays.now mask place }
+{
+    has_some(mask, array_of(arrays, place))
 }

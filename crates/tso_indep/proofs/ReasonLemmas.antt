@@ -51,7 +51,7 @@ quiet_when_empty : (b : Buffer) (m n : steps.Move Activation) → m.log ≡ Same
 quiet_when_empty [] m n is e = inr (ap (λ (x : steps.Move Activation). x.log) (sym (same_Some m n e)) ∙ is)
 quiet_when_empty (x ∷ rest) m n is e = absurd cc
 
-quiet_action : (b : Buffer) (a : Action Activation) (m : steps.Move Activation) → steps.action_move b a ≡ Some m → IsQuiet m
+pub quiet_action : (b : Buffer) (a : Action Activation) (m : steps.Move Activation) → steps.action_move b a ≡ Some m → IsQuiet m
 quiet_action b (Silent g) m e = inl (ap (λ (x : steps.Move Activation). x.access) (sym (same_Some _ m e)))
 quiet_action b (Load p k) m e = inr (ap (λ (x : steps.Move Activation). x.log) (sym (same_Some _ m e)))
 quiet_action b (Store p v g) m e = inl (ap (λ (x : steps.Move Activation). x.access) (sym (same_Some _ m e)))
@@ -231,17 +231,17 @@ module _ (c : Client) (t : Table) (s : State) (chosen : List Actor) (j : ℕ) (w
   no_return (steps.Write p v) log h = absurd cc
   no_return (steps.Update p f) log h = absurd cc
 
-  each : (access : steps.Access) (log : Log) (reason : Reason) → Stays access log → is_reason c t s chosen (kind_by access log) j reason ≡ true → IsReasonFor c t s chosen access log j reason
-  each access log reasons.Own st h = own access log h
-  each access log reasons.Far st h = far access log st h
-  each access log reasons.Inside st h = inside access log h
-  each access log reasons.Buffer st h = in_buffer access log h
-  each access log reasons.Return st h = returns access log h
-  each access log reasons.NoReturn st h = no_return access log h
+  pub reason_holds : (access : steps.Access) (log : Log) (reason : Reason) → Stays access log → is_reason c t s chosen (kind_by access log) j reason ≡ true → IsReasonFor c t s chosen access log j reason
+  reason_holds access log reasons.Own st h = own access log h
+  reason_holds access log reasons.Far st h = far access log st h
+  reason_holds access log reasons.Inside st h = inside access log h
+  reason_holds access log reasons.Buffer st h = in_buffer access log h
+  reason_holds access log reasons.Return st h = returns access log h
+  reason_holds access log reasons.NoReturn st h = no_return access log h
 
 pub true_reasons_are_the_models : (c : Client) → TrueReasonsAreTheModels c
 true_reasons_are_the_models c t s chosen a m j reason w is h =
-    each c t s chosen j w m.access m.log reason (quiet c s (actor_of a) m is)
+    reason_holds c t s chosen j w m.access m.log reason (quiet c s (actor_of a) m is)
     (subst (λ o. is_reason_if c t s chosen (option_map kind_of_move o) j reason ≡ true) is h)
 
 -- ---- persistent choices

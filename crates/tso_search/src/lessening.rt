@@ -1,6 +1,6 @@
 //! Traces with few calls.
 
-ghost use Rattle.std.specs.Prelude.{◌≡◌, IfOk, IfSome, length};
+ghost use Rattle.std.specs.Prelude.{◌≡◌, ◌≤◌, IfOk, IfSome, length};
 ghost use Rattle.tso_search.specs.Shortening.{IsShorter, IsTraceOf};
 
 use crate::leaving::call_count;
@@ -12,9 +12,13 @@ use tso_flow::Checked;
 use tso_foot::{Table, build};
 use tso_machine::{Label, calls_of};
 use tso_prog::Client;
+use tso_trace::Trace;
 
 /// So many states a search with fewer calls meets at the most.
 const SOME: usize = 4_096;
+
+/// So many a search of all runs with some few calls.
+const FEW: usize = 16_384;
 
 /// So many the search with as few calls as were found.
 const MANY: usize = 32_768;
@@ -52,14 +56,33 @@ fn one_less(
     Ok(Some(fewer))
 }
 
-// How many calls each thread begins in a run that is not good and has one call less of this thread, if one is found.
+// Keeps another trace in place of the shortest, if it is shorter.
+fn keep(checked: &Checked, shortest: &mut Shortest, trace: Trace)
+    requires old { IsTraceOf checked.now.client shortest.old.trace }
+    requires other { IsTraceOf checked.now.client trace }
+    ensures is { IsShorter checked.now.client shortest.old.trace shortest.new.trace }
+    ensures other { length shortest.new.trace.labels ≤ length trace.labels }
+{
+    if trace.labels.len() < shortest.trace.labels.len() {
+        shortest.trace = trace;
+    } else {
+        drop(trace);
+    }
+}
+
+// How many calls each thread begins in a run that is not good and has one call less of this thread, if one is found. Its trace is kept
+// if it is shorter.
 fn fewer(
     alloc: Global,
     checked: &Checked,
     table: &Table,
+    shortest: &mut Shortest,
     most: &[usize],
     thread: usize,
-) -> Result<Option<Vec<usize>>, AllocError> {
+) -> Result<Option<Vec<usize>>, AllocError>
+    requires { IsTraceOf checked.now.client shortest.old.trace }
+    ensures { IsShorter checked.now.client shortest.old.trace shortest.new.trace }
+{
     let Some(fewer) = one_less(alloc, most, thread)? else {
         return Ok(None);
     };
@@ -68,7 +91,7 @@ fn fewer(
     match found {
         Some(trace) => {
             let counts = begun(alloc, trace.labels.as_slice(), most.len());
-            drop(trace);
+            keep(checked, shortest, trace);
             Ok(Some(counts?))
         }
         None => Ok(None),
@@ -80,11 +103,15 @@ fn take_away(
     alloc: Global,
     checked: &Checked,
     table: &Table,
+    shortest: &mut Shortest,
     most: &mut Vec<usize>,
     thread: usize,
-) -> Result<(), AllocError> {
+) -> Result<(), AllocError>
+    requires { IsTraceOf checked.now.client shortest.old.trace }
+    ensures { IsShorter checked.now.client shortest.old.trace shortest.new.trace }
+{
     for _ in 0..16 {
-        match fewer(alloc, checked, table, most.as_slice(), thread)? {
+        match fewer(alloc, checked, table, shortest, most.as_slice(), thread)? {
             Some(counts) => *most = counts,
             None => break,
         }
@@ -97,12 +124,15 @@ fn fewest(
     alloc: Global,
     checked: &Checked,
     table: &Table,
-    labels: &[Label],
+    shortest: &mut Shortest,
     threads: usize,
-) -> Result<Vec<usize>, AllocError> {
-    let mut most = begun(alloc, labels, threads)?;
+) -> Result<Vec<usize>, AllocError>
+    requires { IsTraceOf checked.now.client shortest.old.trace }
+    ensures { IsShorter checked.now.client shortest.old.trace shortest.new.trace }
+{
+    let mut most = begun(alloc, shortest.trace.labels.as_slice(), threads)?;
     for thread in 0..threads {
-        take_away(alloc, checked, table, &mut most, thread)?;
+        take_away(alloc, checked, table, shortest, &mut most, thread)?;
     }
     Ok(most)
 }
@@ -161,11 +191,7 @@ fn search_choice(
 {
     match found_within(alloc, checked, table, Way::Breadth, counts, states)? {
         Some(trace) => {
-            if trace.labels.len() < shortest.trace.labels.len() {
-                shortest.trace = trace;
-            } else {
-                drop(trace);
-            }
+            keep(checked, shortest, trace);
             Ok(true)
         }
         None => Ok(false),
@@ -191,7 +217,7 @@ fn search_number(
     {
         return Ok(false);
     }
-    search_choice(alloc, checked, table, shortest, counts.as_slice(), SOME)
+    search_choice(alloc, checked, table, shortest, counts.as_slice(), FEW)
 }
 
 // The same of all choices of so many calls.
@@ -252,8 +278,7 @@ fn lessen_with(
     requires { IsTraceOf checked.now.client shortest.old.trace }
     ensures { IsShorter checked.now.client shortest.old.trace shortest.new.trace }
 {
-    let labels = shortest.trace.labels.as_slice();
-    let counts = fewest(alloc, checked, table, labels, threads)?;
+    let counts = fewest(alloc, checked, table, shortest, threads)?;
     let few = few_of(total_of(&checked.client, counts.as_slice()));
     if !search_few(alloc, checked, table, shortest, threads, few)? {
         search_choice(alloc, checked, table, shortest, counts.as_slice(), MANY)?;

@@ -2,7 +2,7 @@ use Rattle.std.proofs.Common.{◌≡◌, ◌∙◌, ◌==◌, ap, sym}
 use Rattle.std.proofs.lemmas.Bool.{le-ltb}
 use Rattle.std.proofs.lemmas.Nat.Bits.{bit_at_above}
 use Rattle.tso_foot.specs.Masks.{has_some}
-use Rattle.tso_foot.proofs.ahead.has_some.Goals as goal
+use Rattle.tso_foot.proofs.masks.has_some.Goals as goal
 
 pub returns-else-k-lt16 : goal.returns-else-k-lt16
 returns-else-k-lt16 c =

@@ -1,0 +1,12 @@
+use Rattle.std.proofs.Common.{◌≡◌, ◌≤◌, ◌+◌, ◌*◌, ℕ}
+use Rattle.tso_parts.specs.Numbers.{Extends}
+use Rattle.tso_search.specs.Searched.{IsHunting}
+use Rattle.tso_explore.proofs.exploring.probe.Given as goal
+
+abbrev pub invariant-loop-probe : goal.invariant-loop-probe
+invariant-loop-probe l = record {
+  client : l.store.client ≡ l.checked.client;
+  hunting : IsHunting l.checked.client l.table l.limit l.store.states l.origins.items l.marks;
+  stays : Extends l.initial.store.states l.store.states;
+  room : l.store.kept ≤ l.initial.store.kept + 41943040 * l._probe;
+}

@@ -1,0 +1,9 @@
+pub mod OpeningLemmas
+pub mod PartLemmas
+pub mod MoveLemmas
+pub mod FreeLemmas
+pub mod ApartLemmas
+pub mod BeginLemmas
+pub mod CostLemmas
+pub mod RunLemmas
+pub mod CrossedLemmas

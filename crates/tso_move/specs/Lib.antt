@@ -1,0 +1,9 @@
+pub mod Own
+pub mod Openings
+pub mod Parts
+pub mod Free
+pub mod Begun
+pub mod Runs
+pub mod Crossed
+pub mod Cost
+pub mod Laws
