@@ -8,12 +8,12 @@ are ordered as Python orders them.
   state        ([word, ..], [thread, ..], [[call, ..], ..])
   thread       (core, [(place, word), ..])       core     (0,), (1, position, 15 words, flags, [count, ..]) or (2,)
   call         (kind, [count, ..], answer)       kind     (0, argument) or (1,)
-  end          (0, [choice, ..]) or (1, [entry, ..])
+  end          (0, [choice, ..]) or (1, [entry, ..]); at a crossing (0, [])
   choice       (actor, [reason, ..])             answer   (0,), (1,), (2,) or (3, value)
   entry        (thread, call, answer)
 """
 
-HEAD = b"TSOC"
+HEAD, CROSSINGS = b"TSOC", b"TSOX"
 WORD = (1 << 64) - 1
 POSITION, COUNT, FLAGS, MASK = 65_535, 255, 15, 65_535
 RECORDS, RECORDS_IN_A_LEAF, FORKS = 4_194_304, 64, 64
@@ -28,6 +28,7 @@ class Reader:
 
     def __init__(self, whole):
         self.whole, self.at, self.room, self.deepest = whole, 0, RECORDS, 0
+        self.crosses = whole.startswith(CROSSINGS)
         self.kept = {}
 
     def byte(self, cases):
@@ -77,13 +78,13 @@ class Reader:
 
     def table(self):
         """The head and the two lists of the table, of either version."""
-        if not self.whole.startswith(HEAD):
+        if not self.whole.startswith((HEAD, CROSSINGS)):
             raise Malformed("K01")
         self.at = len(HEAD)
-        version = self.byte(3)
+        version = self.byte(2 if self.crosses else 3)
         if version == 0:
             raise Malformed("K01")
-        item = self.masks if version == 1 else self.intervals
+        item = self.masks if version == 1 and not self.crosses else self.intervals
         return self.items(item), self.items(item)
 
     def masks(self):
@@ -146,7 +147,7 @@ class Reader:
 
     def end(self):
         if self.byte(2) == 0:
-            return 0, self.items(lambda: (self.number(), self.items(lambda: self.byte(6))))
+            return 0, [] if self.crosses else self.items(lambda: (self.number(), self.items(lambda: self.byte(6))))
         return 1, self.items(lambda: (self.number(), self.number(), self.answer(1)))
 
 
@@ -222,23 +223,25 @@ def state(it):
     return many(memory, number) + many(threads, thread) + many(calls, lambda list_: many(list_, call))
 
 
-def end(it):
+def end(it, crosses):
+    if it[0] == 0 and crosses:
+        return b"\x00"
     if it[0] == 0:
         return b"\x00" + many(it[1], lambda choice: number(choice[0]) + many(choice[1], lambda reason: bytes([reason])))
     return b"\x01" + many(it[1], lambda entry: pair(entry) + answer(entry[2]))
 
 
-def tree(it):
+def tree(it, crosses):
     if it[0] == 0:
-        return b"\x00" + many(it[1], lambda record: state(record[0]) + end(record[1]))
-    return b"\x01" + tree(it[1]) + state(it[2]) + tree(it[3])
+        return b"\x00" + many(it[1], lambda record: state(record[0]) + end(record[1], crosses))
+    return b"\x01" + tree(it[1], crosses) + state(it[2]) + tree(it[3], crosses)
 
 
-def spell(certificate):
-    """The bytes of a certificate."""
+def spell(certificate, head=HEAD):
+    """The bytes of a certificate, which begins with this head."""
     push, pop, grown = certificate
-    version = b"\x02" if any(len(it) == 3 for it in push + pop) else b"\x01"
-    return HEAD + version + many(push, item) + many(pop, item) + tree(grown)
+    version = b"\x02" if head == HEAD and any(len(it) == 3 for it in push + pop) else b"\x01"
+    return head + version + many(push, item) + many(pop, item) + tree(grown, head == CROSSINGS)
 
 
 def records(it):

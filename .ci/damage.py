@@ -267,8 +267,23 @@ def forks_of(tree):
     return [] if tree[0] == 0 else [tree, *forks_of(tree[1]), *forks_of(tree[3])]
 
 
+def other_intervals(rng, table):
+    """One interval of a table with another end, one list of cells with a cell less, or an item less."""
+    items = rng.choice([it for it in table if it])
+    item, kind = rng.choice(items), rng.randrange(4)
+    if kind == 0:
+        items.remove(item)
+    elif kind == 1 and item[1 + rng.randrange(2)]:
+        rng.choice([it for it in item[1:] if it]).pop()
+    else:
+        ends = rng.choice(item[0])
+        ends[rng.randrange(2)] = rng.choice((0, 1, ends[0], ends[1], certificates.WORD))
+
+
 def other_table(rng, table):
     """One mask of a table with another bit, an item more or less, or the same bit in all of them."""
+    if any(len(it) == 3 for part in table for it in part):
+        return other_intervals(rng, table)
     items = rng.choice([it for it in table if it] or [[[0, 0]]])
     kind = rng.randrange(4)
     bit = 1 << rng.choice((0, 0, 1, 1, 2, 3, 15, 16))
@@ -331,7 +346,7 @@ def forged(rng, whole, code, number):
     else:
         del records[number]
     certificate[2] = mended(rng, records)
-    return certificates.spell(certificate)
+    return certificates.spell(certificate, whole[:4])
 
 
 def damaged_certificate(rng, whole, other):
@@ -353,4 +368,4 @@ def damaged_certificate(rng, whole, other):
             leaf[1][at] = other_record(rng, leaf[1][at])
     else:
         certificate[2] = mended(rng, other_records(rng, certificates.records(certificate[2]), records))
-    return certificates.spell(certificate)
+    return certificates.spell(certificate, whole[:4])
