@@ -2,7 +2,8 @@
 
 import re
 
-REGISTERS = "rax rbx rcx rdx rsi rdi rbp r8 r9 r10 r11 r12 r13 r14 r15".split()
+from conditions import REGISTERS
+
 CONDITIONS = "e ne b ae be a l ge le g".split()
 OPERATIONS = "add sub and or xor cmp test".split()
 ARRAYS = "n head tail buf held x y item".split()
