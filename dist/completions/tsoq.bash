@@ -20,7 +20,7 @@ _tsoq() {
       return
       ;;
     *\ --form)
-      COMPREPLY=($(compgen -W '1 2' -- "$word"))
+      COMPREPLY=($(compgen -W '1 2 3' -- "$word"))
       return
       ;;
     *\ --mode)
@@ -34,7 +34,7 @@ _tsoq() {
     upgrade) options='--out --client --before --mode --verbose --help' ;;
     coverage) options='--workers --json --client --before --mode --source --verbose --help' ;;
     replay) options='--to --json --source --registers --buffers --brief --history --partial --html --client --before --mode --verbose --help' ;;
-    survey) options='--collect --clients --threads --calls --producers --consumers --before --mode --out --part --list --all --coverage --progress --json --workers --states --verbose --help' ;;
+    survey) options='--collect --clients --threads --calls --producers --consumers --before --mode --out --part --list --all --coverage --progress --json --workers --form --states --verbose --help' ;;
     fences) options='--add --json --client --before --mode --survey --threads --calls --producers --consumers --workers --states --verbose --help' ;;
     parse) options='--print --client --before --mode --verbose --help' ;;
     explain) options='--help' words='E01 E02 E03 E04 E05 E06 E07 E08 E09 E10 E11 E12 E13 E14 K01 K02 K03 K04 K05 K06 K07 K08 K09 K10 K11 K12 T01 T02 T03' ;;

@@ -10,7 +10,7 @@ complete -c tsoq -n __fish_use_subcommand -f -a parse -d 'reads a program, and s
 complete -c tsoq -n __fish_use_subcommand -f -a explain -d 'says what a code means, with a small text that is refused with it and the mended text'
 complete -c tsoq -n '__fish_seen_subcommand_from verify' -l out -d 'where the certificate is written, if it is to be' -r -F
 complete -c tsoq -n '__fish_seen_subcommand_from verify' -l trace -d 'where the trace is written, if it is to be' -r -F
-complete -c tsoq -n '__fish_seen_subcommand_from verify' -l form -d 'which version of certificates is written, 1 or 2 [default: 1]' -x -a '1 2'
+complete -c tsoq -n '__fish_seen_subcommand_from verify' -l form -d 'which kind of certificates is searched for, 1, 2 or 3 [default: 1]' -x -a '1 2 3'
 complete -c tsoq -n '__fish_seen_subcommand_from verify' -l workers -d 'how many workers search, 1 to 64 [default: 1]' -x
 complete -c tsoq -n '__fish_seen_subcommand_from verify' -l states -d 'how many states the search may meet, 1 to 4194304 [default: 4194304]' -x
 complete -c tsoq -n '__fish_seen_subcommand_from verify' -l stats -d 'says on standard error how much was met and written, and in what time'
@@ -67,6 +67,7 @@ complete -c tsoq -n '__fish_seen_subcommand_from survey' -l coverage -d 'prints 
 complete -c tsoq -n '__fish_seen_subcommand_from survey' -l progress -d 'says on standard error how far the survey has come'
 complete -c tsoq -n '__fish_seen_subcommand_from survey' -l json -d 'prints objects of JSON, one a line, in place of the lines'
 complete -c tsoq -n '__fish_seen_subcommand_from survey' -l workers -d 'how many workers search, a client each, 1 to 64 [default: 1]' -x
+complete -c tsoq -n '__fish_seen_subcommand_from survey' -l form -d 'which kind of certificates is searched for, 1, 2 or 3' -x -a '1 2 3'
 complete -c tsoq -n '__fish_seen_subcommand_from survey' -l states -d 'how many states the search may meet, 1 to 4194304 [default: 4194304]' -x
 complete -c tsoq -n '__fish_seen_subcommand_from survey' -l verbose -d 'says on standard error, behind the promised lines, why'
 complete -c tsoq -n '__fish_seen_subcommand_from fences' -l add -d 'how many fences are added at most to a client that is not accepted, 1 to 8 [default: 2]' -x

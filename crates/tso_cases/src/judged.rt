@@ -12,11 +12,11 @@ use tso_calls::{Failure, actor_of, before, behind, order_of, state_after, state_
 use tso_cert::Cert;
 use tso_choose::{Choice, Choices};
 use tso_flow::Checked;
-use tso_foot::{Table, build};
+use tso_foot::build;
 use tso_indep::Reason;
-use tso_judge::{Code, judge};
+use tso_judge::{Code, Whole, least_table};
 use tso_list::Short;
-use tso_rec::{End, Packed, Record};
+use tso_rec::{Basis, End, Grain, Packed, Record};
 use tso_state::{State, compare};
 
 // The state after the steps of actors, as `after e0 e0`, or the one that a text tells.
@@ -169,9 +169,21 @@ fn put_code(
 ) -> Result<(), Failure>
     requires { IsOrdered (tree_of cert.now) }
 {
-    let table = build(alloc, checked)?;
-    let judged = judge(alloc, checked, &table, cert, found);
-    drop(table);
+    let own = least_table(alloc, checked)?;
+    let basis = Basis {
+        grain: Grain::Steps,
+        table: build(alloc, checked)?,
+    };
+    let whole = Whole {
+        alloc,
+        checked,
+        basis: &basis,
+        own: &own,
+        tree: cert,
+    };
+    let judged = whole.judge(&found.state, &found.end);
+    drop(basis);
+    drop(own);
     match judged? {
         Some(code) => Ok(write!(out, "{code}")?),
         None => Ok(out.push_str("none")?),

@@ -9,9 +9,8 @@ use std::alloc::{AllocError, Global};
 use tso_calls::{Failure, behind, client_of, ensure};
 use tso_cert::{Cert, DecodeError, decode, encode};
 use tso_flow::Checked;
-use tso_foot::Table;
-use tso_judge::{Code, judge, judge_alone};
-use tso_rec::{Packed, Record};
+use tso_judge::{Code, Whole, judge_alone, least_table};
+use tso_rec::{Basis, Packed, Record};
 use tso_state::parts_fit;
 
 // The record with this number.
@@ -36,7 +35,7 @@ fn records_of(alloc: Global, leaf: &Packed) -> Result<Vec<Record>, AllocError> {
 fn judged_in(
     alloc: Global,
     checked: &Checked,
-    table: &Table,
+    basis: &Basis,
     cert: &Cert,
     found: &Record,
 ) -> Result<Option<Code>, Failure>
@@ -45,20 +44,30 @@ fn judged_in(
 {
     ensure(cert.len() == 1)?;
     ensure(cert.has(&found.state))?;
-    Ok(judge(alloc, checked, table, cert, found)?)
+    let own = least_table(alloc, checked)?;
+    let whole = Whole {
+        alloc,
+        checked,
+        basis,
+        own: &own,
+        tree: cert,
+    };
+    let judged = whole.judge(&found.state, &found.end);
+    drop(own);
+    Ok(judged?)
 }
 
 // The same, in a certificate that is made of it.
 fn judged_in_own(
     alloc: Global,
     checked: &Checked,
-    table: &Table,
+    basis: &Basis,
     found: &Record,
 ) -> Result<Option<Code>, Failure> {
     let mut own = Packed::new(alloc);
     own.push(found)?;
     let cert = Cert::Leaf(own);
-    let judged = judged_in(alloc, checked, table, &cert, found);
+    let judged = judged_in(alloc, checked, basis, &cert, found);
     drop(cert);
     judged
 }
@@ -67,7 +76,7 @@ fn judged_in_own(
 fn put_record(
     alloc: Global,
     checked: &Checked,
-    table: &Table,
+    basis: &Basis,
     leaf: &Packed,
     number: usize,
     found: &Record,
@@ -78,8 +87,9 @@ fn put_record(
     has_state(leaf, number, &found.state)?;
     let kept = leaf.parts_kept(number);
     let Record { state, end } = found;
-    let alone = judge_alone(alloc, checked, table, state, parts_fit(checked, state), end)?;
-    let in_own = judged_in_own(alloc, checked, table, found)?;
+    let fits = parts_fit(checked, state);
+    let alone = judge_alone(alloc, checked, basis.grain, &basis.table, state, fits, end)?;
+    let in_own = judged_in_own(alloc, checked, basis, found)?;
     Ok(write!(out, "{kept} {alone:?} {in_own:?}; ")?)
 }
 
@@ -87,7 +97,7 @@ fn put_record(
 fn put_all(
     alloc: Global,
     checked: &Checked,
-    table: &Table,
+    basis: &Basis,
     leaf: &Packed,
     records: &[Record],
     call: &str,
@@ -96,7 +106,7 @@ fn put_all(
     requires { leaf.now ≡ records.now }
 {
     for (number, found) in records.iter().enumerate() {
-        put_record(alloc, checked, table, leaf, number, found, out)?;
+        put_record(alloc, checked, basis, leaf, number, found, out)?;
     }
     put_numbers(alloc, checked, leaf, behind(call, ":"), out)
 }
@@ -105,13 +115,13 @@ fn put_all(
 fn put_leaf(
     alloc: Global,
     checked: &Checked,
-    table: &Table,
+    basis: &Basis,
     records: &[Record],
     call: &str,
     out: &mut String,
 ) -> Result<(), Failure> {
     let leaf = Packed::from_records(alloc, records)?;
-    let put = put_all(alloc, checked, table, &leaf, records, call, out);
+    let put = put_all(alloc, checked, basis, &leaf, records, call, out);
     drop(leaf);
     put
 }
@@ -120,7 +130,7 @@ fn put_leaf(
 fn put_cert(
     alloc: Global,
     checked: &Checked,
-    table: &Table,
+    basis: &Basis,
     cert: &Cert,
     call: &str,
     out: &mut String,
@@ -128,15 +138,15 @@ fn put_cert(
     match cert {
         Cert::Leaf(leaf) => {
             let records = records_of(alloc, leaf)?;
-            put_leaf(alloc, checked, table, &records, call, out)
+            put_leaf(alloc, checked, basis, &records, call, out)
         }
         Cert::Fork(..) => Err(Failure::Unreadable),
     }
 }
 
 // Whether a certificate is spelled so.
-fn ask_spelled(alloc: Global, table: &Table, cert: &Cert, bytes: &[u8]) -> Result<(), Failure> {
-    let spelled = encode(alloc, table, cert)?;
+fn ask_spelled(alloc: Global, basis: &Basis, cert: &Cert, bytes: &[u8]) -> Result<(), Failure> {
+    let spelled = encode(alloc, basis.grain, &basis.table, cert)?;
     ensure(spelled.as_slice() == bytes)
 }
 
@@ -144,14 +154,14 @@ fn ask_spelled(alloc: Global, table: &Table, cert: &Cert, bytes: &[u8]) -> Resul
 fn put_spelled(
     alloc: Global,
     checked: &Checked,
-    table: &Table,
+    basis: &Basis,
     cert: &Cert,
     bytes: &[u8],
     call: &str,
     out: &mut String,
 ) -> Result<(), Failure> {
-    ask_spelled(alloc, table, cert, bytes)?;
-    put_cert(alloc, checked, table, cert, call, out)
+    ask_spelled(alloc, basis, cert, bytes)?;
+    put_cert(alloc, checked, basis, cert, call, out)
 }
 
 // The same of a certificate that is read.
@@ -162,14 +172,14 @@ fn put_decoded(
     call: &str,
     out: &mut String,
 ) -> Result<(), Failure> {
-    let (table, cert) = match decode(alloc, bytes) {
+    let (basis, cert) = match decode(alloc, bytes) {
         Ok(found) => found,
         Err(DecodeError::Memory) => return Err(Failure::Memory),
         Err(DecodeError::Fault(_)) => return Err(Failure::Unreadable),
     };
-    let put = put_spelled(alloc, checked, &table, &cert, bytes, call, out);
+    let put = put_spelled(alloc, checked, &basis, &cert, bytes, call, out);
     drop(cert);
-    drop(table);
+    drop(basis);
     put
 }
 

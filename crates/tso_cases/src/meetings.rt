@@ -13,6 +13,7 @@ use tso_explore::{Outcome, explore};
 use tso_flow::Checked;
 use tso_foot::{Table as Footprints, build};
 use tso_pool::{Ending, search};
+use tso_rec::Grain;
 use tso_table::Table;
 
 /// The worker that comes first to a record waits there until another has come to a record of the other leaf, of two records each.
@@ -138,7 +139,15 @@ pub fn put_two_search<R: Threads + Wait + Sync>(
     let watch = AtTickets {
         meeting: Meeting::new(),
     };
-    let outcome = explore(rt, alloc, checked, workers_of(2)?, 4_194_304, &watch);
+    let outcome = explore(
+        rt,
+        alloc,
+        checked,
+        Grain::Steps,
+        workers_of(2)?,
+        4_194_304,
+        &watch,
+    );
     let name = name_of(&outcome);
     drop(outcome);
     out.push_str(name?)?;
@@ -158,7 +167,15 @@ pub fn put_search<R: Threads + Wait + Sync>(
         return Err(Failure::Unreadable);
     }
     let workers = workers_of(workers)?;
-    let outcome = explore(rt, alloc, checked, workers, limit as u32, &NoWatch);
+    let outcome = explore(
+        rt,
+        alloc,
+        checked,
+        Grain::Steps,
+        workers,
+        limit as u32,
+        &NoWatch,
+    );
     let name = name_of(&outcome);
     drop(outcome);
     out.push_str(name?)?;

@@ -8,6 +8,7 @@ use tso_calls::{Failure, Met, all_runs, ensure};
 use tso_cert::{NoWatch, Workers};
 use tso_explore::{Outcome, explore};
 use tso_flow::Checked;
+use tso_rec::Grain;
 
 // Whether a search has found a violation, and not a certificate.
 fn is_trace(outcome: &Outcome) -> Result<bool, Failure> {
@@ -28,7 +29,15 @@ fn is_violated<R: Threads + Wait + Sync>(
     let Some(workers) = Workers::new(1) else {
         return Err(Failure::Memory);
     };
-    let outcome = explore(rt, alloc, checked, workers, 4_194_304, &NoWatch);
+    let outcome = explore(
+        rt,
+        alloc,
+        checked,
+        Grain::Steps,
+        workers,
+        4_194_304,
+        &NoWatch,
+    );
     let told = is_trace(&outcome);
     drop(outcome);
     told

@@ -1,4 +1,5 @@
 pub mod CountLemmas
+pub mod FrontCode
 pub mod Opening
 pub mod TreeCode
 pub mod LimitPassed

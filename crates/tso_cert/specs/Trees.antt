@@ -3,6 +3,7 @@ use Rattle.std.specs.Prelude.{ℕ, zero, suc, ◌+◌, ◌≤◌, List, ◌∷�
 use Rattle.tso_code.specs.Fields.{list, ListFits}
 use Rattle.tso_code.specs.States.{state, StateFits}
 use Rattle.tso_rec.specs.Spelling.{a_record, RecordFits}
+use Rattle.tso_rec.specs.declared.basis.Grain.{Grain}
 use Rattle.tso_rec.specs.declared.record.Record.{Record}
 use Rattle.tso_state.specs.declared.state.State.{State}
 use Rattle.tso_cert.specs.declared.cert.Cert.{Cert, Leaf, Fork'}
@@ -27,14 +28,14 @@ record_count (leaf records) = length records
 record_count (fork left s right) = record_count left + record_count right
 
 -- 00, list of records; or 01, left tree, state, right tree
-abbrev pub spelling_of : Tree → List ℕ
-spelling_of (leaf records) = 0 ∷ list a_record records
-spelling_of (fork left s right) = 1 ∷ (spelling_of left ++ (state s ++ spelling_of right))
+abbrev pub spelling_of : Grain → Tree → List ℕ
+spelling_of g (leaf records) = 0 ∷ list (a_record g) records
+spelling_of g (fork left s right) = 1 ∷ (spelling_of g left ++ (state s ++ spelling_of g right))
 
--- each number is in its range
-abbrev pub TreeFits : Tree → Type 0
-TreeFits (leaf records) = ListFits RecordFits records
-TreeFits (fork left s right) = TreeFits left × StateFits s × TreeFits right
+-- each number is in its range, and at a crossing no actor is chosen
+abbrev pub TreeFits : Grain → Tree → Type 0
+TreeFits g (leaf records) = ListFits (RecordFits g) records
+TreeFits g (fork left s right) = TreeFits g left × StateFits s × TreeFits g right
 
 -- a leaf has at most 64 records, and at most so many forks are inside one another
 abbrev pub IsWithin : ℕ → Tree → Type 0

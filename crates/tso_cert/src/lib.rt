@@ -11,8 +11,8 @@ mod task;
 mod workers;
 
 pub use cert::Cert;
-pub use decoding::{MAGIC, decode, read_table, read_tree};
-pub use encoding::{encode, encode_before, write};
+pub use decoding::{decode, magic, read_front, read_tree};
+pub use encoding::{encode, encode_before, front_of, write};
 pub use fault::{DecodeError, Fault, WriteError};
 pub use intervals::{build_intervals, intervals_of, take_state};
 pub use task::{ALONE, Task, run_by};

@@ -14,6 +14,7 @@ use Rattle.tso_indep.specs.declared.reason.Reason.TheVariants as reasons
 use Rattle.tso_judge.specs.Judging.{IsJudgedAlone}
 use Rattle.tso_prog.specs.declared.client.Client.{Client}
 use Rattle.tso_rec.specs.Conditions.{AreMovers}
+use Rattle.tso_rec.specs.Bases.{by_steps}
 use Rattle.tso_rec.specs.declared.record.End.{End}
 use Rattle.tso_rec.specs.declared.record.End.TheVariants.{Choices, Order}
 use Rattle.tso_state.specs.Actors.{thread_of}
@@ -68,7 +69,7 @@ module _ (c : Client) (t : Table) (s : State) where
 
 -- a well-formed state with such an end meets all conditions by itself
 pub sure_met : (d c : Client) (t : Table) (states : List State) (n count : ℕ) (s : State) (e : End) → d ≡ c → slice_get states n ≡ Some s → count ≡ length s.threads
-    → IsSureEnd d states n count e → IsWellFormed c s → IsJudgedAlone c t s e None
+    → IsSureEnd d states n count e → IsWellFormed c s → IsJudgedAlone c (by_steps t) s e None
 sure_met d c t states n count s (Order order) same at all sure formed = absurd sure
 sure_met d c t states n count s (Choices choices) same at all sure formed =
     let x : Choice = sure.choice in
@@ -77,7 +78,7 @@ sure_met d c t states n count s (Choices choices) same at all sure formed =
     let here : lone_core d s i ≡ Some held.kind = subst (λ (u : State). lone_core d u i ≡ Some held.kind) (same_Some _ _ (sym held.core.at ∙ at)) held.core.core.kind in
     let lone : lone_core c s i ≡ Some held.kind = subst (λ (b : Client). lone_core b s i ≡ Some held.kind) same here in
     let own : kind_in c s x.actor ≡ Some held.kind = ap (kind_in c s) held.actor ∙ kind_is (kind_in c s (Exec i)) held.kind lone in
-    let P : List Choice → Type 0 = λ xs. IsJudgedAlone c t s (Choices xs) None in
+    let P : List Choice → Type 0 = λ xs. IsJudgedAlone c (by_steps t) s (Choices xs) None in
     subst P (sym sure.only) (record {
       well_formed = formed;
       fits = one_moves c t s x held.kind own;

@@ -1,5 +1,5 @@
--- The records of a valid tree are closed under persistent choices, so each end that a run reaches is met by a kept end with
--- no fault and an order.
+-- The records of a valid tree of steps are closed under persistent choices, so each end that a run reaches is met by a kept end with
+-- no fault and an order. Those of one of crossings are crossings and ends to which free actors lead.
 use Rattle.std.proofs.Common.{◌≡◌, ◌∙◌, ℕ, ◌++◌, ◌⊎◌, inl, inr, Bool, true, false, List, [], ◌∷◌, length, map, get_or, Option, None, Some, slice_get, slice_index_or, zero, suc, refl, sym, ap, subst, arith}
 use Rattle.std.specs.Prelude.{All, Contains, is_some, IsTrue}
 use Rattle.std.specs.Option.{option_map}
@@ -19,6 +19,12 @@ use Rattle.tso_fifo.specs.Orders.{order_view}
 use Rattle.tso_flow.specs.declared.location.ProcedureKind.{ProcedureKind}
 use Rattle.tso_foot.specs.declared.table.Table.{Table}
 use Rattle.tso_foot.specs.Within.{IsWithin}
+use Rattle.tso_foot.specs.declared.table.ArrayTable.{ArrayTable}
+use Rattle.tso_judge.proofs.CrossingLemmas.{no_move_is_over, over_has_no_move}
+use Rattle.tso_move.proofs.CrossedLemmas.{crossed_runs_are_good}
+use Rattle.tso_move.specs.Crossed as crossed
+use Rattle.tso_move.specs.Crossed.{AreCrossings, HasNoMove, IsMetAfter}
+use Rattle.tso_move.specs.Runs.{HasMove}
 use Rattle.tso_hist.specs.Views.{history_view}
 use Rattle.tso_rec.specs.Conditions.{AreMet, HasNoStopped, IsKeptAfter, SuccessorsAreKept}
 use Rattle.tso_machine.proofs.Ranked.{ranked}
@@ -37,19 +43,25 @@ use Rattle.tso_model.specs.Faults.{IsStoppedIn}
 use Rattle.tso_model.specs.Labels.{after_labels, machine_of}
 use Rattle.tso_model.specs.Linear.{IsOrder, Placed}
 use Rattle.tso_model.specs.Objects.{Queue}
-use Rattle.tso_model.specs.Reduce.{Has, Over, Persistent, Steps}
+use Rattle.tso_model.specs.Reduce.{Has, Over, Persistent}
+use Rattle.tso_model.specs.Reduce as reduce
 use Rattle.tso_model.specs.States as model
 use Rattle.tso_model.specs.States.{first_history}
 use Rattle.tso_model.specs.Steps as steps
 use Rattle.tso_model.specs.Strictness.{AtLeast}
 use Rattle.tso_prog.specs.Views.{mode_view}
 use Rattle.tso_prog.specs.declared.client.Client.{Client}
+use Rattle.tso_rec.specs.Bases.{basis, by_steps}
+use Rattle.tso_rec.specs.declared.basis.Basis.{Basis}
+use Rattle.tso_rec.specs.declared.basis.Grain.{Grain}
+use Rattle.tso_rec.specs.declared.basis.Grain.TheVariants.{Steps, Crossings}
 use Rattle.tso_rec.specs.declared.record.End.{End}
 use Rattle.tso_rec.specs.declared.record.End.TheVariants.{Choices, Order}
 use Rattle.tso_rec.specs.declared.record.Record.{Record}
 use Rattle.tso_state.proofs.ViewLemmas.{slice_get-threads_view}
 use Rattle.tso_state.specs.Actors.{actor_of}
 use Rattle.tso_state.specs.Views.{core_view, running_procedure, state_of, thread_view}
+use Rattle.tso_state.specs.WellFormed.{IsWellFormed}
 use Rattle.tso_state.specs.declared.actor.Actor.{Actor}
 use Rattle.tso_state.specs.declared.actor.Actor.TheVariants.{Exec, Drain}
 use Rattle.tso_state.specs.declared.state.Core.{Core}
@@ -116,14 +128,14 @@ had (x ∷ rest) a (inr h) = let (k, y, at, is) = had rest a h in (suc k, y, at,
 
 -- ---- one record
 
-module _ (c : Client) (t : Table) (tree : Tree) (valid : IsValidTree c t tree) where
+module _ (c : Client) (t : Table) (tree : Tree) (valid : IsValidTree c (by_steps t) tree) where
   abbrev Kept : model.State Activation → Type 0
   Kept m = (s : State) × Contains (tree_states tree) s × (m ≡ state_of s)
 
   record IsKept (m : model.State Activation) : Type 0 where
     it : Record
     is : m ≡ state_of it.state
-    valid_record : IsValidRecord c t (tree_states tree) it
+    valid_record : IsValidRecord c (by_steps t) (tree_states tree) it
 
   record_of : (m : model.State Activation) → Kept m → IsKept m
   record_of m (s, inside, e) =
@@ -135,7 +147,7 @@ module _ (c : Client) (t : Table) (tree : Tree) (valid : IsValidTree c t tree) w
       ((b : steps.Actor) (m' : model.State Activation) → Has (a ∷ rest) b → steps.step (program_of c) m b ≡ Some m' → Kept m')
 
   -- chosen actors of a record
-  chosen : (s : State) (choices : List Choice) → AreMet c t (SuccessorsAreKept c (tree_states tree) s (Choices choices)) (IsWithin t s) s (Choices choices) → Closed (state_of s)
+  chosen : (s : State) (choices : List Choice) → AreMet c (by_steps t) (SuccessorsAreKept c (by_steps t) (tree_states tree) s (Choices choices)) (IsWithin t s) s (Choices choices) → Closed (state_of s)
   chosen s [] met = absurd (let more = met.fits.some in omega (arith, more))
   chosen s (x ∷ rest) met =
       let choices = x ∷ rest in
@@ -156,7 +168,7 @@ module _ (c : Client) (t : Table) (tree : Tree) (valid : IsValidTree c t tree) w
       )
 
   closed_by : (s : State) (e : End) (a : steps.Actor) (m' : model.State Activation) → steps.step (program_of c) (state_of s) a ≡ Some m'
-      → AreMet c t (SuccessorsAreKept c (tree_states tree) s e) (IsWithin t s) s e → Closed (state_of s)
+      → AreMet c (by_steps t) (SuccessorsAreKept c (by_steps t) (tree_states tree) s e) (IsWithin t s) s e → Closed (state_of s)
   closed_by s (Choices choices) a m' step met = chosen s choices met
   closed_by s (Order order) a m' step met =
       let (b, is) = mover a in
@@ -187,7 +199,7 @@ module _ (c : Client) (t : Table) (tree : Tree) (valid : IsValidTree c t tree) w
       let (x, there, stopped) = stopped_thread (running_procedure (slice_index_or s.history i [])) (slice_get s.threads i) th (sym (slice_get-threads_view s.history s.threads i) ∙ at) is in
       none i (record { thread = x; at = there; stopped = stopped })
 
-  end_by : (s : State) (e : End) → Over (steps.step (program_of c)) (state_of s) → AreMet c t (SuccessorsAreKept c (tree_states tree) s e) (IsWithin t s) s e → IsGoodEnd (state_of s)
+  end_by : (s : State) (e : End) → Over (steps.step (program_of c)) (state_of s) → AreMet c (by_steps t) (SuccessorsAreKept c (by_steps t) (tree_states tree) s e) (IsWithin t s) s e → IsGoodEnd (state_of s)
   end_by s (Choices []) over met = absurd (let more = met.fits.some in omega (arith, more))
   end_by s (Choices (x ∷ rest)) over met = absurd (let yes = all_at (λ (z : Choice). IsTrue (is_enabled c s z.actor)) (x ∷ rest) 0 x met.fits.enabled refl in off c s x.actor (over (actor_of x.actor)) yes)
   end_by s (Order order) over met = (no_stopped s met.unstopped, (order_view (history_view s.history) order, met.explained))
@@ -198,7 +210,7 @@ module _ (c : Client) (t : Table) (tree : Tree) (valid : IsValidTree c t tree) w
       subst IsGoodEnd (sym r.is) (end_by r.it.state r.it.end (subst (Over (steps.step (program_of c))) r.is over) r.valid_record)
 
   -- an end that compact steps reach has no stopped thread, and an order
-  reached_end : (actors : List steps.Actor) (end : model.State Activation) → Steps (steps.step (program_of c)) (initial_of c) actors end → Over (steps.step (program_of c)) end → IsGoodEnd end
+  reached_end : (actors : List steps.Actor) (end : model.State Activation) → reduce.Steps (steps.step (program_of c)) (initial_of c) actors end → Over (steps.step (program_of c)) end → IsGoodEnd end
   reached_end actors end path over =
       let first : Kept (initial_of c) = (valid.initial.initial, valid.initial.there, sym valid.initial.first) in
       let (u, k, z, h) = reduces (steps.step (program_of c)) AtLeast Kept
@@ -207,8 +219,8 @@ module _ (c : Client) (t : Table) (tree : Tree) (valid : IsValidTree c t tree) w
       let (up, (order, l)) = good_end u k z in
       ((λ i (th, at, is). up i (th, ap (λ ts. slice_get ts i) h.threads ∙ at, is)), (order, orders_serve_looser Activation (Queue (mode_view c.mode) c.capacity) u end order h l))
 
-  pub each_run_is_good : EachRunIsGood c
-  each_run_is_good ls m run =
+  steps_are_good : EachRunIsGood c
+  steps_are_good ls m run =
       let p = program_of c in
       let object = Queue (mode_view c.mode) c.capacity in
       let memory = first_memory c.arrays in
@@ -217,3 +229,54 @@ module _ (c : Client) (t : Table) (tree : Tree) (valid : IsValidTree c t tree) w
       let tells = histories_tell Activation p memory (ls ++ x.more) (machine_of x.state) x.run in
       let whole : IsOrder object (after_labels (first_history p) (ls ++ x.more)) order = subst (λ h. IsOrder object h order) x.same l in
       ((λ i f. up i (x.faults i f)), beginnings_are_linearizable Activation p memory ls m object x.more run (order, told object _ (events_of (ls ++ x.more)) order tells whole))
+
+-- ---- certificates of crossings
+
+module _ (c : Client) (t : Table) (tree : Tree) (valid : IsValidTree c (basis Crossings t) tree) where
+  abbrev own : ArrayTable
+  own = valid.initial.own
+
+  -- the record of a state
+  record At (s : State) : Type 0 where
+    it : Record
+    is : it.state ≡ s
+    valid_record : IsValidRecord c (basis Crossings t) (tree_states tree) it
+
+  at_state : (s : State) → Contains (tree_states tree) s → At s
+  at_state s inside = let (k, r, at, is) = contained (λ (x : Record). x.state) (records_of tree) s inside in record { it = r; is = is; valid_record = valid.records k r at }
+
+  moves_by : (s : State) (e : End) (a : Actor) → AreMet c (basis Crossings t) (SuccessorsAreKept c (basis Crossings t) (tree_states tree) s e) (IsWithin t s) s e → HasMove c own s a → IsMetAfter c own t (tree_states tree) s a
+  moves_by s (Choices choices) a met has = met.successors own valid.initial.least a has
+  moves_by s (Order order) a met has = absurd (over_has_no_move c own s met.fits a has)
+
+  ends_by : (s : State) (e : End) → AreMet c (basis Crossings t) (SuccessorsAreKept c (basis Crossings t) (tree_states tree) s e) (IsWithin t s) s e → HasNoMove c own s → crossed.IsGoodEnd c s
+  ends_by s (Choices choices) met none = absurd (met.fits (no_move_is_over c own s none))
+  ends_by s (Order order) met none = record {
+    unstopped = λ i thread at stopped. met.unstopped i (record { thread = thread; at = at; stopped = stopped });
+    explained = (order_view (history_view s.history) order, met.explained);
+  }
+
+  are_crossings : AreCrossings c own t (tree_states tree)
+  are_crossings = record {
+    closed_own = valid.initial.least.closed;
+    closed = valid.closed;
+    first = valid.initial.initial;
+    is_first = valid.initial.first;
+    met = valid.initial.met;
+    well_formed = λ s inside. let x = at_state s inside in subst (IsWellFormed c) x.is x.valid_record.well_formed;
+    moves = λ s a inside.
+        let x = at_state s inside in
+        subst (λ (u : State). HasMove c own u a → IsMetAfter c own t (tree_states tree) u a) x.is (moves_by x.it.state x.it.end a x.valid_record);
+    ends = λ s inside.
+        let x = at_state s inside in
+        subst (λ (u : State). HasNoMove c own u → crossed.IsGoodEnd c u) x.is (ends_by x.it.state x.it.end x.valid_record);
+  }
+
+-- ---- of either grain
+
+by_grain : (c : Client) (g : Grain) (t : Table) (tree : Tree) → IsValidTree c (basis g t) tree → EachRunIsGood c
+by_grain c Steps t tree valid = steps_are_good c t tree valid
+by_grain c Crossings t tree valid = crossed_runs_are_good c (own c t tree valid) t (tree_states tree) (are_crossings c t tree valid)
+
+pub each_run_is_good : (c : Client) (b : Basis) (tree : Tree) → IsValidTree c b tree → EachRunIsGood c
+each_run_is_good c b tree valid = by_grain c b.grain b.table tree valid

@@ -10,9 +10,10 @@ use Rattle.tso_compact.specs.Plans.{IsStep}
 use Rattle.tso_foot.specs.Within.{IsWithin}
 use Rattle.tso_foot.specs.declared.table.Table.{Table}
 use Rattle.tso_judge.proofs.JudgeLemmas.{all_met, alone_first, not_kept, not_within}
+use Rattle.tso_rec.specs.Bases.{by_steps}
 use Rattle.tso_rec.specs.Conditions.{IsKeptAfter, SuccessorsAreKept}
 use Rattle.tso_judge.specs.Judging.{IsJudgedAlone}
-use Rattle.tso_judge.specs.Valid.{HasInitial}
+use Rattle.tso_judge.specs.Valid.{ContainsInitial}
 use Rattle.tso_judge.specs.declared.code.Code.{Code}
 use Rattle.tso_judge.specs.declared.code.Code.TheVariants as faults
 use Rattle.tso_prog.specs.declared.client.Client.{Client}
@@ -34,10 +35,10 @@ contains_at xs x (k, lt, is) = (k, slice_get-get_or xs k x lt ∙ ap Some is)
 
 -- ---- the initial state
 
-pub initial_found : (c : Client) (states : List State) (s : State) (n : ℕ) → state_of s ≡ initial_of c → slice_get states n ≡ Some s → HasInitial c states
+pub initial_found : (c : Client) (states : List State) (s : State) (n : ℕ) → state_of s ≡ initial_of c → slice_get states n ≡ Some s → ContainsInitial c states
 initial_found c states s n first at = record { initial = s; first = first; there = is_there states s n at }
 
-pub initial_lost : (c : Client) (states : List State) (s : State) → state_of s ≡ initial_of c → IsNowhere states s → HasInitial c states → ⊥
+pub initial_lost : (c : Client) (states : List State) (s : State) → state_of s ≡ initial_of c → IsNowhere states s → ContainsInitial c states → ⊥
 initial_lost c states s first nowhere h = let (n, at) = contains_at states s (initial_there c states s first h) in nowhere n at
 
 -- ---- successors
@@ -58,32 +59,32 @@ module _ (c : Client) (states : List State) (n : ℕ) where
     from_after : (a : Actor) → IsKeptAfter c states s a → IsKeptFrom c states n a
     from_after a k = let (m, there) = contains_at states k.after k.kept in record { number = m; kept = record { from = s; to = k.after; at = at; step = k.step; number = there } }
 
-    are_kept : (e : End) → AreKeptFrom c states n e → SuccessorsAreKept c states s e
-    are_kept (Choices choices) kept = λ k d lt. after_from _ (kept k d lt)
-    are_kept (Order order) kept = tt
+    are_kept : (t : Table) (e : End) → AreKeptFrom c states n e → SuccessorsAreKept c (by_steps t) states s e
+    are_kept t (Choices choices) kept = λ k d lt. after_from _ (kept k d lt)
+    are_kept t (Order order) kept = tt
 
-    kept_are : (e : End) → SuccessorsAreKept c states s e → AreKeptFrom c states n e
-    kept_are (Choices choices) kept = λ k d lt. from_after _ (kept k d lt)
-    kept_are (Order order) kept = tt
+    kept_are : (t : Table) (e : End) → SuccessorsAreKept c (by_steps t) states s e → AreKeptFrom c states n e
+    kept_are t (Choices choices) kept = λ k d lt. from_after _ (kept k d lt)
+    kept_are t (Order order) kept = tt
 
   -- ---- one record
 
   module _ (t : Table) (view : State) (e : End) (found : slice_get states n ≡ Some view) where
-    alone_at : (s : State) (code : Option Code) → slice_get states n ≡ Some s → IsJudgedAlone c t view e code → IsJudgedAlone c t s e code
-    alone_at s code at alone = subst (λ v. IsJudgedAlone c t v e code) (same_Some view s (sym found ∙ at)) alone
+    alone_at : (s : State) (code : Option Code) → slice_get states n ≡ Some s → IsJudgedAlone c (by_steps t) view e code → IsJudgedAlone c (by_steps t) s e code
+    alone_at s code at alone = subst (λ v. IsJudgedAlone c (by_steps t) v e code) (same_Some view s (sym found ∙ at)) alone
 
-    pub fails_alone : (code : Code) → IsJudgedAlone c t view e (Some code) → IsJudgedAt c t states n e (Some code)
-    fails_alone code alone s at = alone_first c t states s e code (alone_at s (Some code) at alone)
+    pub fails_alone : (code : Code) → IsJudgedAlone c (by_steps t) view e (Some code) → IsJudgedAt c t states n e (Some code)
+    fails_alone code alone s at = alone_first c (by_steps t) states s e code (alone_at s (Some code) at alone)
 
     within_at : (s : State) → slice_get states n ≡ Some s → IsWithin t view → IsWithin t s
     within_at s at within = subst (IsWithin t) (same_Some view s (sym found ∙ at)) within
 
-    pub meets_all : IsJudgedAlone c t view e None → AreKeptFrom c states n e → IsWithin t view → IsJudgedAt c t states n e None
-    meets_all alone kept within s at = all_met c t states s e (alone_at s None at alone) (are_kept s at e kept) (within_at s at within)
+    pub meets_all : IsJudgedAlone c (by_steps t) view e None → AreKeptFrom c states n e → IsWithin t view → IsJudgedAt c t states n e None
+    meets_all alone kept within s at = all_met c (by_steps t) states s e (alone_at s None at alone) (are_kept s at t e kept) (within_at s at within)
 
-    pub lies_elsewhere : IsJudgedAlone c t view e None → AreKeptFrom c states n e → (IsWithin t view → ⊥) → IsJudgedAt c t states n e (Some faults.K12)
+    pub lies_elsewhere : IsJudgedAlone c (by_steps t) view e None → AreKeptFrom c states n e → (IsWithin t view → ⊥) → IsJudgedAt c t states n e (Some faults.K12)
     lies_elsewhere alone kept fails s at =
-        not_within c t states s e (alone_at s None at alone) (are_kept s at e kept) (λ w. fails (subst (IsWithin t) (same_Some s view (sym at ∙ found)) w))
+        not_within c (by_steps t) states s e (alone_at s None at alone) (are_kept s at t e kept) (λ w. fails (subst (IsWithin t) (same_Some s view (sym at ∙ found)) w))
 
-    pub fails_among : IsJudgedAlone c t view e None → (AreKeptFrom c states n e → ⊥) → IsJudgedAt c t states n e (Some faults.K08)
-    fails_among alone fails s at = not_kept c t states s e (alone_at s None at alone) (λ k. fails (kept_are s at e k))
+    pub fails_among : IsJudgedAlone c (by_steps t) view e None → (AreKeptFrom c states n e → ⊥) → IsJudgedAt c t states n e (Some faults.K08)
+    fails_among alone fails s at = not_kept c (by_steps t) states s e (alone_at s None at alone) (λ k. fails (kept_are s at t e k))

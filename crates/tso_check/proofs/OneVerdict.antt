@@ -9,7 +9,7 @@ use Rattle.tso_judge.specs.Valid.{IsValidCertificate, IsValidTree}
 use Rattle.tso_check.specs.Verdicts.{IsFault, IsFirstBadRecord, IsTreeFault, IsVerdict, no_certificate, no_initial, not_closed, not_ordered, of_record, of_tree, past_limit}
 use Rattle.tso_check.specs.declared.verdict.Verdict.{Verdict}
 use Rattle.tso_check.specs.declared.verdict.Verdict.TheVariants.{Accepted, Rejected}
-use Rattle.tso_foot.specs.declared.table.Table.{Table}
+use Rattle.tso_rec.specs.declared.basis.Basis.{Basis}
 use Rattle.tso_foot.specs.Within.{IsWithin}
 use Rattle.tso_judge.proofs.OneFault.{not_both, one_fault}
 use Rattle.tso_rec.specs.Conditions.{SuccessorsAreKept}
@@ -21,30 +21,30 @@ use Rattle.tso_state.specs.declared.state.State.{State}
 
 -- ---- records
 
-module _ (c : Client) (t : Table) (states : List State) (records : List Record) where
+module _ (c : Client) (t : Basis) (states : List State) (records : List Record) where
   one_bad : (m n : ℕ) (j k : Code) → IsFirstBadRecord c t states records m j → IsFirstBadRecord c t states records n k → (m ≡ n) × (j ≡ k)
   one_bad m n j k f g = elim (cases_lt m n) [
-    | inl less ↦ absurd (not_both c t (SuccessorsAreKept c states f.bad.state f.bad.end) (IsWithin t f.bad.state) f.bad.state f.bad.end j (g.before m f.bad less f.at) f.fault)
+    | inl less ↦ absurd (not_both c t (SuccessorsAreKept c t states f.bad.state f.bad.end) (IsWithin t.table f.bad.state) f.bad.state f.bad.end j (g.before m f.bad less f.at) f.fault)
     | inr ge ↦ elim (cases_lt n m) [
-      | inl more ↦ absurd (not_both c t (SuccessorsAreKept c states g.bad.state g.bad.end) (IsWithin t g.bad.state) g.bad.state g.bad.end k (f.before n g.bad more g.at) g.fault)
+      | inl more ↦ absurd (not_both c t (SuccessorsAreKept c t states g.bad.state g.bad.end) (IsWithin t.table g.bad.state) g.bad.state g.bad.end k (f.before n g.bad more g.at) g.fault)
       | inr le ↦
           let same : m ≡ n = omega (arith, ge, le) in
           let bad : f.bad ≡ g.bad = same_Some f.bad g.bad (sym f.at ∙ ap (slice_get records) same ∙ g.at) in
-          let there : IsFirstFault c t (SuccessorsAreKept c states g.bad.state g.bad.end) (IsWithin t g.bad.state) g.bad.state g.bad.end j =
-          subst (λ (r : Record). IsFirstFault c t (SuccessorsAreKept c states r.state r.end) (IsWithin t r.state) r.state r.end j) bad f.fault in
-          (same, one_fault c t (SuccessorsAreKept c states g.bad.state g.bad.end) (IsWithin t g.bad.state) g.bad.state g.bad.end j k there g.fault)
+          let there : IsFirstFault c t (SuccessorsAreKept c t states g.bad.state g.bad.end) (IsWithin t.table g.bad.state) g.bad.state g.bad.end j =
+          subst (λ (r : Record). IsFirstFault c t (SuccessorsAreKept c t states r.state r.end) (IsWithin t.table r.state) r.state r.end j) bad f.fault in
+          (same, one_fault c t (SuccessorsAreKept c t states g.bad.state g.bad.end) (IsWithin t.table g.bad.state) g.bad.state g.bad.end j k there g.fault)
     ]
   ]
 
 -- ---- trees
 
-module _ (c : Client) (t : Table) (tree : Tree) where
+module _ (c : Client) (t : Basis) (tree : Tree) where
   no_tree_fault : (code : Code) (place : Option ℕ) → IsValidTree c t tree → IsTreeFault c t tree code place → ⊥
   no_tree_fault code place v (not_ordered fails) = fails v.ordered
   no_tree_fault code place v (not_closed o fails) = fails v.closed
   no_tree_fault code place v (no_initial o d fails) = fails v.initial
   no_tree_fault code place v (of_record code' n o d i f) =
-      not_both c t (SuccessorsAreKept c (tree_states tree) f.bad.state f.bad.end) (IsWithin t f.bad.state) f.bad.state f.bad.end code' (v.records n f.bad f.at) f.fault
+      not_both c t (SuccessorsAreKept c t (tree_states tree) f.bad.state f.bad.end) (IsWithin t.table f.bad.state) f.bad.state f.bad.end code' (v.records n f.bad f.at) f.fault
 
   one_tree_fault : (j k : Code) (m n : Option ℕ) → IsTreeFault c t tree j m → IsTreeFault c t tree k n → Rejected j m ≡ Rejected k n
   one_tree_fault j k m n (not_ordered fails1) (not_ordered fails2) = refl
@@ -67,11 +67,11 @@ module _ (c : Client) (t : Table) (tree : Tree) where
 -- ---- verdicts
 
 no_fault : (c : Client) (bytes : List ℕ) (code : Code) (place : Option ℕ) → IsValidCertificate c bytes → IsFault c bytes code place → ⊥
-no_fault c bytes code place v (no_certificate fails) = fails.0 v.table v.tree v.spelled v.within
-no_fault c bytes code place v (past_limit p) = unique.not_both bytes v.table v.tree v.spelled v.within p
+no_fault c bytes code place v (no_certificate fails) = fails.0 v.basis v.tree v.spelled v.within
+no_fault c bytes code place v (past_limit p) = unique.not_both bytes v.basis v.tree v.spelled v.within p
 no_fault c bytes code place v (of_tree code' place' t tree spelled within f) =
-    let (table, same) = unique.one_value bytes v.table t v.tree tree v.spelled v.within spelled within in
-    no_tree_fault c t tree code' place' (subst (λ u. IsValidTree c u tree) table (subst (λ x. IsValidTree c v.table x) same v.valid)) f
+    let (table, same) = unique.one_value bytes v.basis t v.tree tree v.spelled v.within spelled within in
+    no_tree_fault c t tree code' place' (subst (λ u. IsValidTree c u tree) table (subst (λ x. IsValidTree c v.basis x) same v.valid)) f
 
 one_rejection : (c : Client) (bytes : List ℕ) (j k : Code) (m n : Option ℕ) → IsFault c bytes j m → IsFault c bytes k n → Rejected j m ≡ Rejected k n
 one_rejection c bytes j k m n (no_certificate fails) (no_certificate other) = refl

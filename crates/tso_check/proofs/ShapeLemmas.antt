@@ -9,18 +9,18 @@ use Rattle.tso_cert.specs.declared.fault.Fault.TheVariants as limits
 use Rattle.tso_check.specs.Verdicts.{IsVerdict, no_certificate, past_limit}
 use Rattle.tso_check.specs.declared.verdict.Verdict.{Verdict}
 use Rattle.tso_check.specs.declared.verdict.Verdict.TheVariants.{Rejected}
-use Rattle.tso_foot.specs.declared.table.Table.{Table}
+use Rattle.tso_rec.specs.declared.basis.Basis.{Basis}
 use Rattle.tso_judge.specs.declared.code.Code.TheVariants as faults
 use Rattle.tso_prog.specs.declared.client.Client.{Client}
 use Rattle.tso_skim.specs.Skips.{fault_in}
 
-abbrev faulted : Fault → Result (Table × Tree) Fault
+abbrev faulted : Fault → Result (Basis × Tree) Fault
 faulted f = Err f
 
-abbrev decoded : Table → Tree → Result (Table × Tree) Fault
+abbrev decoded : Basis → Tree → Result (Basis × Tree) Fault
 decoded t tree = Ok (t, tree)
 
-fault_is : (r : Result (Table × Tree) Fault) (f : Fault) → Some f ≡ fault_in r → r ≡ faulted f
+fault_is : (r : Result (Basis × Tree) Fault) (f : Fault) → Some f ≡ fault_in r → r ≡ faulted f
 fault_is (Ok x) f h = absurd cc
 fault_is (Err g) f h = cc
 

@@ -11,7 +11,7 @@ use Rattle.tso_check.specs.Halved.{AreFrom}
 use Rattle.tso_check.specs.Spans.{AreHalves, IsSpanJudged, IsWhole, Span, whole_span}
 use Rattle.tso_check.specs.Verdicts.{AreJudged, IsTreeFault, of_record}
 use Rattle.tso_check.specs.declared.judging.Bad.{Bad}
-use Rattle.tso_foot.specs.declared.table.Table.{Table}
+use Rattle.tso_rec.specs.declared.basis.Basis.{Basis}
 use Rattle.tso_judge.specs.Valid.{IsValidTree}
 use Rattle.tso_prog.specs.declared.client.Client.{Client}
 use Rattle.tso_rec.specs.Records.{states_of}
@@ -52,9 +52,9 @@ halves_right whole left right (Some bad) h one two =
     }
 
 -- a part is cut where its left half ends
-pub cut : (c : Client) (t : Table) (all : List Record) (start whole left right n : ℕ) → whole ≡ left + right → n ≡ left
-    → AreHalves (record { client = c; table = t; records = all; from = start; to = start + whole }) (record { client = c; table = t; records = all; from = start; to = start + left })
-    (record { client = c; table = t; records = all; from = start + n; to = start + n + right })
+pub cut : (c : Client) (t : Basis) (all : List Record) (start whole left right n : ℕ) → whole ≡ left + right → n ≡ left
+    → AreHalves (record { client = c; basis = t; records = all; from = start; to = start + whole }) (record { client = c; basis = t; records = all; from = start; to = start + left })
+    (record { client = c; basis = t; records = all; from = start + n; to = start + n + right })
 cut c t all start whole left right n both count =
     let from : start + n ≡ start + left = omega (arith, count) in
     let to : start + n + right ≡ start + whole = omega (arith, count, both) in
@@ -63,12 +63,12 @@ cut c t all start whole left right n both count =
       begins = omega arith;
       ends = omega (arith, both);
       left_is = refl;
-      right_is = λ i. record { client = c; table = t; records = all; from = from i; to = to i };
+      right_is = λ i. record { client = c; basis = t; records = all; from = from i; to = to i };
     }
 
 -- ---- the verdict
 
-pub all_valid : (c : Client) (t : Table) (tree : Tree) → IsWhole c t tree → IsSpanJudged (whole_span c t tree) None → IsValidTree c t tree
+pub all_valid : (c : Client) (t : Basis) (tree : Tree) → IsWhole c t tree → IsSpanJudged (whole_span c t tree) None → IsValidTree c t tree
 all_valid c t tree whole judged = record {
   ordered = whole.ordered;
   closed = whole.closed;
@@ -76,7 +76,7 @@ all_valid c t tree whole judged = record {
   records = λ k r at. let lt = slice_get_within (records_of tree) k r at in let count = count_is tree in judged k r (omega arith) (omega (arith, lt, count)) at;
 }
 
-pub one_bad : (c : Client) (t : Table) (tree : Tree) (bad : Bad) → IsWhole c t tree → IsSpanJudged (whole_span c t tree) (Some bad) → IsTreeFault c t tree bad.code (Some bad.place)
+pub one_bad : (c : Client) (t : Basis) (tree : Tree) (bad : Bad) → IsWhole c t tree → IsSpanJudged (whole_span c t tree) (Some bad) → IsTreeFault c t tree bad.code (Some bad.place)
 one_bad c t tree bad whole judged =
     of_record bad.code bad.place whole.ordered whole.closed whole.initial (record { bad = judged.found; at = judged.at; before = λ n r lt at. judged.before n r (omega arith) lt at; fault = judged.fault })
 
@@ -91,8 +91,8 @@ in_part all part start n r from begins ends at =
     let is : x ≡ r = same_Some x r (sym (from.each (n - start) x there) ∙ ap (slice_get all) same ∙ at) in
     (n - start, same, there ∙ ap Some is)
 
-pub part_judged : (c : Client) (t : Table) (all part : List Record) (start to : ℕ) (found : Option Bad) → AreFrom all start part → to ≡ start + length part → AreJudged c t (states_of all) part start found
-    → IsSpanJudged (record { client = c; table = t; records = all; from = start; to = to }) found
+pub part_judged : (c : Client) (t : Basis) (all part : List Record) (start to : ℕ) (found : Option Bad) → AreFrom all start part → to ≡ start + length part → AreJudged c t (states_of all) part start found
+    → IsSpanJudged (record { client = c; basis = t; records = all; from = start; to = to }) found
 part_judged c t all part start to None from count valid = λ n r begins ends at.
     let (j, same, there) = in_part all part start n r from begins (omega (arith, ends, count)) at in
     valid j r there
@@ -124,5 +124,5 @@ from_right all left right start n count from = record {
 pub from_all : (all : List Record) → AreFrom all 0 all
 from_all all = record { each = λ k r at. ap (slice_get all) (let e : 0 + k ≡ k = omega arith in e) ∙ at }
 
-pub whole_judged : (c : Client) (t : Table) (tree : Tree) (found : Option Bad) → AreJudged c t (tree_states tree) (records_of tree) 0 found → IsSpanJudged (whole_span c t tree) found
+pub whole_judged : (c : Client) (t : Basis) (tree : Tree) (found : Option Bad) → AreJudged c t (tree_states tree) (records_of tree) 0 found → IsSpanJudged (whole_span c t tree) found
 whole_judged c t tree found judged = part_judged c t (records_of tree) (records_of tree) 0 (record_count tree) found (from_all (records_of tree)) (let count = count_is tree in omega (arith, count)) judged

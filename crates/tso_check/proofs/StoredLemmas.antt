@@ -20,10 +20,11 @@ use Rattle.tso_foot.specs.Closed.{IsClosed}
 use Rattle.tso_foot.specs.Within.{IsWithin}
 use Rattle.tso_rec.specs.Conditions.{AreMet, SuccessorsAreKept}
 use Rattle.tso_judge.specs.Judging.{IsFirstFault}
-use Rattle.tso_judge.specs.Valid.{HasInitial}
+use Rattle.tso_judge.specs.Valid.{ContainsInitial}
 use Rattle.tso_judge.specs.declared.code.Code.{Code}
 use Rattle.tso_judge.specs.declared.code.Code.TheVariants as faults
 use Rattle.tso_prog.specs.declared.client.Client.{Client}
+use Rattle.tso_rec.specs.Bases.{by_steps}
 use Rattle.tso_rec.specs.Records.{ends_of, states_of}
 use Rattle.tso_rec.specs.declared.record.End.{End}
 use Rattle.tso_rec.specs.declared.record.Record.{Record}
@@ -64,11 +65,11 @@ beyond (x ∷ xs) (suc n) e = let le = beyond xs n e in omega (arith, le)
 -- ---- records by their numbers
 
 module _ (c : Client) (s : Scanned) (stored : IsStored c s) where
-  pub none_valid : (from : ℕ) → AreValidBetween c s.table (records_with s.store.states s.ends) from from
+  pub none_valid : (from : ℕ) → AreValidBetween c (by_steps s.table) (records_with s.store.states s.ends) from from
   none_valid from k r begins ends at = absurd (omega (arith, begins, ends))
 
-  pub number_valid : (from n : ℕ) (e : End) → Some e ≡ slice_get s.ends n → AreValidBetween c s.table (records_with s.store.states s.ends) from n → IsJudgedAt c s.table s.store.states n e None
-      → AreValidBetween c s.table (records_with s.store.states s.ends) from (n + 1)
+  pub number_valid : (from n : ℕ) (e : End) → Some e ≡ slice_get s.ends n → AreValidBetween c (by_steps s.table) (records_with s.store.states s.ends) from n → IsJudgedAt c s.table s.store.states n e None
+      → AreValidBetween c (by_steps s.table) (records_with s.store.states s.ends) from (n + 1)
   number_valid from n e there valid judged k r begins ends at = elim (cases_lt k n) [
     | inl less ↦ valid k r begins less at
     | inr ge ↦
@@ -76,11 +77,11 @@ module _ (c : Client) (s : Scanned) (stored : IsStored c s) where
         let parts = its_parts s.store.states s.ends k r stored.long at in
         let met = judged r.state (ap (slice_get s.store.states) same ∙ parts.0) in
         let its_end : e ≡ r.end = same_Some e r.end (there ∙ ap (slice_get s.ends) same ∙ parts.1) in
-        let here : AreMet c s.table (SuccessorsAreKept c s.store.states r.state r.end) (IsWithin s.table r.state) r.state r.end = subst (λ (d : End). AreMet c s.table (SuccessorsAreKept c s.store.states r.state d) (IsWithin s.table r.state) r.state d) its_end met in
-        subst (λ (l : List State). AreMet c s.table (SuccessorsAreKept c l r.state r.end) (IsWithin s.table r.state) r.state r.end) (sym (states_with s.store.states s.ends stored.long)) here
+        let here : AreMet c (by_steps s.table) (SuccessorsAreKept c (by_steps s.table) s.store.states r.state r.end) (IsWithin s.table r.state) r.state r.end = subst (λ (d : End). AreMet c (by_steps s.table) (SuccessorsAreKept c (by_steps s.table) s.store.states r.state d) (IsWithin s.table r.state) r.state d) its_end met in
+        subst (λ (l : List State). AreMet c (by_steps s.table) (SuccessorsAreKept c (by_steps s.table) l r.state r.end) (IsWithin s.table r.state) r.state r.end) (sym (states_with s.store.states s.ends stored.long)) here
   ]
 
-  pub number_bad : (from to n : ℕ) (e : End) (code : Code) → from ≤ n → n < to → Some e ≡ slice_get s.ends n → AreValidBetween c s.table (records_with s.store.states s.ends) from n → IsJudgedAt c s.table s.store.states n e (Some code)
+  pub number_bad : (from to n : ℕ) (e : End) (code : Code) → from ≤ n → n < to → Some e ≡ slice_get s.ends n → AreValidBetween c (by_steps s.table) (records_with s.store.states s.ends) from n → IsJudgedAt c s.table s.store.states n e (Some code)
       → IsSpanJudged (stored_span c s from to) (Some (record { place = n; code = code }))
   number_bad from to n e code begins ends there valid judged =
       let lt = slice_get_within s.ends n e (sym there) in
@@ -93,17 +94,17 @@ module _ (c : Client) (s : Scanned) (stored : IsStored c s) where
         found = record { state = x; end = e };
         at = of_parts s.store.states s.ends n x e at (sym there);
         before = valid;
-        fault = subst (λ (l : List State). IsFirstFault c s.table (SuccessorsAreKept c l x e) (IsWithin s.table x) x e code) (sym (states_with s.store.states s.ends long)) fault;
+        fault = subst (λ (l : List State). IsFirstFault c (by_steps s.table) (SuccessorsAreKept c (by_steps s.table) l x e) (IsWithin s.table x) x e code) (sym (states_with s.store.states s.ends long)) fault;
       }
 
-  pub none_left : (from to n : ℕ) → None ≡ slice_get s.ends n → AreValidBetween c s.table (records_with s.store.states s.ends) from n → AreValidBetween c s.table (records_with s.store.states s.ends) from to
+  pub none_left : (from to n : ℕ) → None ≡ slice_get s.ends n → AreValidBetween c (by_steps s.table) (records_with s.store.states s.ends) from n → AreValidBetween c (by_steps s.table) (records_with s.store.states s.ends) from to
   none_left from to n none valid k r begins ends at =
       let parts = its_parts s.store.states s.ends k r stored.long at in
       let lt = slice_get_within s.ends k r.end parts.1 in
       let le = beyond s.ends n (sym none) in
       valid k r begins (omega (arith, lt, le)) at
 
-  pub valid_up_to : (from to n : ℕ) → to ≤ n → AreValidBetween c s.table (records_with s.store.states s.ends) from n → AreValidBetween c s.table (records_with s.store.states s.ends) from to
+  pub valid_up_to : (from to n : ℕ) → to ≤ n → AreValidBetween c (by_steps s.table) (records_with s.store.states s.ends) from n → AreValidBetween c (by_steps s.table) (records_with s.store.states s.ends) from to
   valid_up_to from to n le valid k r begins ends at = valid k r begins (omega (arith, le, ends)) at
 
 -- ---- what was read
@@ -116,7 +117,7 @@ shape_counts (Fork' p one q two) (fork l m r) is = let a = shape_counts one l is
 
 pub stored_of : (c : Client) (bytes : List ℕ) (s : Scanned) → IsScanned c bytes s → IsStored c s
 stored_of c bytes s is =
-    let found = certificate_take bytes (s.table, is.tree) is.reads in
+    let found = certificate_take bytes (by_steps s.table, is.tree) is.reads in
     let states : length s.store.states ≡ length (records_of is.tree) = ap length is.scanned.states ∙ length-map (records_of is.tree) (λ (r : Record). r.state) in
     let ends : length s.ends ≡ length (records_of is.tree) = ap length is.scanned.ends ∙ length-map (records_of is.tree) (λ (r : Record). r.end) in
     let count = count_is is.tree in
@@ -131,15 +132,15 @@ stored_of c bytes s is =
 
 -- the verdict on what was read is that on the bytes
 pub stored_verdict : (c : Client) (bytes : List ℕ) (s : Scanned) (v : Verdict) → IsScanned c bytes s → IsVerdictOn c s v → IsVerdict c bytes v
-stored_verdict c bytes s v is on = let found = certificate_take bytes (s.table, is.tree) is.reads in whole c bytes s.table is.tree found.0 found.1 v (on is.tree is.scanned)
+stored_verdict c bytes s v is on = let found = certificate_take bytes (by_steps s.table, is.tree) is.reads in whole c bytes (by_steps s.table) is.tree found.0 found.1 v (on is.tree is.scanned)
 
 -- the records of the tree are those with these numbers
-pub stored_whole : (c : Client) (s : Scanned) (tree : Tree) (to : ℕ) (found : Option Bad) → IsScannedTree c tree s → to ≡ shape_count s.shape → IsSpanJudged (stored_span c s 0 to) found → IsSpanJudged (whole_span c s.table tree) found
+pub stored_whole : (c : Client) (s : Scanned) (tree : Tree) (to : ℕ) (found : Option Bad) → IsScannedTree c tree s → to ≡ shape_count s.shape → IsSpanJudged (stored_span c s 0 to) found → IsSpanJudged (whole_span c (by_steps s.table) tree) found
 stored_whole c s tree to found is count judged =
     let records : records_with s.store.states s.ends ≡ records_of tree = (λ i. records_with (is.states i) (is.ends i)) ∙ tree_with (records_of tree) in
     let many : to ≡ record_count tree = count ∙ shape_counts s.shape tree is.shape in
-    subst (λ (n : ℕ). IsSpanJudged (record { client = c; table = s.table; records = records_of tree; from = 0; to = n }) found) many
-    (subst (λ (l : List Record). IsSpanJudged (record { client = c; table = s.table; records = l; from = 0; to = to }) found) records judged)
+    subst (λ (n : ℕ). IsSpanJudged (record { client = c; basis = by_steps s.table; records = records_of tree; from = 0; to = n }) found) many
+    (subst (λ (l : List Record). IsSpanJudged (record { client = c; basis = by_steps s.table; records = l; from = 0; to = to }) found) records judged)
 
 -- ---- the conditions of the tree and the table as wholes
 
@@ -147,11 +148,11 @@ ordered_of : (c : Client) (s : Scanned) (tree : Tree) → IsScannedTree c tree s
 ordered_of c s tree is rising = let r = subst IsRising is.states rising in (r, begins_split tree r is.forks)
 
 module _ (c : Client) (s : Scanned) (rising : IsRising s.store.states) where
-  pub initial_missing : IsClosed c s.table → (HasInitial c s.store.states → ⊥) → (tree : Tree) → IsScannedTree c tree s → IsTreeFault c s.table tree faults.K09 None
-  initial_missing closed fails tree is = no_initial (ordered_of c s tree is rising) closed (λ h. fails (subst (HasInitial c) (sym is.states) h))
+  pub initial_missing : IsClosed c s.table → (ContainsInitial c s.store.states → ⊥) → (tree : Tree) → IsScannedTree c tree s → IsTreeFault c (by_steps s.table) tree faults.K09 None
+  initial_missing closed fails tree is = no_initial (ordered_of c s tree is rising) closed (λ h. fails (subst (ContainsInitial c) (sym is.states) h))
 
-  pub table_not_closed : (IsClosed c s.table → ⊥) → (tree : Tree) → IsScannedTree c tree s → IsTreeFault c s.table tree faults.K04 None
+  pub table_not_closed : (IsClosed c s.table → ⊥) → (tree : Tree) → IsScannedTree c tree s → IsTreeFault c (by_steps s.table) tree faults.K04 None
   table_not_closed fails tree is = not_closed (ordered_of c s tree is rising) fails
 
-  pub all_whole : IsClosed c s.table → HasInitial c s.store.states → (tree : Tree) → IsScannedTree c tree s → IsWhole c s.table tree
-  all_whole closed initial tree is = record { ordered = ordered_of c s tree is rising; closed = closed; initial = subst (HasInitial c) is.states initial }
+  pub all_whole : IsClosed c s.table → ContainsInitial c s.store.states → (tree : Tree) → IsScannedTree c tree s → IsWhole c (by_steps s.table) tree
+  all_whole closed initial tree is = record { ordered = ordered_of c s tree is rising; closed = closed; initial = subst (ContainsInitial c) is.states initial }

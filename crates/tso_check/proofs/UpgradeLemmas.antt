@@ -35,9 +35,13 @@ use Rattle.tso_foot.specs.declared.table.Table.TheVariants.{Arrays, Intervals}
 use Rattle.tso_indep.specs.Reasons.{is_far, is_reason, is_reason_if, kind_in}
 use Rattle.tso_indep.specs.declared.reason.Reason.{Reason}
 use Rattle.tso_indep.specs.declared.reason.Reason.TheVariants as reasons
-use Rattle.tso_rec.specs.Conditions.{HaveReasons}
+use Rattle.tso_rec.specs.Conditions.{EndFits, HaveReasons, SuccessorsAreKept}
 use Rattle.tso_judge.specs.Valid.{IsValidCertificate, IsValidRecord, IsValidTree}
 use Rattle.tso_prog.specs.declared.client.Client.{Client}
+use Rattle.tso_rec.specs.Bases.{basis, by_steps}
+use Rattle.tso_rec.specs.declared.basis.Basis.{Basis}
+use Rattle.tso_rec.specs.declared.basis.Grain.{Grain}
+use Rattle.tso_rec.specs.declared.basis.Grain.TheVariants.{Steps}
 use Rattle.tso_judge.proofs.Tables.{table_fits}
 use Rattle.tso_rec.specs.declared.record.End.{End}
 use Rattle.tso_rec.specs.declared.record.End.TheVariants.{Choices, Order}
@@ -87,7 +91,13 @@ module _ (c : Client) (a : ArrayTable) (t : IntervalTable) (is : IsInductive c t
   any_too chosen (Some kind) reason h = reason_too chosen kind reason h
 
 module _ (c : Client) (a : ArrayTable) (t : IntervalTable) (is : IsInductive c t) (narrow : IsNarrower t a) where
-  reasons_too : (s : State) (e : End) → IsWellFormed c s → HaveReasons c (Arrays a) s e → HaveReasons c (Intervals t) s e
+  abbrev before : Basis
+  before = by_steps (Arrays a)
+
+  abbrev after : Basis
+  after = by_steps (Intervals t)
+
+  reasons_too : (s : State) (e : End) → IsWellFormed c s → HaveReasons c before s e → HaveReasons c after s e
   reasons_too s (Choices choices) w have = λ k d lt.
       let old = have k d lt in
       record {
@@ -96,12 +106,20 @@ module _ (c : Client) (a : ArrayTable) (t : IntervalTable) (is : IsInductive c t
       }
   reasons_too s (Order order) w have = tt
 
-  record_too : (states : List State) (k : ℕ) (r : Record) → slice_get states k ≡ Some r.state → AreWithin (Intervals t) states → IsValidRecord c (Arrays a) states r → IsValidRecord c (Intervals t) states r
+  fits_too : (s : State) (e : End) → EndFits c before s e → EndFits c after s e
+  fits_too s (Choices choices) fits = fits
+  fits_too s (Order order) fits = fits
+
+  kept_too : (states : List State) (s : State) (e : End) → SuccessorsAreKept c before states s e → SuccessorsAreKept c after states s e
+  kept_too states s (Choices choices) kept = kept
+  kept_too states s (Order order) kept = kept
+
+  record_too : (states : List State) (k : ℕ) (r : Record) → slice_get states k ≡ Some r.state → AreWithin (Intervals t) states → IsValidRecord c before states r → IsValidRecord c after states r
   record_too states k r at within met = record {
     well_formed = met.well_formed;
-    fits = met.fits;
+    fits = fits_too r.state r.end met.fits;
     reasons = reasons_too r.state r.end met.well_formed met.reasons;
-    successors = met.successors;
+    successors = kept_too states r.state r.end met.successors;
     unstopped = met.unstopped;
     explained = met.explained;
     within = within k r.state at;
@@ -112,19 +130,19 @@ module _ (c : Client) (a : ArrayTable) (t : IntervalTable) (is : IsInductive c t
 state_at : (records : List Record) (k : ℕ) (r : Record) → slice_get records k ≡ Some r → slice_get (map (λ (x : Record). x.state) records) k ≡ Some r.state
 state_at records k r at = slice_get-map (λ (x : Record). x.state) records k ∙ ap (option_map (λ (x : Record). x.state)) at
 
-pub valid_of : (c : Client) (bytes : List ℕ) (t : Table) (tree : Tree) → IsValidCertificate c bytes → Spells bytes t tree → IsWithinLimits tree → IsValidTree c t tree
+pub valid_of : (c : Client) (bytes : List ℕ) (t : Basis) (tree : Tree) → IsValidCertificate c bytes → Spells bytes t tree → IsWithinLimits tree → IsValidTree c t tree
 valid_of c bytes t tree v spelled within =
-    let (table, same) = unique.one_value bytes v.table t v.tree tree v.spelled v.within spelled within in
-    subst (λ (d : Tree). IsValidTree c t d) same (subst (λ (u : Table). IsValidTree c u v.tree) table v.valid)
+    let (table, same) = unique.one_value bytes v.basis t v.tree tree v.spelled v.within spelled within in
+    subst (λ (d : Tree). IsValidTree c t d) same (subst (λ (u : Basis). IsValidTree c u v.tree) table v.valid)
 
-module _ (c : Client) (bytes : List ℕ) (a : ArrayTable) (t : IntervalTable) (tree : Tree) (v : IsValidCertificate c bytes) (spelled : Spells bytes (Arrays a) tree) (limits : IsWithinLimits tree)
-    (is : IsInductive c t) (within : AreWithin (Intervals t) (tree_states tree)) (narrow : IsNarrower t a) (upgraded : List ℕ) (written : upgraded ≡ certificate (Intervals t) tree) where
-  pub new_spelled : Spells upgraded (Intervals t) tree
+module _ (c : Client) (bytes : List ℕ) (a : ArrayTable) (t : IntervalTable) (tree : Tree) (v : IsValidCertificate c bytes) (spelled : Spells bytes (by_steps (Arrays a)) tree) (limits : IsWithinLimits tree)
+    (is : IsInductive c t) (within : AreWithin (Intervals t) (tree_states tree)) (narrow : IsNarrower t a) (upgraded : List ℕ) (written : upgraded ≡ certificate (by_steps (Intervals t)) tree) where
+  pub new_spelled : Spells upgraded (by_steps (Intervals t)) tree
   new_spelled = ((table_fits c (Intervals t) is, spelled.0.1), written)
 
-  pub new_tree : IsValidTree c (Intervals t) tree
+  pub new_tree : IsValidTree c (by_steps (Intervals t)) tree
   new_tree =
-      let old = valid_of c bytes (Arrays a) tree v spelled limits in
+      let old = valid_of c bytes (by_steps (Arrays a)) tree v spelled limits in
       record {
         ordered = old.ordered;
         closed = is;
@@ -133,16 +151,16 @@ module _ (c : Client) (bytes : List ℕ) (a : ArrayTable) (t : IntervalTable) (t
       }
 
   pub new_valid : IsValidCertificate c upgraded
-  new_valid = record { table = Intervals t; tree = tree; spelled = new_spelled; within = limits; valid = new_tree }
+  new_valid = record { basis = by_steps (Intervals t); tree = tree; spelled = new_spelled; within = limits; valid = new_tree }
 
   pub new_anew : IsSpelledAnew bytes upgraded
-  new_anew = record { table = Arrays a; tree = tree; intervals = t; before = spelled; after = new_spelled; same = λ u e. absurd cc }
+  new_anew = record { grain = Steps; table = Arrays a; tree = tree; intervals = t; before = spelled; after = new_spelled; same = λ u e. absurd cc }
 
 -- bytes that are made for the tree
-pub made_valid : (c : Client) (bytes new : List ℕ) (a : ArrayTable) (tree : Tree) → IsValidCertificate c bytes → Spells bytes (Arrays a) tree → IsWithinLimits tree → IsMadeFor c tree new → IsRenewed c tree bytes new
+pub made_valid : (c : Client) (bytes new : List ℕ) (a : ArrayTable) (tree : Tree) → IsValidCertificate c bytes → Spells bytes (by_steps (Arrays a)) tree → IsWithinLimits tree → IsMadeFor c tree new → IsRenewed c tree bytes new
 unfolding new_anew
 made_valid c bytes new a tree v spelled limits made =
-    let closed = (valid_of c bytes (Arrays a) tree v spelled limits).closed in
+    let closed = (valid_of c bytes (by_steps (Arrays a)) tree v spelled limits).closed in
     let narrow = made.narrow a closed in
     record {
       before = v;
@@ -152,25 +170,25 @@ made_valid c bytes new a tree v spelled limits made =
     }
 
 -- a table of intervals for the states in a store, before the bytes of the tree that they were read from
-pub made_for : (c : Client) (tree : Tree) (s : Scanned) (t : IntervalTable) (new : List ℕ) → IsScannedTree c tree s → IsInductive c t → AreWithin (Intervals t) s.store.states → IsNarrowerThanClosed c t → new ≡ certificate (Intervals t) tree
+pub made_for : (c : Client) (tree : Tree) (s : Scanned) (t : IntervalTable) (new : List ℕ) → IsScannedTree c tree s → IsInductive c t → AreWithin (Intervals t) s.store.states → IsNarrowerThanClosed c t → new ≡ certificate (by_steps (Intervals t)) tree
     → IsMadeFor c tree new
 made_for c tree s t new is inductive within narrow written = record { intervals = t; inductive = inductive; within = subst (AreWithin (Intervals t)) is.states within; narrow = narrow; written = written }
 
-same_front : (bytes : List ℕ) (x y : Table × List ℕ) → front_at bytes ≡ Ok x → front_at bytes ≡ Ok y → x ≡ y
+same_front : (bytes : List ℕ) (x y : Basis × List ℕ) → front_at bytes ≡ Ok x → front_at bytes ≡ Ok y → x ≡ y
 same_front bytes x y e f = cc
 
 -- the bytes behind the table are those of the tree
-pub tree_behind : (bytes rest : List ℕ) (t u : Table) (tree : Tree) → Spells bytes t tree → front_at bytes ≡ Ok (u, rest) → rest ≡ spelling_of tree
-tree_behind bytes rest t u tree spelled e = ap (λ (x : Table × List ℕ). x.1) (same_front bytes (u, rest) (t, spelling_of tree) e (front_of bytes t tree spelled))
+pub tree_behind : (bytes rest : List ℕ) (t u : Basis) (tree : Tree) → Spells bytes t tree → front_at bytes ≡ Ok (u, rest) → rest ≡ spelling_of t.grain tree
+tree_behind bytes rest t u tree spelled e = ap (λ (x : Basis × List ℕ). x.1) (same_front bytes (u, rest) (t, spelling_of t.grain tree) e (front_of bytes t tree spelled))
 
 -- bytes that have such a table
-pub same_anew : (c : Client) (bytes new : List ℕ) (t : IntervalTable) (tree : Tree) → IsValidCertificate c bytes → Spells bytes (Intervals t) tree → new ≡ bytes → IsRenewed c tree bytes new
-same_anew c bytes new t tree v spelled is =
-    let spelled_too : Spells new (Intervals t) tree = (spelled.0, is ∙ spelled.1) in
+pub same_anew : (c : Client) (bytes new : List ℕ) (g : Grain) (t : IntervalTable) (tree : Tree) → IsValidCertificate c bytes → Spells bytes (basis g (Intervals t)) tree → new ≡ bytes → IsRenewed c tree bytes new
+same_anew c bytes new g t tree v spelled is =
+    let spelled_too : Spells new (basis g (Intervals t)) tree = (spelled.0, is ∙ spelled.1) in
     record {
       before = v;
       after = subst (IsValidCertificate c) (sym is) v;
-      spelled = record { table = Intervals t; tree = tree; intervals = t; before = spelled; after = spelled_too; same = λ u e. is };
+      spelled = record { grain = g; table = Intervals t; tree = tree; intervals = t; before = spelled; after = spelled_too; same = λ u e. is };
       same = refl;
     }
 
@@ -209,7 +227,7 @@ module _ (text bytes : List ℕ) where
   pub as_counted : (c : Client) (new : List ℕ) (count : ℕ) → IsRenewedWith c bytes new count → HasRecords new count
   as_counted c new count with =
       let r = with.renewed in
-      record { table = Intervals r.spelled.intervals; tree = with.tree; spelled = subst (Spells new (Intervals r.spelled.intervals)) r.same r.spelled.after; within = with.within; counted = with.counted }
+      record { basis = basis r.spelled.grain (Intervals r.spelled.intervals); tree = with.tree; spelled = subst (Spells new (basis r.spelled.grain (Intervals r.spelled.intervals))) r.same r.spelled.after; within = with.within; counted = with.counted }
 
   pub as_refused : (c : Client) (e : UpgradeError) → DenotesChecked text c → IsNotRenewed c bytes e → IsNotUpgraded text bytes e
   as_refused c (NotAccepted (Ok Accepted)) denotes not = absurd not

@@ -8,7 +8,7 @@ use Rattle.tso_cert.specs.Trees.{Tree, leaf, fork, record_count, records_of}
 use Rattle.tso_judge.specs.Valid.{AreValidRecords, IsValidRecord}
 use Rattle.tso_check.specs.Verdicts.{AreJudged, IsFirstBadRecord}
 use Rattle.tso_check.specs.declared.judging.Bad.{Bad}
-use Rattle.tso_foot.specs.declared.table.Table.{Table}
+use Rattle.tso_rec.specs.declared.basis.Basis.{Basis}
 use Rattle.tso_foot.specs.Within.{IsWithin}
 use Rattle.tso_rec.specs.Conditions.{AreMet, SuccessorsAreKept}
 use Rattle.tso_judge.specs.Judging.{IsFirstFault}
@@ -35,13 +35,13 @@ behind_left [] ys k r le at = (k, omega arith, at)
 behind_left (x ∷ xs) ys zero r le at = absurd (omega (arith, le))
 behind_left (x ∷ xs) ys (suc k) r le at = let (n, e, there) = behind_left xs ys k r (omega (arith, le)) at in (n, omega (arith, e), there)
 
-module _ (c : Client) (t : Table) (states : List State) where
+module _ (c : Client) (t : Basis) (states : List State) where
   -- the records before this number are valid
   abbrev pub AreValidTo : List Record → ℕ → Type 0
   AreValidTo records n = (k : ℕ) (r : Record) → k < n → slice_get records k ≡ Some r → IsValidRecord c t states r
 
   pub valid_one_more : (records : List Record) (n : ℕ) (s : State) (e : End) → AreValidTo records n → slice_get (states_of records) n ≡ Some s → slice_get (ends_of records) n ≡ Some e
-      → AreMet c t (SuccessorsAreKept c states s e) (IsWithin t s) s e → AreValidTo records (n + 1)
+      → AreMet c t (SuccessorsAreKept c t states s e) (IsWithin t.table s) s e → AreValidTo records (n + 1)
   valid_one_more records n s e valid at is met k r lt there = elim (cases_lt k n) [
     | inl less ↦ valid k r less there
     | inr ge ↦
@@ -53,7 +53,7 @@ module _ (c : Client) (t : Table) (states : List State) where
   valid_all records n le valid k r at = let lt = slice_get_within records k r at in valid k r (omega (arith, lt, le)) at
 
   pub first_bad : (records : List Record) (n : ℕ) (s : State) (e : End) (code : Code) → AreValidTo records n → slice_get (states_of records) n ≡ Some s → slice_get (ends_of records) n ≡ Some e
-      → IsFirstFault c t (SuccessorsAreKept c states s e) (IsWithin t s) s e code → IsFirstBadRecord c t states records n code
+      → IsFirstFault c t (SuccessorsAreKept c t states s e) (IsWithin t.table s) s e code → IsFirstBadRecord c t states records n code
   first_bad records n s e code valid at is fault = record { bad = record { state = s; end = e }; at = record_at records n s e at is; before = valid; fault = fault }
 
   pub both_valid : (left right : List Record) → AreValidRecords c t states left → AreValidRecords c t states right → AreValidRecords c t states (left ++ right)
@@ -96,7 +96,7 @@ pub count_is : (t : Tree) → length (records_of t) ≡ record_count t
 count_is (leaf rs) = refl
 count_is (fork l m r) = let long = length-append (records_of l) (records_of r) in let a = count_is l in let b = count_is r in omega (arith, long, a, b)
 
-module _ (c : Client) (t : Table) (states : List State) (l r : Tree) (start : ℕ) where
+module _ (c : Client) (t : Basis) (states : List State) (l r : Tree) (start : ℕ) where
   -- the right half, where the left one is valid
   pub judged_right : (n : ℕ) (found : Option Bad) → n ≡ record_count l → AreValidRecords c t states (records_of l) → AreJudged c t states (records_of r) (start + n) found
       → AreJudged c t states (records_of l ++ records_of r) start found

@@ -5,6 +5,7 @@ use Rattle.tso_foot.specs.declared.table.Table.{Table}
 use Rattle.tso_judge.specs.Judging.{IsJudgedAmong}
 use Rattle.tso_judge.specs.declared.code.Code.{Code}
 use Rattle.tso_prog.specs.declared.client.Client.{Client}
+use Rattle.tso_rec.specs.Bases.{by_steps}
 use Rattle.tso_rec.specs.declared.record.End.{End}
 use Rattle.tso_rec.specs.declared.record.End.TheVariants.{Choices, Order}
 use Rattle.tso_state.specs.declared.actor.Actor.{Actor}
@@ -23,4 +24,4 @@ AreKeptFrom c states n (Order order) = Unit {0}
 
 -- what is found of the state with this number and an end
 abbrev pub IsJudgedAt : Client → Table → List State → ℕ → End → Option Code → Type 0
-IsJudgedAt c t states n e code = (s : State) → slice_get states n ≡ Some s → IsJudgedAmong c t states s e code
+IsJudgedAt c t states n e code = (s : State) → slice_get states n ≡ Some s → IsJudgedAmong c (by_steps t) states s e code

@@ -18,14 +18,18 @@ use Rattle.tso_foot.specs.declared.table.Table.{Table}
 use Rattle.tso_foot.specs.declared.table.Table.TheVariants.{Intervals}
 use Rattle.tso_judge.specs.Valid.{IsValidCertificate}
 use Rattle.tso_prog.specs.declared.client.Client.{Client}
+use Rattle.tso_rec.specs.Bases.{basis, by_steps}
+use Rattle.tso_rec.specs.declared.basis.Basis.{Basis}
+use Rattle.tso_rec.specs.declared.basis.Grain.{Grain}
 
 -- the second bytes spell the tree of the first, with a table of intervals; where the first have one too, they are the same
 pub record IsSpelledAnew (bytes upgraded : List ℕ) : Type 0 where
+  pub grain : Grain
   pub table : Table
   pub tree : Tree
   pub intervals : IntervalTable
-  pub before : Spells bytes table tree
-  pub after : Spells upgraded (Intervals intervals) tree
+  pub before : Spells bytes (basis grain table) tree
+  pub after : Spells upgraded (basis grain (Intervals intervals)) tree
   pub same : (t : IntervalTable) → table ≡ Intervals t → upgraded ≡ bytes
 
 -- bytes that spell the tree with an inductive table of intervals in which the running registers of all its states lie, and which names only
@@ -35,7 +39,7 @@ pub record IsMadeFor (c : Client) (tree : Tree) (bytes : List ℕ) : Type 0 wher
   pub inductive : IsInductive c intervals
   pub within : AreWithin (Intervals intervals) (tree_states tree)
   pub narrow : IsNarrowerThanClosed c intervals
-  pub written : bytes ≡ certificate (Intervals intervals) tree
+  pub written : bytes ≡ certificate (by_steps (Intervals intervals)) tree
 
 -- so it is, they spell this tree, and both are valid for the client
 pub record IsRenewed (c : Client) (tree : Tree) (bytes upgraded : List ℕ) : Type 0 where
@@ -46,9 +50,9 @@ pub record IsRenewed (c : Client) (tree : Tree) (bytes upgraded : List ℕ) : Ty
 
 -- the bytes spell a certificate, within the limits, of so many records
 pub record HasRecords (bytes : List ℕ) (count : ℕ) : Type 0 where
-  pub table : Table
+  pub basis : Basis
   pub tree : Tree
-  pub spelled : Spells bytes table tree
+  pub spelled : Spells bytes basis tree
   pub within : IsWithinLimits tree
   pub counted : count ≡ record_count tree
 

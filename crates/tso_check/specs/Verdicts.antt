@@ -16,7 +16,6 @@ use Rattle.tso_check.specs.declared.verdict.Verdict.{Verdict}
 use Rattle.tso_check.specs.declared.verdict.Verdict.TheVariants.{Accepted, Rejected}
 use Rattle.tso_check.specs.declared.judging.Bad.{Bad}
 use Rattle.tso_foot.specs.Closed.{IsClosed}
-use Rattle.tso_foot.specs.declared.table.Table.{Table}
 use Rattle.tso_foot.specs.Within.{IsWithin}
 use Rattle.tso_judge.specs.Codes.{code_text}
 use Rattle.tso_rec.specs.Conditions.{SuccessorsAreKept}
@@ -24,6 +23,7 @@ use Rattle.tso_judge.specs.Judging.{IsFirstFault}
 use Rattle.tso_judge.specs.declared.code.Code.{Code}
 use Rattle.tso_judge.specs.declared.code.Code.TheVariants as faults
 use Rattle.tso_prog.specs.declared.client.Client.{Client}
+use Rattle.tso_rec.specs.declared.basis.Basis.{Basis}
 use Rattle.tso_rec.specs.declared.record.Record.{Record}
 use Rattle.tso_state.specs.declared.state.State.{State}
 
@@ -43,36 +43,36 @@ abbrev pub IsOfFault : DecodeError → Verdict → Type 0
 IsOfFault e v = (f : Fault) × (e ≡ errors.Fault f) × (v ≡ Rejected (code_of f) None)
 
 -- of these records, the one at this place is the first that is not valid, with its first fault
-pub record IsFirstBadRecord (c : Client) (t : Table) (states : List State) (records : List Record) (place : ℕ) (code : Code) : Type 0 where
+pub record IsFirstBadRecord (c : Client) (b : Basis) (states : List State) (records : List Record) (place : ℕ) (code : Code) : Type 0 where
   pub bad : Record
   pub at : slice_get records place ≡ Some bad
-  pub before : (k : ℕ) (r : Record) → k < place → slice_get records k ≡ Some r → IsValidRecord c t states r
-  pub fault : IsFirstFault c t (SuccessorsAreKept c states bad.state bad.end) (IsWithin t bad.state) bad.state bad.end code
+  pub before : (k : ℕ) (r : Record) → k < place → slice_get records k ≡ Some r → IsValidRecord c b states r
+  pub fault : IsFirstFault c b (SuccessorsAreKept c b states bad.state bad.end) (IsWithin b.table bad.state) bad.state bad.end code
 
--- the first condition of a table and a tree that fails, and the number of its record, if it is one of a record
-pub data IsTreeFault (c : Client) (t : Table) (tree : Tree) : Code → Option ℕ → Type 0 where
-  not_ordered : (IsOrdered tree → ⊥) → IsTreeFault c t tree faults.K03 None
-  not_closed : IsOrdered tree → (IsClosed c t → ⊥) → IsTreeFault c t tree faults.K04 None
-  no_initial : IsOrdered tree → IsClosed c t → (HasInitial c (tree_states tree) → ⊥) → IsTreeFault c t tree faults.K09 None
-  of_record : (code : Code) (place : ℕ) → IsOrdered tree → IsClosed c t → HasInitial c (tree_states tree)
-      → IsFirstBadRecord c t (tree_states tree) (records_of tree) place code → IsTreeFault c t tree code (Some place)
+-- the first condition of a basis and a tree that fails, and the number of its record, if it is one of a record
+pub data IsTreeFault (c : Client) (b : Basis) (tree : Tree) : Code → Option ℕ → Type 0 where
+  not_ordered : (IsOrdered tree → ⊥) → IsTreeFault c b tree faults.K03 None
+  not_closed : IsOrdered tree → (IsClosed c b.table → ⊥) → IsTreeFault c b tree faults.K04 None
+  no_initial : IsOrdered tree → IsClosed c b.table → (HasInitial c b (tree_states tree) → ⊥) → IsTreeFault c b tree faults.K09 None
+  of_record : (code : Code) (place : ℕ) → IsOrdered tree → IsClosed c b.table → HasInitial c b (tree_states tree)
+      → IsFirstBadRecord c b (tree_states tree) (records_of tree) place code → IsTreeFault c b tree code (Some place)
 
 -- the first condition of a certificate that fails
 pub data IsFault (c : Client) (bytes : List ℕ) : Code → Option ℕ → Type 0 where
   no_certificate : IsNoCertificate bytes → IsFault c bytes faults.K01 None
   past_limit : PassesLimit bytes → IsFault c bytes faults.K02 None
-  of_tree : (code : Code) (place : Option ℕ) (t : Table) (tree : Tree) → Spells bytes t tree → IsWithinLimits tree → IsTreeFault c t tree code place → IsFault c bytes code place
+  of_tree : (code : Code) (place : Option ℕ) (b : Basis) (tree : Tree) → Spells bytes b tree → IsWithinLimits tree → IsTreeFault c b tree code place → IsFault c bytes code place
 
 -- records that are judged from left to right, of which the first has this number in the tree: all are valid, or this is the
 -- first that is not, by its number
-abbrev pub AreJudged : Client → Table → List State → List Record → ℕ → Option Bad → Type 0
-AreJudged c t states records start None = AreValidRecords c t states records
-AreJudged c t states records start (Some bad) = (k : ℕ) × (bad.place ≡ start + k) × IsFirstBadRecord c t states records k bad.code
+abbrev pub AreJudged : Client → Basis → List State → List Record → ℕ → Option Bad → Type 0
+AreJudged c b states records start None = AreValidRecords c b states records
+AreJudged c b states records start (Some bad) = (k : ℕ) × (bad.place ≡ start + k) × IsFirstBadRecord c b states records k bad.code
 
--- the verdict on a table and a tree
-abbrev pub IsTreeVerdict : Client → Table → Tree → Verdict → Type 0
-IsTreeVerdict c t tree Accepted = IsValidTree c t tree
-IsTreeVerdict c t tree (Rejected code place) = IsTreeFault c t tree code place
+-- the verdict on a basis and a tree
+abbrev pub IsTreeVerdict : Client → Basis → Tree → Verdict → Type 0
+IsTreeVerdict c b tree Accepted = IsValidTree c b tree
+IsTreeVerdict c b tree (Rejected code place) = IsTreeFault c b tree code place
 
 -- the verdict on bytes as a certificate for the client
 abbrev pub IsVerdict : Client → List ℕ → Verdict → Type 0

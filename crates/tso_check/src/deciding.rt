@@ -13,11 +13,12 @@ ghost use Rattle.tso_check.specs.declared.verdict.Verdict.{Verdict as AVerdict};
 ghost use Rattle.tso_check.specs.declared.verdict.Verdict.TheVariants as verdicts;
 ghost use Rattle.tso_judge.specs.Valid.{IsValidCertificate};
 ghost use Rattle.tso_prog.specs.declared.client.Client.{Client};
+ghost use Rattle.tso_rec.specs.Conditions.{IsLeast};
 ghost use Rattle.tso_prog.specs.declared.fault.Fault.{Fault as AFault};
 ghost use Rattle.tso_scan.specs.Parts.{text_of, whole_of};
 ghost use Rattle.tso_scan.specs.Scanned.{IsScanned};
 
-use crate::halved::{TreePart, Whole, decide_tree, tree_fault};
+use crate::halved::{TreePart, decide_tree, tree_fault};
 use crate::judging::{Notice, verdict_of};
 use crate::remains::{Remains, put_away};
 use crate::stored::{StoredPart, decide_stored, stored_fault};
@@ -26,11 +27,12 @@ use crate::verdict::{Verdict, rejected};
 use std::alloc::{AllocError, Global};
 use std::sync::Wait;
 use std::thread::Threads;
-use tso_cert::{DecodeError, Fault, Watch, Workers, decode};
+use tso_cert::{Cert, DecodeError, Fault, Watch, Workers, decode};
 use tso_client::{CheckError, checked_of};
 use tso_flow::Checked;
-use tso_judge::Code;
+use tso_judge::{Code, Whole, least_table};
 use tso_list::Seq;
+use tso_rec::Basis;
 use tso_scan::{Scanned, put_together, scan, scan_with};
 use tso_skim::{Skimmed, is_dense, skim};
 
@@ -67,20 +69,38 @@ fn decide_shape(alloc: Global, bytes: &[u8]) -> Result<Option<Verdict>, AllocErr
     }
 }
 
+// The verdict on a basis and a tree.
+fn decide_with_least(
+    alloc: Global,
+    checked: &Checked,
+    basis: &Basis,
+    tree: &Cert,
+) -> Result<Verdict, AllocError>
+    requires few { record_count (tree_of tree.now) ≤ 4194304 }
+    ensures { IfOk result (IsTreeVerdict checked.now.client basis.now (tree_of tree.now)) }
+{
+    let own = least_table(alloc, checked)?;
+    let found = decide_tree(&Whole {
+        alloc,
+        checked,
+        basis,
+        own: &own,
+        tree,
+    });
+    drop(own);
+    found
+}
+
 // The verdict on bytes, decoded, by their tree.
 fn decide_decoded(alloc: Global, checked: &Checked, bytes: &[u8]) -> Result<Verdict, AllocError>
     ensures { IfOk result (IsVerdict checked.now.client bytes.now) }
 {
     match decode(alloc, bytes) {
-        Ok((table, tree)) => {
-            let (table, tree) = (&table, &tree);
-            let whole = Whole {
-                alloc,
-                checked,
-                table,
-                tree,
-            };
-            decide_tree(&whole)
+        Ok((basis, tree)) => {
+            let found = decide_with_least(alloc, checked, &basis, &tree);
+            drop(tree);
+            drop(basis);
+            found
         }
         Err(error) => undecoded(error),
     }
@@ -191,15 +211,16 @@ fn decide_stored_with<R: Threads + Wait + Sync, N: Notice + Sync>(
     }
 }
 
-// The verdict on a table and a tree, by several threads.
+// The verdict on a basis and a tree, by several threads.
 fn decide_tree_with<R: Threads + Wait + Sync, N: Notice + Sync>(
     rt: &R,
     whole: &Whole<'_>,
     workers: Workers,
     notice: &N,
 ) -> Result<Verdict, AllocError>
+    requires least { IsLeast whole.now.checked.now.client whole.now.own.now }
     requires few { record_count (tree_of whole.now.tree.now) ≤ 4194304 }
-    ensures { IfOk result (IsTreeVerdict whole.now.checked.now.client whole.now.table.now (tree_of whole.now.tree.now)) }
+    ensures { IfOk result (IsTreeVerdict whole.now.checked.now.client whole.now.basis.now (tree_of whole.now.tree.now)) }
 {
     match tree_fault(whole)? {
         Some(code) => Ok(rejected(code)),
@@ -216,6 +237,32 @@ fn decide_tree_with<R: Threads + Wait + Sync, N: Notice + Sync>(
     }
 }
 
+// The same of a basis and a tree, for which the least table is made.
+fn decide_with_least_by<R: Threads + Wait + Sync, N: Notice + Sync>(
+    rt: &R,
+    alloc: Global,
+    checked: &Checked,
+    basis: &Basis,
+    tree: &Cert,
+    workers: Workers,
+    notice: &N,
+) -> Result<Verdict, AllocError>
+    requires few { record_count (tree_of tree.now) ≤ 4194304 }
+    ensures { IfOk result (IsTreeVerdict checked.now.client basis.now (tree_of tree.now)) }
+{
+    let own = least_table(alloc, checked)?;
+    let whole = Whole {
+        alloc,
+        checked,
+        basis,
+        own: &own,
+        tree,
+    };
+    let found = decide_tree_with(rt, &whole, workers, notice);
+    drop(own);
+    found
+}
+
 // The verdict on bytes, decoded, by their tree and by several threads.
 fn decide_decoded_with<R: Threads + Wait + Sync, N: Notice + Sync>(
     rt: &R,
@@ -228,15 +275,11 @@ fn decide_decoded_with<R: Threads + Wait + Sync, N: Notice + Sync>(
     ensures { IfOk result (IsVerdict checked.now.client bytes.now) }
 {
     match decode(alloc, bytes) {
-        Ok((table, tree)) => {
-            let (table, tree) = (&table, &tree);
-            let whole = Whole {
-                alloc,
-                checked,
-                table,
-                tree,
-            };
-            decide_tree_with(rt, &whole, workers, notice)
+        Ok((basis, tree)) => {
+            let found = decide_with_least_by(rt, alloc, checked, &basis, &tree, workers, notice);
+            drop(tree);
+            drop(basis);
+            found
         }
         Err(error) => undecoded(error),
     }

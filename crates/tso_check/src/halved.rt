@@ -6,26 +6,17 @@ ghost use Rattle.tso_cert.specs.Trees.{record_count, records_of, tree_of};
 ghost use Rattle.tso_check.specs.Halved.{AreFrom, AreJudgedIn};
 ghost use Rattle.tso_check.specs.Spans.{IsWholeFault};
 ghost use Rattle.tso_check.specs.Verdicts.{IsTreeVerdict};
+ghost use Rattle.tso_rec.specs.Conditions.{IsLeast};
 
 use crate::halves::has_initial;
 use crate::judging::{Bad, Nobody, Notice, Part, verdict_of};
 use crate::rising::is_ordered;
 use crate::verdict::{Verdict, rejected};
-use std::alloc::{AllocError, Global};
+use std::alloc::AllocError;
 use tso_cert::Cert;
-use tso_flow::Checked;
-use tso_foot::{Table, is_closed};
-use tso_judge::{Code, judge_state};
+use tso_foot::is_closed;
+use tso_judge::{Code, Whole};
 use tso_rec::Packed;
-
-/// A table and a tree for a client.
-#[derive(Clone, Copy)]
-pub struct Whole<'a> {
-    pub alloc: Global,
-    pub checked: &'a Checked,
-    pub table: &'a Table,
-    pub tree: &'a Cert,
-}
 
 /// A part of a tree, in all of which states are looked up.
 #[derive(Drop)]
@@ -44,6 +35,7 @@ fn judge_leaf<N: Notice>(
     start: u64,
     notice: &N,
 ) -> Result<Option<Bad>, AllocError>
+    requires least { IsLeast whole.now.checked.now.client whole.now.own.now }
     requires ordered { IsOrdered (tree_of whole.now.tree.now) }
     requires few { start + length records.now ≤ 4194304 }
     ensures { IfOk result (AreJudgedIn whole.now records.now start) }
@@ -52,14 +44,7 @@ fn judge_leaf<N: Notice>(
         let place = start + k as u64;
         notice.before(place);
         let state = records.state(k)?;
-        let judged = judge_state(
-            whole.alloc,
-            whole.checked,
-            whole.table,
-            whole.tree,
-            &state,
-            records.end(k),
-        );
+        let judged = whole.judge(&state, records.end(k));
         drop(state);
         match judged? {
             Some(code) => return Ok(Some(Bad { place, code })),
@@ -76,6 +61,7 @@ fn judge_part<N: Notice>(
     start: u64,
     notice: &N,
 ) -> Result<Option<Bad>, AllocError>
+    requires least { IsLeast whole.now.checked.now.client whole.now.own.now }
     requires ordered { IsOrdered (tree_of whole.now.tree.now) }
     requires few { start + record_count (tree_of part.now) ≤ 4194304 }
     ensures { IfOk result (AreJudgedIn whole.now (records_of (tree_of part.now)) start) }
@@ -94,10 +80,11 @@ impl<'a, N: Notice> Part for TreePart<'a, N> {
     ghost use Rattle.tso_cert.specs.Lookup.{IsOrdered};
     ghost use Rattle.tso_cert.specs.Trees.{record_count, records_of, tree_of};
     ghost use Rattle.tso_check.specs.Halved.{AreFrom, part_span};
+    ghost use Rattle.tso_rec.specs.Conditions.{IsLeast};
 
     ghost span = { λ p. part_span p.whole p.start (p.start + record_count (tree_of p.part.now)) };
 
-    ghost is_ready = { λ p. IsOrdered (tree_of p.whole.tree.now) × (p.start + record_count (tree_of p.part.now) ≤ 4194304) × AreFrom (records_of (tree_of p.whole.tree.now)) p.start (records_of (tree_of p.part.now)) };
+    ghost is_ready = { λ p. IsLeast p.whole.checked.now.client p.whole.own.now × IsOrdered (tree_of p.whole.tree.now) × (p.start + record_count (tree_of p.part.now) ≤ 4194304) × AreFrom (records_of (tree_of p.whole.tree.now)) p.start (records_of (tree_of p.part.now)) };
 
     fn judge(&self) -> Result<Option<Bad>, AllocError> {
         judge_part(&self.whole, self.part, self.start, self.notice)
@@ -126,30 +113,32 @@ impl<'a, N: Notice> Part for TreePart<'a, N> {
     }
 }
 
-/// The code of the first condition of a tree and a table as wholes that fails.
+/// The code of the first condition of a tree and its basis as wholes that fails.
 ///
 /// Errors: where a growth was refused.
 pub fn tree_fault(whole: &Whole<'_>) -> Result<Option<Code>, AllocError>
-    ensures { IfOk result (IsWholeFault whole.now.checked.now.client whole.now.table.now (tree_of whole.now.tree.now)) }
+    requires { IsLeast whole.now.checked.now.client whole.now.own.now }
+    ensures { IfOk result (IsWholeFault whole.now.checked.now.client whole.now.basis.now (tree_of whole.now.tree.now)) }
 {
     if !is_ordered(whole.tree)? {
         return Ok(Some(Code::K03));
     }
-    if !is_closed(whole.checked, whole.table) {
+    if !is_closed(whole.checked, &whole.basis.table) {
         return Ok(Some(Code::K04));
     }
-    if !has_initial(whole.alloc, whole.checked, whole.tree)? {
+    if !has_initial(whole)? {
         return Ok(Some(Code::K09));
     }
     Ok(None)
 }
 
-/// The verdict on a table and a tree.
+/// The verdict on a basis and a tree.
 ///
 /// Errors: where a growth was refused.
 pub fn decide_tree(whole: &Whole<'_>) -> Result<Verdict, AllocError>
+    requires least { IsLeast whole.now.checked.now.client whole.now.own.now }
     requires few { record_count (tree_of whole.now.tree.now) ≤ 4194304 }
-    ensures { IfOk result (IsTreeVerdict whole.now.checked.now.client whole.now.table.now (tree_of whole.now.tree.now)) }
+    ensures { IfOk result (IsTreeVerdict whole.now.checked.now.client whole.now.basis.now (tree_of whole.now.tree.now)) }
 {
     match tree_fault(whole)? {
         Some(code) => Ok(rejected(code)),

@@ -4,8 +4,8 @@ ghost use Rattle.std.specs.Prelude.{IfOk, IfSome};
 ghost use Rattle.tso_cert.specs.Trees.{Tree};
 ghost use Rattle.tso_check.specs.Spans.{AreHalves, IsSpanJudged, IsWhole, Span, whole_span};
 ghost use Rattle.tso_check.specs.Verdicts.{IsTreeVerdict};
-ghost use Rattle.tso_foot.specs.declared.table.Table.{Table as FootprintTable};
 ghost use Rattle.tso_prog.specs.declared.client.Client.{Client};
+ghost use Rattle.tso_rec.specs.declared.basis.Basis.{Basis as ABasis};
 
 use crate::verdict::Verdict;
 use std::alloc::AllocError;
@@ -52,7 +52,7 @@ pub trait Part {
 
 /// The verdict where the conditions of the whole hold and this is the first record that is not valid, if there is one.
 pub fn verdict_of(found: Option<Bad>) -> Verdict
-    ensures { (c : Client) (t : FootprintTable) (tree : Tree) → IsWhole c t tree → IsSpanJudged (whole_span c t tree) found → IsTreeVerdict c t tree result }
+    ensures { (c : Client) (b : ABasis) (tree : Tree) → IsWhole c b tree → IsSpanJudged (whole_span c b tree) found → IsTreeVerdict c b tree result }
 {
     match found {
         Some(bad) => Verdict::Rejected {

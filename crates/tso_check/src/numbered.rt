@@ -4,7 +4,8 @@ ghost use Rattle.std.specs.Prelude.{◌≡◌, ◌↔◌, All, IfOk, IsTrue, Non
 ghost use Rattle.tso_check.specs.Numbered.{AreKeptFrom, IsJudgedAt, IsKeptFrom};
 ghost use Rattle.tso_choose.specs.declared.choice.Choice.{Choice as AChoice};
 ghost use Rattle.tso_judge.specs.Judging.{IsJudgedAlone};
-ghost use Rattle.tso_judge.specs.Valid.{HasInitial};
+ghost use Rattle.tso_judge.specs.Valid.{ContainsInitial};
+ghost use Rattle.tso_rec.specs.Bases.{by_steps};
 ghost use Rattle.tso_state.specs.Fitting.{PartsFit};
 ghost use Rattle.tso_state.specs.Rising.{IsRising};
 ghost use Rattle.tso_keys.specs.Forms.{AreForms};
@@ -17,7 +18,7 @@ use tso_flow::Checked;
 use tso_foot::{Table, is_within};
 use tso_judge::{Code, judge_alone};
 use tso_keys::{Forms, View};
-use tso_rec::End;
+use tso_rec::{End, Grain};
 use tso_state::{Actor, Viewed, initial_state, is_well_formed_given};
 use tso_store::{Found, Store};
 
@@ -25,7 +26,7 @@ use tso_store::{Found, Store};
 ///
 /// Errors: where a growth was refused.
 pub fn has_initial(alloc: Global, checked: &Checked, store: &Store<'_>) -> Result<bool, AllocError>
-    ensures { IfOk result (λ r. IsTrue r ↔ HasInitial checked.now.client store.now.states) }
+    ensures { IfOk result (λ r. IsTrue r ↔ ContainsInitial checked.now.client store.now.states) }
 {
     let initial = initial_state(alloc, checked)?;
     match store.find(&initial) {
@@ -88,10 +89,10 @@ fn judge_view(
     requires client { store.now.client ≡ checked.now.client }
     requires state { slice_get store.now.states number ≡ Some view.now }
     requires fits { IsTrue fits ↔ PartsFit checked.now.client view.now }
-    ensures { IfOk result (IsJudgedAlone checked.now.client table.now view.now end.now) }
+    ensures { IfOk result (IsJudgedAlone checked.now.client (by_steps table.now) view.now end.now) }
 {
     if !is_sure_end(store, number, view.thread_count(), end) {
-        return judge_alone(alloc, checked, table, view, fits, end);
+        return judge_alone(alloc, checked, Grain::Steps, table, view, fits, end);
     }
     if !is_well_formed_given(checked, view, fits) {
         return Ok(Some(Code::K05));
@@ -110,7 +111,7 @@ fn judge_rest(
 ) -> Option<Code>
     requires rising { IsRising store.now.states }
     requires state { slice_get store.now.states number ≡ Some view.now }
-    requires alone { IsJudgedAlone store.now.client table.now view.now end.now None }
+    requires alone { IsJudgedAlone store.now.client (by_steps table.now) view.now end.now None }
     ensures { IsJudgedAt store.now.client table.now store.now.states number end.now result }
 {
     if !are_successors_kept(store, number, end, trail) {

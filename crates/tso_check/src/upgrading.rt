@@ -15,6 +15,7 @@ ghost use Rattle.tso_client.specs.declared.error.CheckError.{CheckError as AnErr
 ghost use Rattle.tso_foot.specs.Narrower.{IsNarrowerThanClosed};
 ghost use Rattle.tso_foot.specs.declared.table.Table.TheVariants.{Intervals};
 ghost use Rattle.tso_judge.specs.Valid.{IsValidCertificate};
+ghost use Rattle.tso_rec.specs.Bases.{by_steps};
 ghost use Rattle.tso_scan.specs.Scanned.{IsScanned, IsScannedTree};
 ghost use Rattle.tso_state.specs.declared.state.State.{State as AState};
 
@@ -23,12 +24,13 @@ use crate::verdict::Verdict;
 use std::alloc::{AllocError, Global};
 use tso_cells::{Hull, IntervalTable};
 use tso_cert::{
-    Cert, build_intervals, decode, encode, encode_before, intervals_of, read_table, take_state,
+    Cert, build_intervals, decode, encode, encode_before, intervals_of, read_front, take_state,
 };
 use tso_client::{CheckError, checked_of};
 use tso_flow::Checked;
 use tso_foot::Table;
 use tso_prog::Client;
+use tso_rec::{Basis, Grain};
 use tso_scan::{Scanned, scan};
 use tso_store::Store;
 
@@ -62,23 +64,26 @@ fn spelled_anew(alloc: Global, checked: &Checked, tree: &Cert) -> Result<Vec<u8>
     ensures { IfOk result (λ new. IsMadeFor checked.now.client (tree_of tree.now) new.items) }
 {
     let table = Table::Intervals(build_intervals(alloc, checked, tree)?);
-    encode(alloc, &table, tree)
+    encode(alloc, Grain::Steps, &table, tree)
 }
 
-// The bytes of a valid certificate of this table and tree with a table of intervals.
+// The bytes of a valid certificate of this basis and tree with a table of intervals. One of crossings has such a table.
 fn respelled(
     alloc: Global,
     checked: &Checked,
-    table: &Table,
+    basis: &Basis,
     tree: &Cert,
     bytes: &[u8],
 ) -> Result<Vec<u8>, AllocError>
     requires valid { IsValidCertificate checked.now.client bytes.now }
-    requires spelled { Spells bytes.now table.now (tree_of tree.now) × IsWithinLimits (tree_of tree.now) }
+    requires spelled { Spells bytes.now basis.now (tree_of tree.now) × IsWithinLimits (tree_of tree.now) }
     ensures { IfOk result (λ new. IsRenewed checked.now.client (tree_of tree.now) bytes.now new.items) }
 {
-    match table {
-        Table::Arrays(_) => spelled_anew(alloc, checked, tree),
+    match &basis.table {
+        Table::Arrays(_) => match basis.grain {
+            Grain::Steps => spelled_anew(alloc, checked, tree),
+            Grain::Crossings => Err(AllocError),
+        },
         Table::Intervals(_) => Vec::from_slice(alloc, bytes),
     }
 }
@@ -89,11 +94,11 @@ fn tree_upgraded(alloc: Global, checked: &Checked, bytes: &[u8]) -> Result<Renew
     ensures { IfOk result (λ r. IsRenewedWith checked.now.client bytes.now r.bytes.items r.records) }
 {
     match decode(alloc, bytes) {
-        Ok((table, tree)) => {
-            let new = respelled(alloc, checked, &table, &tree, bytes);
+        Ok((basis, tree)) => {
+            let new = respelled(alloc, checked, &basis, &tree, bytes);
             let records = tree.len();
             drop(tree);
-            drop(table);
+            drop(basis);
             Ok(Renewed {
                 bytes: new?,
                 records,
@@ -148,13 +153,13 @@ fn stored_anew(
     bytes: &[u8],
 ) -> Result<Vec<u8>, AllocError>
     requires { IsStored checked.now.client scanned.now }
-    ensures { (tree : Tree) → Spells bytes.now scanned.now.table tree → IsScannedTree checked.now.client tree scanned.now → IfOk result (λ new. IsMadeFor checked.now.client tree new.items) }
+    ensures { (tree : Tree) → Spells bytes.now (by_steps scanned.now.table) tree → IsScannedTree checked.now.client tree scanned.now → IfOk result (λ new. IsMadeFor checked.now.client tree new.items) }
 {
     let table = Table::Intervals(stored_intervals(alloc, checked, scanned)?);
-    match read_table(alloc, bytes) {
+    match read_front(alloc, bytes) {
         Ok((old, tree)) => {
             drop(old);
-            let new = encode_before(alloc, &table, tree);
+            let new = encode_before(alloc, Grain::Steps, &table, tree);
             drop(table);
             new
         }
@@ -174,7 +179,7 @@ fn stored_upgraded(
 ) -> Result<Vec<u8>, AllocError>
     requires stored { IsStored checked.now.client scanned.now }
     requires valid { IsValidCertificate checked.now.client bytes.now }
-    ensures { (tree : Tree) → certificate_at bytes.now ≡ Ok (scanned.now.table, tree) → IsScannedTree checked.now.client tree scanned.now → IfOk result (λ new. IsRenewed checked.now.client tree bytes.now new.items) }
+    ensures { (tree : Tree) → certificate_at bytes.now ≡ Ok (by_steps scanned.now.table, tree) → IsScannedTree checked.now.client tree scanned.now → IfOk result (λ new. IsRenewed checked.now.client tree bytes.now new.items) }
 {
     match &scanned.table {
         Table::Arrays(_) => stored_anew(alloc, checked, scanned, bytes),

@@ -5,7 +5,7 @@ use Rattle.std.proofs.lemmas.Option.{slice_get_within}
 use Rattle.tso_explore.specs.Asked.{AreHalvesAsked, AreWorkedIn, CanBeAsked, Range, asked}
 use Rattle.tso_foot.specs.declared.table.Table.{Table}
 use Rattle.tso_prog.specs.declared.client.Client.{Client}
-use Rattle.tso_search.specs.Searched.{AreSearched, AreWorkedBetween, HasBegun, IsWorkedAt}
+use Rattle.tso_search.specs.BySteps.{AreSearched, AreWorkedBetween, HasBegun, IsWorkedAt}
 use Rattle.tso_state.specs.declared.state.State.{State}
 
 pub both_worked : (whole left right : Range) → AreHalvesAsked whole left right → AreWorkedIn left → AreWorkedIn right → AreWorkedIn whole
@@ -38,6 +38,6 @@ one_more_worked c t states from to all one n low high s at = elim (cases_lt n to
 -- all of them
 pub all_worked : (c : Client) (t : Table) (states : List State) (count : ℕ) → HasBegun c states → count ≡ length states → AreWorkedBetween c t states 0 count → AreSearched c t states
 all_worked c t states count begun is worked = record {
-  begun = begun;
+  begun = record { initial = begun.initial; initial_at = begun.initial_at; initial_is = begun.initial_is; met = begun.met };
   worked = λ n s at. let lt = slice_get_within states n s at in worked n (omega arith) (omega (arith, lt, is)) s at;
 }

@@ -2,7 +2,7 @@
 use Rattle.std.specs.Prelude.{◌≡◌, ◌≤◌, ℕ, List, length}
 use Rattle.tso_foot.specs.declared.table.Table.{Table}
 use Rattle.tso_prog.specs.declared.client.Client.{Client}
-use Rattle.tso_search.specs.Searched.{AreWorkedBetween, HasBegun}
+use Rattle.tso_search.specs.BySteps.{AreWorkedBetween, HasBegun}
 use Rattle.tso_state.specs.declared.state.State.{State}
 
 -- states of which is asked, with numbers from one up to another

@@ -5,8 +5,10 @@ use Rattle.tso_explore.specs.declared.ended.Ended.{Ended}
 use Rattle.tso_explore.specs.declared.ended.Ended.TheVariants as endings
 use Rattle.tso_explore.specs.declared.finding.Finding.{Finding}
 use Rattle.tso_explore.specs.declared.finding.Finding.TheVariants as findings
-use Rattle.tso_foot.specs.declared.table.Table.{Table}
+use Rattle.tso_search.specs.declared.ground.Ground.{Ground}
 use Rattle.tso_prog.specs.declared.client.Client.{Client}
+use Rattle.tso_rec.specs.declared.basis.Grain.{Grain}
+use Rattle.tso_search.specs.Grounds.{grain_of}
 use Rattle.tso_search.specs.Searched.{AreSearched, HasMore}
 use Rattle.tso_store.specs.Sheets.{Sheet}
 use Rattle.tso_trace.specs.Runs.{IsErrorTrace}
@@ -14,13 +16,13 @@ use Rattle.tso_write.specs.Worked.{AreWorkedOut}
 
 -- the store is of this client, all its states are worked, and there are no more of them than the limit allows; or this is why the
 -- search stopped early
-abbrev pub IsEnded : Client → ℕ → Table → Sheet → Ended → Type 0
-IsEnded c limit t store endings.Worked = (store.client ≡ c) × AreSearched c t store.states × (length store.states ≤ limit)
-IsEnded c limit t store (endings.Early why) = IsStopped c limit why
+abbrev pub IsEnded : Client → ℕ → Ground → Sheet → Ended → Type 0
+IsEnded c limit g store endings.Worked = (store.client ≡ c) × AreSearched c g store.states × (length store.states ≤ limit)
+IsEnded c limit g store (endings.Early why) = IsStopped c limit why
 
--- what is found: no more worked states than the limit allows; the trace of an error of this client; that more can be reached
-abbrev pub IsFinding : Client → ℕ → Finding → Type 0
-IsFinding c limit (findings.Worked w) = AreWorkedOut c w × (length w.store.states ≤ limit)
-IsFinding c limit (findings.Trace trace) = (trace.checked.client ≡ c) × ∥ IsErrorTrace c trace.labels ∥₁
-IsFinding c limit findings.LimitReached = HasMore c limit
-IsFinding c limit findings.NoMemory = Unit {0}
+-- what a search of this grain finds: no more worked states than the limit allows; the trace of an error of this client; that more can be reached
+abbrev pub IsFinding : Client → ℕ → Grain → Finding → Type 0
+IsFinding c limit grain (findings.Worked w) = AreWorkedOut c w × (length w.store.states ≤ limit) × (grain_of w.ground ≡ grain)
+IsFinding c limit grain (findings.Trace trace) = (trace.checked.client ≡ c) × ∥ IsErrorTrace c trace.labels ∥₁
+IsFinding c limit grain findings.LimitReached = HasMore c limit
+IsFinding c limit grain findings.NoMemory = Unit {0}

@@ -12,7 +12,7 @@ use Rattle.tso_write.specs.Worked.{IsCertificate}
 
 -- what is found: a valid certificate; the trace of an error of this client; that more states can be reached than the limit allows
 abbrev pub IsOutcome : Client → ℕ → Outcome → Type 0
-IsOutcome c limit (found.Certificate t cert) = IsCertificate c limit t (tree_of cert)
+IsOutcome c limit (found.Certificate g cert) = IsCertificate c limit g (tree_of cert)
 IsOutcome c limit (found.Trace trace) = (trace.checked.client ≡ c) × ∥ IsErrorTrace c trace.labels ∥₁
 IsOutcome c limit found.LimitReached = HasMore c limit
 IsOutcome c limit found.NoMemory = Unit {0}

@@ -1,7 +1,8 @@
 //! Whether states that several workers have met are all worked.
 
 ghost use Rattle.std.specs.Prelude.{◌≡◌, ◌<◌, ◌≤◌, IfOk, IsTrue, length, true};
-ghost use Rattle.tso_search.specs.Searched.{AreFollowed, AreSearched, AreWorkedBetween, HasBegun, IsFollowed, IsGoodAt, IsWorkedAt};
+ghost use Rattle.tso_search.specs.BySteps.{AreFollowed, AreSearched, AreWorkedBetween, HasBegun, IsFollowed, IsWorkedAt};
+ghost use Rattle.tso_search.specs.Searched.{IsGoodAt};
 
 use std::alloc::{AllocError, Global};
 use std::thread::Threads;

@@ -2,20 +2,26 @@
 
 ghost use Rattle.std.specs.Prelude.{◌≡◌, ◌+◌, ◌≤◌, ◌⊎◌, [], IfErr, IfOk, IfSome, OnOk, Some, length, true};
 ghost use Rattle.tso_explore.specs.Firsts.{IsBegunAlone, IsFirstAlone, IsFirstOf, IsFound, IsPaused, IsSoon};
+ghost use Rattle.tso_search.specs.BySteps.{any_steps};
 ghost use Rattle.tso_search.specs.Goodness.{AllGood};
+ghost use Rattle.tso_search.specs.Grounds.{HasLeastTable, HasRoom, IsGround, grain_of};
+ghost use Rattle.tso_rec.specs.declared.basis.Grain.{Grain as GrainValue};
+ghost use Rattle.tso_rec.specs.declared.basis.Grain.TheVariants as grains;
+ghost use Rattle.tso_search.specs.declared.ground.Ground.TheVariants as grounds;
 ghost use Rattle.tso_explore.specs.Outcomes.{IsOutcome, IsStopped};
 ghost use Rattle.tso_explore.specs.Findings.{IsEnded, IsFinding};
 ghost use Rattle.tso_parts.specs.Numbers.{Extends};
-ghost use Rattle.tso_search.specs.Reached.{IsBadAt};
+ghost use Rattle.tso_regions.specs.Regions.{AreSound};
 ghost use Rattle.tso_search.specs.Searched.{AreSearched, HasBegun, HasMore, IsBegun, IsHunting, IsSearched, IsStarted, IsStop};
 ghost use Rattle.tso_search.specs.Shortening.{IsTraceOf};
-ghost use Rattle.tso_foot.specs.Closed.{IsClosed, IsLeastClosed};
+ghost use Rattle.tso_search.specs.Ways.{IsBadEnd};
 ghost use Rattle.tso_write.specs.Worked.{AreWorkedOut};
 
 use crate::closing::are_worked;
 use crate::ended::{Ended, Stopped};
 use crate::finding::Finding;
 use crate::first::{First, Soon};
+use crate::grounds::ground_of;
 use crate::merging::merged;
 use crate::outcome::Outcome;
 use std::alloc::{AllocError, Global};
@@ -26,9 +32,11 @@ use tso_flow::Checked;
 use tso_foot::{Table, build};
 use tso_machine::thread_count;
 use tso_pool::{Ending, search as search_together};
+use tso_rec::Grain;
 use tso_regions::by_regions;
 use tso_search::{
-    Judged, Marks, Origin, Stop, Way, hunt, is_first_good, search, shortened, started, trace_to,
+    Ground, Judged, Marks, Origin, Stop, Way, hunt, is_first_good, search, shortened, started,
+    trace_to,
 };
 use tso_store::Store;
 use tso_trace::Trace;
@@ -53,16 +61,14 @@ const SHARED: usize = 512;
 fn short_trace(
     alloc: Global,
     checked: &Checked,
-    store: &Store<'_>,
+    ground: &Ground,
     origins: &[Origin],
     number: u32,
 ) -> Result<Trace, AllocError>
-    requires client { store.now.client ≡ checked.now.client }
-    requires begun { IsBegun checked.now.client store.now.states origins.now }
-    requires bad { IsBadAt checked.now.client store.now.states number }
+    requires { IsBadEnd checked.now.client ground.now origins.now number }
     ensures { IfOk result (IsTraceOf checked.now.client) }
 {
-    let trace = trace_to(alloc, checked, store, origins, number)?;
+    let trace = trace_to(alloc, checked, ground, origins, number)?;
     shortened(alloc, checked, trace, thread_count(&checked.client))
 }
 
@@ -70,18 +76,19 @@ fn short_trace(
 fn stopped(
     alloc: Global,
     checked: &Checked,
+    ground: &Ground,
     store: &Store<'_>,
     origins: &[Origin],
     limit: u32,
     stop: Stop,
 ) -> Result<Stopped, AllocError>
     requires client { store.now.client ≡ checked.now.client }
-    requires stop { IsStop checked.now.client limit store.now.states origins.now stop }
+    requires stop { IsStop checked.now.client ground.now limit store.now.states origins.now stop }
     ensures { IfOk result (IsStopped checked.now.client limit) }
 {
     match stop {
         Stop::Violation(number) => {
-            let trace = short_trace(alloc, checked, store, origins, number)?;
+            let trace = short_trace(alloc, checked, ground, origins, number)?;
             Ok(Stopped::Trace(trace))
         }
         Stop::Limit => Ok(Stopped::LimitReached),
@@ -93,16 +100,17 @@ fn stopped(
 fn stopped_first(
     alloc: Global,
     checked: &Checked,
+    ground: &Ground,
     store: &Store<'_>,
     origins: &[Origin],
     limit: u32,
     stop: Stop,
 ) -> Result<First, AllocError>
     requires client { store.now.client ≡ checked.now.client }
-    requires stop { IsStop checked.now.client limit store.now.states origins.now stop }
+    requires stop { IsStop checked.now.client ground.now limit store.now.states origins.now stop }
     ensures { IfOk result (IsFound checked.now.client limit) }
 {
-    let why = stopped(alloc, checked, store, origins, limit, stop)?;
+    let why = stopped(alloc, checked, ground, store, origins, limit, stop)?;
     Ok(First::Stopped(why))
 }
 
@@ -110,7 +118,7 @@ fn stopped_first(
 fn hunted_deep(
     alloc: Global,
     checked: &Checked,
-    table: &Table,
+    ground: &Ground,
     store: &mut Store<'_>,
     origins: &mut Vec<Origin>,
     judged: &mut Judged,
@@ -118,18 +126,18 @@ fn hunted_deep(
     number: u32,
     limit: u32,
 ) -> Result<First, AllocError>
-    requires paused { IsPaused checked.now.client limit table.now store.old origins.old.items marks.old number }
-    requires room { store.old.kept ≤ 2000000000 }
-    ensures { IfOk result (IsFirstOf checked.now.client limit table.now store.new origins.new.items marks.new) }
+    requires paused { IsPaused checked.now.client limit ground.now store.old origins.old.items marks.old number }
+    requires room { HasRoom ground.now store.old.kept 2000000000 }
+    ensures { IfOk result (IsFirstOf checked.now.client limit ground.now store.new origins.new.items marks.new) }
 {
     let way = Way::Depth;
     match hunt(
-        alloc, checked, table, store, origins, judged, marks, way, number, limit,
+        alloc, checked, ground, store, origins, judged, marks, way, number, limit,
     ) {
         Ok(()) => Ok(First::GoesOn(number)),
         Err(stop) => {
             let slice = origins.as_slice();
-            stopped_first(alloc, checked, store, slice, limit, stop)
+            stopped_first(alloc, checked, ground, store, slice, limit, stop)
         }
     }
 }
@@ -138,7 +146,7 @@ fn hunted_deep(
 fn hunted_on(
     alloc: Global,
     checked: &Checked,
-    table: &Table,
+    ground: &Ground,
     store: &mut Store<'_>,
     origins: &mut Vec<Origin>,
     judged: &mut Judged,
@@ -146,20 +154,20 @@ fn hunted_on(
     number: u32,
     limit: u32,
 ) -> Result<First, AllocError>
-    requires paused { IsPaused checked.now.client limit table.now store.old origins.old.items marks.old number }
-    requires room { store.old.kept ≤ 1000000000 }
-    ensures { IfOk result (IsFirstOf checked.now.client limit table.now store.new origins.new.items marks.new) }
+    requires paused { IsPaused checked.now.client limit ground.now store.old origins.old.items marks.old number }
+    requires room { HasRoom ground.now store.old.kept 1000000000 }
+    ensures { IfOk result (IsFirstOf checked.now.client limit ground.now store.new origins.new.items marks.new) }
 {
     let way = Way::Breadth;
     match hunt(
-        alloc, checked, table, store, origins, judged, marks, way, number, limit,
+        alloc, checked, ground, store, origins, judged, marks, way, number, limit,
     ) {
         Ok(()) => hunted_deep(
-            alloc, checked, table, store, origins, judged, marks, number, limit,
+            alloc, checked, ground, store, origins, judged, marks, number, limit,
         ),
         Err(stop) => {
             let slice = origins.as_slice();
-            stopped_first(alloc, checked, store, slice, limit, stop)
+            stopped_first(alloc, checked, ground, store, slice, limit, stop)
         }
     }
 }
@@ -168,7 +176,7 @@ fn hunted_on(
 fn probe(
     alloc: Global,
     checked: &Checked,
-    table: &Table,
+    ground: &Ground,
     store: &mut Store<'_>,
     origins: &mut Vec<Origin>,
     judged: &mut Judged,
@@ -177,18 +185,18 @@ fn probe(
     limit: u32,
 ) -> Result<(), Stop>
     requires client { store.old.client ≡ checked.now.client }
-    requires hunting { IsHunting checked.now.client table.now limit store.old.states origins.old.items marks.old }
-    requires room { store.old.kept ≤ 500000000 }
-    ensures hunting { OnOk result (IsHunting checked.now.client table.now limit store.new.states origins.new.items marks.new) }
+    requires hunting { IsHunting checked.now.client ground.now limit store.old.states origins.old.items marks.old }
+    requires room { HasRoom ground.now store.old.kept 500000000 }
+    ensures hunting { OnOk result (IsHunting checked.now.client ground.now limit store.new.states origins.new.items marks.new) }
     ensures stays { OnOk result (Extends store.old.states store.new.states) }
-    ensures stop { IfErr result (IsStop checked.now.client limit store.new.states origins.new.items) }
-    ensures room { OnOk result (store.new.kept ≤ store.old.kept + 167772160) }
+    ensures stop { IfErr result (IsStop checked.now.client ground.now limit store.new.states origins.new.items) }
+    ensures room { OnOk result (HasRoom ground.now store.new.kept (store.old.kept + 167772160)) }
     ensures client { store.new.client ≡ store.old.client }
 {
     let way = Way::Probe;
     for _probe in 0..PROBES {
         hunt(
-            alloc, checked, table, store, origins, judged, marks, way, from, limit,
+            alloc, checked, ground, store, origins, judged, marks, way, from, limit,
         )?;
     }
     Ok(())
@@ -198,7 +206,7 @@ fn probe(
 fn probed_on(
     alloc: Global,
     checked: &Checked,
-    table: &Table,
+    ground: &Ground,
     store: &mut Store<'_>,
     origins: &mut Vec<Origin>,
     judged: &mut Judged,
@@ -206,19 +214,19 @@ fn probed_on(
     number: u32,
     limit: u32,
 ) -> Result<First, AllocError>
-    requires paused { IsPaused checked.now.client limit table.now store.old origins.old.items marks.old number }
-    requires room { store.old.kept ≤ 500000000 }
-    ensures { IfOk result (IsFirstOf checked.now.client limit table.now store.new origins.new.items marks.new) }
+    requires paused { IsPaused checked.now.client limit ground.now store.old origins.old.items marks.old number }
+    requires room { HasRoom ground.now store.old.kept 500000000 }
+    ensures { IfOk result (IsFirstOf checked.now.client limit ground.now store.new origins.new.items marks.new) }
 {
     match probe(
-        alloc, checked, table, store, origins, judged, marks, number, limit,
+        alloc, checked, ground, store, origins, judged, marks, number, limit,
     ) {
         Ok(()) => hunted_on(
-            alloc, checked, table, store, origins, judged, marks, number, limit,
+            alloc, checked, ground, store, origins, judged, marks, number, limit,
         ),
         Err(stop) => {
             let slice = origins.as_slice();
-            stopped_first(alloc, checked, store, slice, limit, stop)
+            stopped_first(alloc, checked, ground, store, slice, limit, stop)
         }
     }
 }
@@ -228,7 +236,7 @@ fn first_found<R: Wait, W: Watch>(
     rt: &R,
     alloc: Global,
     checked: &Checked,
-    table: &Table,
+    ground: &Ground,
     store: &mut Store<'_>,
     origins: &mut Vec<Origin>,
     judged: &mut Judged,
@@ -237,32 +245,32 @@ fn first_found<R: Wait, W: Watch>(
     watch: &W,
 ) -> Result<First, AllocError>
     requires client { store.old.client ≡ checked.now.client }
-    requires started { IsStarted checked.now.client store.old.states }
+    requires started { IsStarted checked.now.client ground.now store.old.states }
     requires none { origins.old.items ≡ [] }
     requires unmarked { marks.old ≡ [] }
     requires few { length store.old.states ≤ limit }
     requires limit { limit ≤ 4194304 }
-    requires room { store.old.kept ≤ 8 }
-    ensures found { IfOk result (IsFirstOf checked.now.client limit table.now store.new origins.new.items marks.new) }
+    requires room { HasRoom ground.now store.old.kept 8 }
+    ensures found { IfOk result (IsFirstOf checked.now.client limit ground.now store.new origins.new.items marks.new) }
 {
-    if !is_first_good(alloc, checked, store)? {
-        let trace = short_trace(alloc, checked, store, origins.as_slice(), 0)?;
+    if !is_first_good(alloc, checked, ground, store)? {
+        let trace = short_trace(alloc, checked, ground, origins.as_slice(), 0)?;
         return Ok(First::Stopped(Stopped::Trace(trace)));
     }
     match search(
-        rt, alloc, checked, table, store, origins, judged, marks, 0, FIRST, limit, watch,
+        rt, alloc, checked, ground, store, origins, judged, marks, 0, FIRST, limit, watch,
     ) {
         Ok(number) => {
             if number as usize >= store.len() {
                 return Ok(First::GoesOn(number));
             }
             probed_on(
-                alloc, checked, table, store, origins, judged, marks, number, limit,
+                alloc, checked, ground, store, origins, judged, marks, number, limit,
             )
         }
         Err(stop) => {
             let slice = origins.as_slice();
-            stopped_first(alloc, checked, store, slice, limit, stop)
+            stopped_first(alloc, checked, ground, store, slice, limit, stop)
         }
     }
 }
@@ -272,7 +280,7 @@ fn found_behind<R: Wait, W: Watch>(
     rt: &R,
     alloc: Global,
     checked: &Checked,
-    table: &Table,
+    ground: &Ground,
     store: &mut Store<'_>,
     origins: &mut Vec<Origin>,
     judged: &mut Judged,
@@ -282,14 +290,14 @@ fn found_behind<R: Wait, W: Watch>(
     watch: &W,
 ) -> Result<Ended, AllocError>
     requires limit { limit ≤ 4194304 }
-    requires paused { IsPaused checked.now.client limit table.now store.old origins.old.items marks.now number }
-    ensures { IfOk result (IsEnded checked.now.client limit table.now store.new) }
+    requires paused { IsPaused checked.now.client limit ground.now store.old origins.old.items marks.now number }
+    ensures { IfOk result (IsEnded checked.now.client limit ground.now store.new) }
 {
     match search(
         rt,
         alloc,
         checked,
-        table,
+        ground,
         store,
         origins,
         judged,
@@ -302,7 +310,7 @@ fn found_behind<R: Wait, W: Watch>(
         Ok(_) => Ok(Ended::Worked),
         Err(stop) => {
             let slice = origins.as_slice();
-            let why = stopped(alloc, checked, store, slice, limit, stop)?;
+            let why = stopped(alloc, checked, ground, store, slice, limit, stop)?;
             Ok(Ended::Early(why))
         }
     }
@@ -313,28 +321,28 @@ fn found_from<R: Wait, W: Watch>(
     rt: &R,
     alloc: Global,
     checked: &Checked,
-    table: &Table,
+    ground: &Ground,
     store: &mut Store<'_>,
     limit: u32,
     watch: &W,
 ) -> Result<Ended, AllocError>
     requires client { store.old.client ≡ checked.now.client }
-    requires started { IsStarted checked.now.client store.old.states }
+    requires started { IsStarted checked.now.client ground.now store.old.states }
     requires few { length store.old.states ≤ limit }
     requires limit { limit ≤ 4194304 }
-    requires room { store.old.kept ≤ 8 }
-    ensures { IfOk result (IsEnded checked.now.client limit table.now store.new) }
+    requires room { HasRoom ground.now store.old.kept 8 }
+    ensures { IfOk result (IsEnded checked.now.client limit ground.now store.new) }
 {
     let mut origins = Vec::new(alloc);
     let mut judged = Judged::new(alloc)?;
     let mut marks = Marks::new(alloc);
     let (ways, noted, worked) = (&mut origins, &mut judged, &mut marks);
     match first_found(
-        rt, alloc, checked, table, store, ways, noted, worked, limit, watch,
+        rt, alloc, checked, ground, store, ways, noted, worked, limit, watch,
     )? {
         First::Stopped(why) => Ok(Ended::Early(why)),
         First::GoesOn(number) => found_behind(
-            rt, alloc, checked, table, store, ways, noted, worked, number, limit, watch,
+            rt, alloc, checked, ground, store, ways, noted, worked, number, limit, watch,
         ),
     }
 }
@@ -349,34 +357,34 @@ fn search_alone<R: Wait>(
     rt: &R,
     alloc: Global,
     checked: &Checked,
-    table: &Table,
+    ground: &Ground,
     store: &mut Store<'_>,
     origins: &mut Vec<Origin>,
     judged: &mut Judged,
     limit: u32,
 ) -> Result<u32, Stop>
     requires client { store.old.client ≡ checked.now.client }
-    requires searched { IsSearched checked.now.client table.now store.old.states origins.old.items 0 }
+    requires searched { IsSearched checked.now.client ground.now store.old.states origins.old.items 0 }
     requires good { AllGood checked.now.client store.old.states }
     requires few { length store.old.states ≤ limit }
     requires limit { limit ≤ 4194304 }
-    requires room { store.old.kept ≤ 8 }
-    ensures searched { IfOk result (λ number. IsSearched checked.now.client table.now store.new.states origins.new.items number) }
+    requires room { HasRoom ground.now store.old.kept 8 }
+    ensures searched { IfOk result (λ number. IsSearched checked.now.client ground.now store.new.states origins.new.items number) }
     ensures good { OnOk result (AllGood checked.now.client store.new.states) }
     ensures low { IfOk result (λ number. number ≤ length store.new.states) }
     ensures few { OnOk result (length store.new.states ≤ limit) }
-    ensures stop { IfErr result (IsStop checked.now.client limit store.new.states origins.new.items) }
+    ensures stop { IfErr result (IsStop checked.now.client ground.now limit store.new.states origins.new.items) }
     ensures client { store.new.client ≡ store.old.client }
 {
     let marks = Marks::new(alloc);
     let number = search(
-        rt, alloc, checked, table, store, origins, judged, &marks, 0, EARLY, limit, &NoWatch,
+        rt, alloc, checked, ground, store, origins, judged, &marks, 0, EARLY, limit, &NoWatch,
     )?;
     if are_many(store.len(), number) {
         return Ok(number);
     }
     search(
-        rt, alloc, checked, table, store, origins, judged, &marks, number, ALONE, limit, &NoWatch,
+        rt, alloc, checked, ground, store, origins, judged, &marks, number, ALONE, limit, &NoWatch,
     )
 }
 
@@ -385,68 +393,73 @@ fn first_alone<R: Wait>(
     rt: &R,
     alloc: Global,
     checked: &Checked,
-    table: &Table,
+    ground: &Ground,
     store: &mut Store<'_>,
     limit: u32,
 ) -> Result<First, AllocError>
     requires client { store.old.client ≡ checked.now.client }
-    requires started { IsStarted checked.now.client store.old.states }
+    requires started { IsStarted checked.now.client ground.now store.old.states }
     requires few { length store.old.states ≤ limit }
     requires limit { limit ≤ 4194304 }
-    requires room { store.old.kept ≤ 8 }
-    ensures { IfOk result (IsFirstAlone checked.now.client limit table.now store.new) }
+    requires room { HasRoom ground.now store.old.kept 8 }
+    ensures { IfOk result (IsFirstAlone checked.now.client limit ground.now store.new) }
 {
     let mut origins = Vec::new(alloc);
-    if !is_first_good(alloc, checked, store)? {
-        let trace = short_trace(alloc, checked, store, origins.as_slice(), 0)?;
+    if !is_first_good(alloc, checked, ground, store)? {
+        let trace = short_trace(alloc, checked, ground, origins.as_slice(), 0)?;
         return Ok(First::Stopped(Stopped::Trace(trace)));
     }
     let mut judged = Judged::new(alloc)?;
     let (ways, noted) = (&mut origins, &mut judged);
-    match search_alone(rt, alloc, checked, table, store, ways, noted, limit) {
+    match search_alone(rt, alloc, checked, ground, store, ways, noted, limit) {
         Ok(number) => Ok(First::GoesOn(number)),
         Err(stop) => {
             let slice = origins.as_slice();
-            stopped_first(alloc, checked, store, slice, limit, stop)
+            stopped_first(alloc, checked, ground, store, slice, limit, stop)
         }
     }
 }
 
-// The least closed table of footprints, and a store with the initial state.
-fn begun<'a>(alloc: Global, checked: &'a Checked) -> Result<(Table, Store<'a>), AllocError>
-    ensures closed { IfOk result (λ b. IsClosed checked.now.client b.0) }
-    ensures least { IfOk result (λ b. IsLeastClosed checked.now.client b.0) }
+// By what a search of this grain goes, and the store with which it begins.
+fn begun<'a>(
+    alloc: Global,
+    checked: &'a Checked,
+    grain: Grain,
+) -> Result<(Ground, Store<'a>), AllocError>
+    ensures closed { IfOk result (λ b. IsGround checked.now.client b.0) }
+    ensures least { IfOk result (λ b. HasLeastTable checked.now.client b.0) }
+    ensures grain { IfOk result (λ b. grain_of b.0 ≡ grain) }
     ensures client { IfOk result (λ b. b.1.client ≡ checked.now.client) }
-    ensures states { IfOk result (λ b. IsStarted checked.now.client b.1.states) }
-    ensures room { IfOk result (λ b. b.1.kept ≤ 8) }
+    ensures states { IfOk result (λ b. IsStarted checked.now.client b.0 b.1.states) }
+    ensures room { IfOk result (λ b. HasRoom b.0 b.1.kept 8) }
 {
-    let table = build(alloc, checked)?;
-    match started(alloc, checked) {
-        Ok(store) => Ok((table, store)),
+    let ground = ground_of(alloc, checked, grain)?;
+    match started(alloc, checked, &ground) {
+        Ok(store) => Ok((ground, store)),
         Err(reason) => {
-            drop(table);
+            drop(ground);
             Err(reason)
         }
     }
 }
 
 // What a search found that all states of this store are worked by.
-fn worked_out<'c>(checked: &Checked, table: Table, store: Store<'c>, limit: u32) -> Finding<'c>
-    requires closed { IsClosed checked.now.client table }
-    requires least { IsLeastClosed checked.now.client table }
+fn worked_out<'c>(checked: &Checked, ground: Ground, store: Store<'c>, limit: u32) -> Finding<'c>
+    requires closed { IsGround checked.now.client ground }
+    requires least { HasLeastTable checked.now.client ground }
     requires client { store.client ≡ checked.now.client }
-    requires searched { AreSearched checked.now.client table store.states }
+    requires searched { AreSearched checked.now.client ground store.states }
     requires few { length store.states ≤ limit }
     requires limit { limit ≤ 4194304 }
-    ensures { IsFinding checked.now.client limit result }
+    ensures { IsFinding checked.now.client limit (grain_of ground) result }
 {
-    Finding::Worked(Worked { table, store })
+    Finding::Worked(Worked { ground, store })
 }
 
 // What a search found that stopped early.
 fn finding_for<'c>(checked: &'c Checked, why: Stopped, limit: u32) -> Finding<'c>
     requires { IsStopped checked.now.client limit why }
-    ensures { IsFinding checked.now.client limit result }
+    ensures { (g : GrainValue) → IsFinding checked.now.client limit g result }
 {
     match why {
         Stopped::Trace(trace) => Finding::Trace(trace),
@@ -457,22 +470,22 @@ fn finding_for<'c>(checked: &'c Checked, why: Stopped, limit: u32) -> Finding<'c
 // What a search found that ended so.
 fn finding_of<'c>(
     checked: &'c Checked,
-    table: Table,
+    ground: Ground,
     store: Store<'c>,
     ended: Ended,
     limit: u32,
 ) -> Finding<'c>
-    requires closed { IsClosed checked.now.client table }
-    requires least { IsLeastClosed checked.now.client table }
-    requires ended { IsEnded checked.now.client limit table store ended }
+    requires closed { IsGround checked.now.client ground }
+    requires least { HasLeastTable checked.now.client ground }
+    requires ended { IsEnded checked.now.client limit ground store ended }
     requires limit { limit ≤ 4194304 }
-    ensures { IsFinding checked.now.client limit result }
+    ensures { IsFinding checked.now.client limit (grain_of ground) result }
 {
     match ended {
-        Ended::Worked => worked_out(checked, table, store, limit),
+        Ended::Worked => worked_out(checked, ground, store, limit),
         Ended::Early(why) => {
             drop(store);
-            drop(table);
+            drop(ground);
             finding_for(checked, why, limit)
         }
     }
@@ -481,34 +494,71 @@ fn finding_of<'c>(
 // What is found where the caller has searched all states alone: these, unless they are so few that all workers search them.
 fn found_alone<'c, W: Watch>(
     checked: &Checked,
-    table: Table,
+    ground: Ground,
     store: Store<'c>,
     number: u32,
     limit: u32,
     watch: &W,
 ) -> Soon<'c>
     requires limit { limit ≤ 4194304 }
-    requires closed { IsClosed checked.now.client table }
-    requires least { IsLeastClosed checked.now.client table }
-    requires begun { IsBegunAlone checked.now.client limit table store number }
+    requires closed { IsGround checked.now.client ground }
+    requires least { HasLeastTable checked.now.client ground }
+    requires begun { IsBegunAlone checked.now.client limit ground store number }
     requires all { length store.states ≤ number }
-    ensures { IsSoon checked.now.client limit result }
+    ensures { IsSoon checked.now.client limit (grain_of ground) result }
 {
     if store.len() < SHARED {
         drop(store);
-        drop(table);
+        drop(ground);
         return Soon::Few;
     }
     watch.met(store.len() as u64, 0);
-    Soon::Found(worked_out(checked, table, store, limit))
+    Soon::Found(worked_out(checked, ground, store, limit))
 }
 
-// What several workers find by regions, from the first states on that one has searched up to state `number`.
-fn found_by_regions<'c, R: Threads + Wait + Sync, W: Watch + Sync>(
+// What several workers find by regions, from the first states on that one has searched.
+fn found_behind_first<'c, R: Threads + Wait + Sync, W: Watch + Sync>(
     rt: &R,
     alloc: Global,
     checked: &'c Checked,
     table: Table,
+    store: Store<'c>,
+    workers: u64,
+    limit: u32,
+    watch: &W,
+) -> Result<Soon<'c>, AllocError>
+    requires workers { (1 ≤ workers) × (workers ≤ 64) }
+    requires limit { limit ≤ 4194304 }
+    requires closed { IsGround checked.now.client (grounds.Steps table) }
+    requires least { HasLeastTable checked.now.client (grounds.Steps table) }
+    requires client { store.client ≡ checked.now.client }
+    requires sound { AreSound checked.now.client store.states }
+    requires begun { HasBegun checked.now.client (grounds.Steps table) store.states }
+    requires few { length store.states ≤ limit }
+    ensures { IfOk result (IsSoon checked.now.client limit grains.Steps) }
+{
+    match by_regions(rt, alloc, checked, &table, store, workers, limit, watch) {
+        Ok(Some(store)) => {
+            let ground = Ground::Steps(table);
+            Ok(Soon::Found(worked_out(checked, ground, store, limit)))
+        }
+        Ok(None) => {
+            drop(table);
+            Ok(Soon::Unknown)
+        }
+        Err(reason) => {
+            drop(table);
+            Err(reason)
+        }
+    }
+}
+
+// The same from the first states on that one has searched up to state `number`; by crossings one goes on.
+fn found_by_regions<'c, R: Threads + Wait + Sync, W: Watch + Sync>(
+    rt: &R,
+    alloc: Global,
+    checked: &'c Checked,
+    ground: Ground,
     store: Store<'c>,
     number: u32,
     workers: u64,
@@ -517,23 +567,23 @@ fn found_by_regions<'c, R: Threads + Wait + Sync, W: Watch + Sync>(
 ) -> Result<Soon<'c>, AllocError>
     requires workers { (1 ≤ workers) × (workers ≤ 64) }
     requires limit { limit ≤ 4194304 }
-    requires closed { IsClosed checked.now.client table }
-    requires least { IsLeastClosed checked.now.client table }
-    requires begun { IsBegunAlone checked.now.client limit table store number }
-    ensures { IfOk result (IsSoon checked.now.client limit) }
+    requires closed { IsGround checked.now.client ground }
+    requires least { HasLeastTable checked.now.client ground }
+    requires begun { IsBegunAlone checked.now.client limit ground store number }
+    ensures { IfOk result (IsSoon checked.now.client limit (grain_of ground)) }
 {
     if number as usize >= store.len() {
-        return Ok(found_alone(checked, table, store, number, limit, watch));
+        return Ok(found_alone(checked, ground, store, number, limit, watch));
     }
-    match by_regions(rt, alloc, checked, &table, store, workers, limit, watch) {
-        Ok(Some(store)) => Ok(Soon::Found(worked_out(checked, table, store, limit))),
-        Ok(None) => {
-            drop(table);
-            Ok(Soon::Unknown)
+    match ground {
+        Ground::Steps(table) => {
+            found_behind_first(rt, alloc, checked, table, store, workers, limit, watch)
         }
-        Err(reason) => {
+        Ground::Crossings(own, table) => {
+            drop(own);
             drop(table);
-            Err(reason)
+            drop(store);
+            Ok(Soon::Unknown)
         }
     }
 }
@@ -549,28 +599,28 @@ fn found_soon<'c, R: Threads + Wait + Sync, W: Watch + Sync>(
 ) -> Result<Soon<'c>, AllocError>
     requires workers { (1 ≤ workers) × (workers ≤ 64) }
     requires limit { limit ≤ 4194304 }
-    ensures { IfOk result (IsSoon checked.now.client limit) }
+    ensures { IfOk result (IsSoon checked.now.client limit grains.Steps) }
 {
-    let made = begun(alloc, checked)?;
-    let (table, mut store) = made;
+    let made = begun(alloc, checked, Grain::Steps)?;
+    let (ground, mut store) = made;
     if store.len() > limit as usize {
         store.states_differ();
         drop(store);
-        drop(table);
+        drop(ground);
         return Ok(Soon::Found(Finding::LimitReached));
     }
-    match first_alone(rt, alloc, checked, &table, &mut store, limit) {
+    match first_alone(rt, alloc, checked, &ground, &mut store, limit) {
         Ok(First::GoesOn(number)) => found_by_regions(
-            rt, alloc, checked, table, store, number, workers, limit, watch,
+            rt, alloc, checked, ground, store, number, workers, limit, watch,
         ),
         Ok(First::Stopped(why)) => {
             drop(store);
-            drop(table);
+            drop(ground);
             Ok(Soon::Found(finding_for(checked, why, limit)))
         }
         Err(reason) => {
             drop(store);
-            drop(table);
+            drop(ground);
             Err(reason)
         }
     }
@@ -581,25 +631,26 @@ fn explored<'c, R: Wait, W: Watch>(
     rt: &R,
     alloc: Global,
     checked: &'c Checked,
+    grain: Grain,
     limit: u32,
     watch: &W,
 ) -> Result<Finding<'c>, AllocError>
     requires { limit ≤ 4194304 }
-    ensures { IfOk result (IsFinding checked.now.client limit) }
+    ensures { IfOk result (IsFinding checked.now.client limit grain) }
 {
-    let made = begun(alloc, checked)?;
-    let (table, mut store) = made;
+    let made = begun(alloc, checked, grain)?;
+    let (ground, mut store) = made;
     if store.len() > limit as usize {
         store.states_differ();
         drop(store);
-        drop(table);
+        drop(ground);
         return Ok(Finding::LimitReached);
     }
-    match found_from(rt, alloc, checked, &table, &mut store, limit, watch) {
-        Ok(ended) => Ok(finding_of(checked, table, store, ended, limit)),
+    match found_from(rt, alloc, checked, &ground, &mut store, limit, watch) {
+        Ok(ended) => Ok(finding_of(checked, ground, store, ended, limit)),
         Err(reason) => {
             drop(store);
-            drop(table);
+            drop(ground);
             Err(reason)
         }
     }
@@ -616,9 +667,9 @@ fn are_all_worked<R: Threads + Sync>(
     limit: u32,
 ) -> Result<bool, AllocError>
     requires client { store.now.client ≡ checked.now.client }
-    requires begun { HasBegun checked.now.client store.now.states }
+    requires begun { HasBegun checked.now.client any_steps store.now.states }
     requires limit { limit ≤ 4194304 }
-    ensures { IfOk result (λ all. all ≡ true → AreSearched checked.now.client table.now store.now.states × (length store.now.states ≤ limit)) }
+    ensures { IfOk result (λ all. all ≡ true → AreSearched checked.now.client (grounds.Steps table.now) store.now.states × (length store.now.states ≤ limit)) }
 {
     if store.len() > limit as usize {
         return Ok(false);
@@ -647,7 +698,7 @@ fn gathered<'a, R: Threads + Wait + Sync, W: Watch + Sync>(
 ) -> Result<Option<Store<'a>>, AllocError>
     requires workers { (1 ≤ workers) × (workers ≤ 64) }
     ensures client { IfOk result (λ o. IfSome o (λ store. store.client ≡ checked.now.client)) }
-    ensures begun { IfOk result (λ o. IfSome o (λ store. HasBegun checked.now.client store.states)) }
+    ensures begun { IfOk result (λ o. IfSome o (λ store. HasBegun checked.now.client any_steps store.states)) }
 {
     let (tables, ending) = search_together(rt, alloc, checked, table, workers, limit, watch)?;
     if !is_quiet(ending)? {
@@ -670,15 +721,18 @@ fn found_together<'c, R: Threads + Sync>(
     workers: u64,
     limit: u32,
 ) -> Result<Option<Finding<'c>>, AllocError>
-    requires closed { IsClosed checked.now.client table }
-    requires least { IsLeastClosed checked.now.client table }
+    requires closed { IsGround checked.now.client (grounds.Steps table) }
+    requires least { HasLeastTable checked.now.client (grounds.Steps table) }
     requires client { store.client ≡ checked.now.client }
-    requires begun { HasBegun checked.now.client store.states }
+    requires begun { HasBegun checked.now.client any_steps store.states }
     requires limit { limit ≤ 4194304 }
-    ensures { IfOk result (λ found. IfSome found (IsFinding checked.now.client limit)) }
+    ensures { IfOk result (λ found. IfSome found (IsFinding checked.now.client limit grains.Steps)) }
 {
     match are_all_worked(rt, alloc, checked, &table, &store, workers, limit) {
-        Ok(true) => Ok(Some(worked_out(checked, table, store, limit))),
+        Ok(true) => {
+            let ground = Ground::Steps(table);
+            Ok(Some(worked_out(checked, ground, store, limit)))
+        }
         Ok(false) => {
             drop(store);
             drop(table);
@@ -704,7 +758,7 @@ fn explored_together<'c, R: Threads + Wait + Sync, W: Watch + Sync>(
 ) -> Result<Option<Finding<'c>>, AllocError>
     requires workers { (1 ≤ workers) × (workers ≤ 64) }
     requires limit { limit ≤ 4194304 }
-    ensures { IfOk result (λ found. IfSome found (IsFinding checked.now.client limit)) }
+    ensures { IfOk result (λ found. IfSome found (IsFinding checked.now.client limit grains.Steps)) }
 {
     let table = build(alloc, checked)?;
     match gathered(rt, alloc, checked, &table, workers, limit, watch) {
@@ -720,8 +774,8 @@ fn explored_together<'c, R: Threads + Wait + Sync, W: Watch + Sync>(
     }
 }
 
-// What is found by so many workers, where there is memory.
-fn explored_by<'c, R: Threads + Wait + Sync, W: Watch + Sync>(
+// What is found by steps by so many workers, where there is memory.
+fn explored_by_steps<'c, R: Threads + Wait + Sync, W: Watch + Sync>(
     rt: &R,
     alloc: Global,
     checked: &'c Checked,
@@ -730,25 +784,46 @@ fn explored_by<'c, R: Threads + Wait + Sync, W: Watch + Sync>(
     watch: &W,
 ) -> Result<Finding<'c>, AllocError>
     requires { limit ≤ 4194304 }
-    ensures { IfOk result (IsFinding checked.now.client limit) }
+    ensures { IfOk result (IsFinding checked.now.client limit grains.Steps) }
 {
     let count = workers.count();
     if count < 2 || count > 64 {
-        return explored(rt, alloc, checked, limit, watch);
+        return explored(rt, alloc, checked, Grain::Steps, limit, watch);
     }
     match found_soon(rt, alloc, checked, count, limit, watch)? {
         Soon::Found(finding) => return Ok(finding),
-        Soon::Unknown => return explored(rt, alloc, checked, limit, watch),
+        Soon::Unknown => return explored(rt, alloc, checked, Grain::Steps, limit, watch),
         Soon::Few => {}
     }
     match explored_together(rt, alloc, checked, count, limit, watch)? {
         Some(finding) => Ok(finding),
-        None => explored(rt, alloc, checked, limit, watch),
+        None => explored(rt, alloc, checked, Grain::Steps, limit, watch),
     }
 }
 
-/// Searches the client's compact states from the initial one, following chosen actors alone (Godefroid 1996), with the least
-/// closed table of footprints, and hands out the states where all runs are good: nothing of a certificate is made yet.
+// What is found by a search of this grain, where there is memory.
+fn explored_by<'c, R: Threads + Wait + Sync, W: Watch + Sync>(
+    rt: &R,
+    alloc: Global,
+    checked: &'c Checked,
+    grain: Grain,
+    workers: Workers,
+    limit: u32,
+    watch: &W,
+) -> Result<Finding<'c>, AllocError>
+    requires { limit ≤ 4194304 }
+    ensures { IfOk result (IsFinding checked.now.client limit grain) }
+{
+    match grain {
+        Grain::Steps => explored_by_steps(rt, alloc, checked, workers, limit, watch),
+        Grain::Crossings => explored(rt, alloc, checked, grain, limit, watch),
+    }
+}
+
+/// Searches the client's compact states, and hands out those that it met where all runs are good: nothing of a certificate is made yet.
+/// By steps it goes from the initial state, following chosen actors alone (Godefroid 1996), with the least closed table of footprints. By
+/// crossings it goes from where the run from the initial state stops, following the moves of all actors and the runs of free actors' moves
+/// behind them, with a table of intervals that no state has a say in; one worker goes so, however many are allowed.
 ///
 /// One worker searches by breadth. If 4,096 states do not end that, it goes on for a while by probes, which are short depth-first
 /// searches, and by two long hunts, one by breadth and one by depth, which come to states that lie deep sooner; and then by breadth
@@ -762,14 +837,15 @@ pub fn find<'c, R: Threads + Wait + Sync, W: Watch + Sync>(
     rt: &R,
     alloc: Global,
     checked: &'c Checked,
+    grain: Grain,
     workers: Workers,
     state_limit: u32,
     watch: &W,
 ) -> Finding<'c>
     requires { state_limit ≤ 4194304 }
-    ensures { IsFinding checked.now.client state_limit result }
+    ensures { IsFinding checked.now.client state_limit grain result }
 {
-    match explored_by(rt, alloc, checked, workers, state_limit, watch) {
+    match explored_by(rt, alloc, checked, grain, workers, state_limit, watch) {
         Ok(finding) => finding,
         Err(_) => Finding::NoMemory,
     }
@@ -790,9 +866,9 @@ fn certificate_of<R: Threads + Sync>(
 {
     match tree_for(rt, alloc, checked, &worked, workers) {
         Ok(cert) => {
-            let Worked { table, store } = worked;
+            let Worked { ground, store } = worked;
             drop(store);
-            Outcome::Certificate(table, cert)
+            Outcome::Certificate(ground, cert)
         }
         Err(_) => {
             drop(worked);
@@ -807,6 +883,7 @@ pub fn explore<R: Threads + Wait + Sync, W: Watch + Sync>(
     rt: &R,
     alloc: Global,
     checked: &Checked,
+    grain: Grain,
     workers: Workers,
     state_limit: u32,
     watch: &W,
@@ -814,7 +891,7 @@ pub fn explore<R: Threads + Wait + Sync, W: Watch + Sync>(
     requires { state_limit ≤ 4194304 }
     ensures { IsOutcome checked.now.client state_limit result }
 {
-    match find(rt, alloc, checked, workers, state_limit, watch) {
+    match find(rt, alloc, checked, grain, workers, state_limit, watch) {
         Finding::Worked(worked) => {
             certificate_of(rt, alloc, checked, worked, workers, state_limit)
         }

@@ -6,6 +6,7 @@ mod ended;
 mod exploring;
 mod finding;
 mod first;
+mod grounds;
 mod merging;
 mod outcome;
 

@@ -1,13 +1,13 @@
 //! The states of all shards in one store.
 
 ghost use Rattle.std.specs.Prelude.{◌≡◌, OnOk, IfOk};
-ghost use Rattle.tso_search.specs.Searched.{HasBegun};
+ghost use Rattle.tso_search.specs.BySteps.{HasBegun};
 ghost use Rattle.tso_table.specs.Leading.{IsKept};
 
 use std::alloc::{AllocError, Global};
 use tso_flow::Checked;
 use tso_foot::Table as Footprints;
-use tso_search::started;
+use tso_search::at_initial;
 use tso_store::{AddError, Store};
 use tso_table::{Kept, Table};
 
@@ -120,7 +120,7 @@ pub fn merged<'a>(
     ensures client { IfOk result (λ store. store.client ≡ checked.now.client) }
     ensures begun { IfOk result (λ store. HasBegun checked.now.client store.states) }
 {
-    let mut store = started(alloc, checked)?;
+    let mut store = at_initial(alloc, checked)?;
     match fill(alloc, checked, footprints, &mut store, tables) {
         Ok(()) => Ok(store),
         Err(reason) => {

@@ -1,8 +1,8 @@
 //! Why a command does not succeed, and its status.
 
-ghost use Rattle.std.specs.Prelude.{◌≡◌, false};
+ghost use Rattle.std.specs.Prelude.{◌≡◌, true};
 ghost use Rattle.tso_front.specs.Statuses.{status_of};
-ghost use Rattle.tso_front.specs.Variants.{is_of_program};
+ghost use Rattle.tso_front.specs.Variants.{is_misuse};
 ghost use Rattle.tso_front.specs.declared.failure.Failure.TheVariants as failures;
 
 use std::alloc::{AllocError, AllocFailed, Global};
@@ -53,7 +53,7 @@ impl Failure {
 
 /// That the words are none of the program's, of which this is said.
 pub fn misused(alloc: Global, text: &str) -> Failure
-    ensures { is_of_program result ≡ false }
+    ensures { is_misuse result ≡ true }
 {
     match String::from_str(alloc, text) {
         Ok(text) => Failure::Usage(text),

@@ -7,6 +7,7 @@ mod files;
 mod host;
 mod json;
 mod limited;
+mod part;
 mod paths;
 mod session;
 mod variant;

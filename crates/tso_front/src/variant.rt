@@ -1,11 +1,14 @@
 //! Other calls than those that a program text has.
 
-ghost use Rattle.std.specs.Prelude.{◌≡◌, ◌<◌, ◌≤◌, Err, IfErr, IfOk, MatchOption, None, Ok, false, true, vec_len};
+ghost use Rattle.std.specs.Prelude.{◌≡◌, ◌+◌, ◌<◌, ◌≤◌, ◌++◌, Err, IfErr, IfOk, MatchOption, MatchResult, None, Ok, false, length, true, vec_len};
 ghost use Rattle.tso_client.specs.Headline.{DenotesChecked};
 ghost use Rattle.tso_client.specs.Programs.{IsRefused};
+ghost use Rattle.tso_front.specs.Replaced.{calls_line, calls_of, ended, head_line, head_of, lines_of, part_of, prologue_of, replaces, text_of, threads_of, without_end};
+ghost use Rattle.tso_front.specs.Variants.{IsMade, IsWhyNot, are_calls, are_fit, are_threads, is_misuse, is_mode, is_plain, too_long_text};
 ghost use Rattle.tso_prog.specs.declared.client.Client.{Client};
 
 use crate::failure::{Failure, misused};
+use crate::part::{Part, part_of};
 use crate::words::Word;
 use clap::ArgMatches;
 use std::alloc::{AllocError, Global};
@@ -34,15 +37,6 @@ pub struct Variant<'a> {
     pub mode: Option<&'a str>,
 }
 
-/// Which part of a text a line is, as far as another can stand in its place.
-#[derive(Clone, Copy, PartialEq, Eq)]
-enum Part {
-    Mode,
-    Before,
-    Thread,
-    Other,
-}
-
 /// A text on its way: what stands before all calls, and the calls that stay.
 #[derive(Drop)]
 struct Draft {
@@ -52,53 +46,61 @@ struct Draft {
     calls: Vec<u8>,
 }
 
-fn is_word_byte(byte: u8) -> bool {
-    byte.is_ascii_alphanumeric() || byte == b'_'
-}
-
-// Whether a line begins with this word.
-fn begins(line: &[u8], word: &[u8]) -> bool {
-    let line = line.trim_ascii_start();
-    line.starts_with(word) && !line.get(word.len()).copied().is_some_and(is_word_byte)
-}
-
-fn part_of(line: &[u8]) -> Part {
-    if begins(line, b".mode") {
-        Part::Mode
-    } else if begins(line, b".before") {
-        Part::Before
-    } else if begins(line, b".thread") {
-        Part::Thread
-    } else {
-        Part::Other
-    }
-}
-
 // What is said of options with which a text is too long.
 const LONG: &str = "the program text has more than 65536 bytes";
 
 // Puts a line of two parts at the end.
-fn put_line(text: &mut Vec<u8>, word: &[u8], rest: &[u8]) -> Result<(), AllocError> {
+fn put_line(text: &mut Vec<u8>, word: &[u8], rest: &[u8]) -> Result<(), AllocError>
+    ensures { IfOk result (λ _. text.new.items ≡ text.old.items ++ ended (word.now ++ rest.now)) }
+{
     text.extend_from_slice(word)?;
     text.extend_from_slice(rest)?;
     text.push(b'\n')?;
     Ok(())
 }
 
+// A text without the end of its last line, if that has one.
+fn without_end(text: &[u8]) -> &[u8]
+    ensures { result.now ≡ without_end text.now }
+{
+    text.strip_suffix(b"\n").unwrap_or(text)
+}
+
 impl Draft {
     // Puts a line of two parts at the end of the head.
-    fn put_head(&mut self, word: &[u8], rest: &[u8]) -> Result<(), AllocError> {
+    fn put_head(&mut self, word: &[u8], rest: &[u8]) -> Result<(), AllocError>
+        requires { self.old.head_lines < u32.MAX }
+        ensures head { IfOk result (λ _. self.new.head.items ≡ self.old.head.items ++ ended (word.now ++ rest.now)) }
+        ensures lines { IfOk result (λ _. self.new.head_lines ≡ self.old.head_lines + 1) }
+        ensures calls { self.new.calls ≡ self.old.calls }
+    {
         put_line(&mut self.head, word, rest)?;
-        self.head_lines = self.head_lines.saturating_add(1);
+        self.head_lines += 1;
         Ok(())
     }
 }
 
 // Whether words can stand for calls: neither a comment nor a second line is hidden in them.
-fn are_calls(words: &str) -> bool {
+fn are_calls(words: &str) -> bool
+    ensures { result ≡ are_calls words.now }
+{
     words.as_bytes().iter().all(
         |byte| matches!(*byte, b' ' | b',' | b'-' | b'0'..=b'9' | b'a'..=b'z'),
     )
+}
+
+// Whether words can stand for the calls of threads.
+fn are_threads(words: &str) -> bool
+    ensures { result ≡ are_threads words.now }
+{
+    words.split('|').all(are_calls)
+}
+
+// Whether a mode is none, or one of the two.
+fn is_mode(mode: Option<&str>) -> bool
+    ensures { result ≡ is_mode mode.entry }
+{
+    matches!(mode, None | Some("strict" | "weak"))
 }
 
 /// The options that put other calls in place of a text's.
@@ -152,8 +154,6 @@ const TOO_LONG: Fault = Fault {
 };
 
 impl<'a> Variant<'a> {
-    ghost use Rattle.tso_front.specs.Variants.{is_of_program, is_plain, too_long_text};
-
     /// The text as it stands.
     pub const PLAIN: Variant<'static> = Variant {
         client: None,
@@ -169,7 +169,9 @@ impl<'a> Variant<'a> {
     }
 
     // Whether another stands in place of this part.
-    fn replaces(&self, part: Part) -> bool {
+    fn replaces(&self, part: Part) -> bool
+        ensures { result ≡ replaces self.now part }
+    {
         match part {
             Part::Mode => self.mode.is_some(),
             Part::Before => self.before.is_some(),
@@ -179,7 +181,12 @@ impl<'a> Variant<'a> {
     }
 
     // Takes over a line of the text, or what stands in its place.
-    fn put(&self, draft: &mut Draft, line: &[u8]) -> Result<(), AllocError> {
+    fn put(&self, draft: &mut Draft, line: &[u8]) -> Result<(), AllocError>
+        requires { draft.old.head_lines < u32.MAX }
+        ensures head { IfOk result (λ _. draft.new.head.items ≡ draft.old.head.items ++ text_of (head_line self.now (part_of line.now) line.now)) }
+        ensures lines { IfOk result (λ _. draft.new.head_lines ≡ draft.old.head_lines + length (head_line self.now (part_of line.now) line.now)) }
+        ensures calls { IfOk result (λ _. draft.new.calls.items ≡ draft.old.calls.items ++ text_of (calls_line self.now (part_of line.now) line.now)) }
+    {
         let part = part_of(line);
         match (part, self.mode) {
             (Part::Mode, Some(mode)) => draft.put_head(b".mode ", mode.as_bytes()),
@@ -190,32 +197,55 @@ impl<'a> Variant<'a> {
     }
 
     // The text without what is replaced.
-    fn draft_of(&self, alloc: Global, text: &[u8]) -> Result<Draft, AllocError> {
+    fn draft_of(&self, alloc: Global, text: &[u8]) -> Result<Draft, AllocError>
+        requires { length text.now ≤ 65536 }
+        ensures head { IfOk result (λ draft. draft.head.items ≡ text_of (head_of self.now (lines_of text.now))) }
+        ensures lines { IfOk result (λ draft. draft.head_lines ≡ length (head_of self.now (lines_of text.now))) }
+        ensures calls { IfOk result (λ draft. draft.calls.items ≡ text_of (calls_of self.now (lines_of text.now))) }
+    {
         let mut draft = Draft {
             head: Vec::new(alloc),
             head_lines: 0,
             calls: Vec::new(alloc),
         };
-        let text = text.strip_suffix(b"\n").unwrap_or(text);
-        for line in text.split(|byte| *byte == b'\n') {
+        for line in without_end(text).split(|byte| *byte == b'\n') {
             self.put(&mut draft, line)?;
         }
         Ok(draft)
     }
 
-    // Puts the prologue behind the head, the calls that stay behind that, and then the threads.
-    fn completed(&self, draft: Draft) -> Result<Vec<u8>, AllocError> {
-        let mut text = draft.head;
+    // Puts the prologue at the end, where it has a call.
+    fn put_before(&self, text: &mut Vec<u8>) -> Result<(), AllocError>
+        ensures { IfOk result (λ _. text.new.items ≡ text.old.items ++ text_of (prologue_of self.now.before)) }
+    {
         let before = self.before.unwrap_or("").trim();
-        if !before.is_empty() {
-            put_line(&mut text, b".before ", before.as_bytes())?;
+        if before.is_empty() {
+            return Ok(());
         }
+        put_line(text, b".before ", before.as_bytes())
+    }
+
+    // Puts the threads at the end, if they stand in the place of others.
+    fn put_threads(&self, text: &mut Vec<u8>) -> Result<(), AllocError>
+        ensures { IfOk result (λ _. text.new.items ≡ text.old.items ++ text_of (threads_of self.now.client)) }
+    {
+        let Some(client) = self.client else {
+            return Ok(());
+        };
+        for thread in client.split('|') {
+            put_line(text, b".thread ", thread.trim().as_bytes())?;
+        }
+        Ok(())
+    }
+
+    // Puts the prologue behind the head, the calls that stay behind that, and then the threads.
+    fn completed(&self, draft: Draft) -> Result<Vec<u8>, AllocError>
+        ensures { IfOk result (λ made. made.items ≡ draft.head.items ++ text_of (prologue_of self.now.before) ++ draft.calls.items ++ text_of (threads_of self.now.client)) }
+    {
+        let mut text = draft.head;
+        self.put_before(&mut text)?;
         text.extend_from_slice(&draft.calls)?;
-        if let Some(client) = self.client {
-            for thread in client.split('|') {
-                put_line(&mut text, b".thread ", thread.trim().as_bytes())?;
-            }
-        }
+        self.put_threads(&mut text)?;
         Ok(text)
     }
 
@@ -238,7 +268,7 @@ impl<'a> Variant<'a> {
 
     // That the text is too long with these options.
     fn too_long(&self, alloc: Global) -> Failure
-        ensures { is_of_program result ≡ false }
+        ensures { is_misuse result ≡ true }
     {
         let mut names = String::new(alloc);
         match self.put_names(&mut names) {
@@ -252,8 +282,9 @@ impl<'a> Variant<'a> {
 
     // The text with other calls in place of its own, which is not too long.
     fn replaced(&self, alloc: Global, text: &[u8]) -> Result<Vec<u8>, Failure>
-        ensures short { IfOk result (λ made. vec_len made ≤ 65536) }
-        ensures refused { IfErr result (λ failure. is_of_program failure ≡ false) }
+        requires { length text.now ≤ 65536 }
+        ensures made { IfOk result (λ made. IsMade self.now text.now made.items) }
+        ensures refused { IfErr result (λ failure. IsWhyNot self.now text.now failure) }
     {
         self.refused(alloc)?;
         let draft = self.draft_of(alloc, text)?;
@@ -270,16 +301,15 @@ impl<'a> Variant<'a> {
 
     // Refuses words that can't stand in a text.
     fn refused(&self, alloc: Global) -> Result<(), Failure>
-        ensures { IfErr result (λ failure. is_of_program failure ≡ false) }
+        ensures { MatchResult result (λ _. are_fit self.now ≡ true) (λ failure. (are_fit self.now ≡ false) × (is_misuse failure ≡ true)) }
     {
-        let client = self.client.unwrap_or("");
-        if !client.split('|').all(are_calls) || !are_calls(self.before.unwrap_or("")) {
+        if !are_threads(self.client.unwrap_or("")) || !are_calls(self.before.unwrap_or("")) {
             return Err(misused(alloc, CALLS));
         }
-        match self.mode {
-            None | Some("strict" | "weak") => Ok(()),
-            Some(_) => Err(misused(alloc, MODE)),
+        if !is_mode(self.mode) {
+            return Err(misused(alloc, MODE));
         }
+        Ok(())
     }
 
     /// The text with other calls in place of its own. What stands before the calls keeps its lines. A text that is too long is refused
@@ -290,8 +320,8 @@ impl<'a> Variant<'a> {
     pub fn applied(&self, alloc: Global, text: Vec<u8>) -> Result<Vec<u8>, Failure>
         ensures plain { is_plain self.now ≡ true → result ≡ Ok text }
         ensures long { is_plain self.now ≡ false → 65536 < vec_len text → result ≡ Err too_long_text }
-        ensures short { is_plain self.now ≡ false → IfOk result (λ made. (vec_len text ≤ 65536) × (vec_len made ≤ 65536)) }
-        ensures refused { IfErr result (λ failure. failure ≡ too_long_text → (is_plain self.now ≡ false) × (65536 < vec_len text)) }
+        ensures made { is_plain self.now ≡ false → IfOk result (λ made. IsMade self.now text.items made.items) }
+        ensures refused { IfErr result (λ failure. (is_plain self.now ≡ false) × IsWhyNot self.now text.items failure) }
     {
         if self.is_plain() {
             return Ok(text);

@@ -1,12 +1,12 @@
 -- A store buffer has at most as many entries as its run has labels.
-use Rattle.std.proofs.Common.{◌≡◌, ◌∙◌, ℕ, zero, suc, ◌+◌, ◌≤◌, List, [], ◌∷◌, ◌++◌, length, map, Option, None, Some, slice_get, slice_set, refl, sym, ap, subst, arith}
+use Rattle.std.proofs.Common.{◌≡◌, ℕ, zero, suc, ◌+◌, ◌≤◌, List, [], ◌∷◌, ◌++◌, length, Some, slice_get, slice_set, refl, sym, ap, subst, arith}
 use Rattle.std.proofs.lemmas.List.{length-append}
-use Rattle.tso_compact.specs.Laws.{IsLabelRun, StepsGiveRuns, initial_of}
+use Rattle.tso_compact.specs.Laws.{StepsGiveRuns, initial_of}
 use Rattle.tso_flow.specs.Calls.{step_limit}
 use Rattle.tso_machine.specs.Activations.{Activation}
 use Rattle.tso_machine.specs.Laws.{RunsAreShort}
 use Rattle.tso_machine.specs.Places.{first_memory}
-use Rattle.tso_machine.specs.Programs.{calls_of, program_of}
+use Rattle.tso_machine.specs.Programs.{program_of}
 use Rattle.tso_model.proofs.Follow.{first_same}
 use Rattle.tso_model.specs.Labels.{By, Idle, Kind, Label, Machine, Rule, Run, Step, Thread, call, drain, fault, fence, first_machine, lock, machine_of, read, read_locked, reg, return, thread_views, unlock, write, write_locked}
 use Rattle.tso_model.specs.Programs.{CallKind, Program}

@@ -1,8 +1,7 @@
 -- Numbers of ends that are valid at well-formed states with words of 64 bits are in the ranges of their spelling.
-use Rattle.std.proofs.Common.{◌≡◌, ◌≢◌, ◌∙◌, ℕ, zero, suc, ◌+◌, ◌*◌, ◌^◌, ◌≤◌, ◌<◌, ◌⊎◌, inl, inr, ◌==◌, Bool, true, false, if◌then◌else◌, List, [], ◌∷◌, ◌++◌, length, map, Option, None, Some, slice_get, refl, sym, ap, subst, arith}
+use Rattle.std.proofs.Common.{◌≡◌, ◌≢◌, ◌∙◌, ℕ, zero, suc, ◌+◌, ◌*◌, ◌≤◌, ◌<◌, inl, inr, ◌==◌, Bool, true, false, if◌then◌else◌, List, [], ◌∷◌, length, map, Some, slice_get, refl, sym, ap, subst, arith}
 use Rattle.std.specs.Prelude.{slice_index_or}
-use Rattle.std.specs.List.{All, AllByRecursion}
-use Rattle.std.specs.Option.{option_map}
+use Rattle.std.specs.List.{All}
 use Rattle.std.proofs.lemmas.Bool.{cases_lt, eqb-true, eq-eqb}
 use Rattle.std.proofs.lemmas.List.{length-map}
 use Rattle.std.proofs.lemmas.Option.{same_Some, slice_get_within}
@@ -10,7 +9,7 @@ use Rattle.tso_choose.proofs.NeedLemmas.{nobody}
 use Rattle.tso_choose.specs.Choices.{AreReasons, IsRising, actors_of}
 use Rattle.tso_choose.specs.Needs.{is_enabled}
 use Rattle.tso_choose.specs.declared.choice.Choice.{Choice}
-use Rattle.tso_code.specs.Ends.{ActorFits, ChoiceFits, PlacedFits, ReasonFits}
+use Rattle.tso_code.specs.Ends.{ChoiceFits, PlacedFits, ReasonFits}
 use Rattle.tso_code.specs.Fields.{ListFits}
 use Rattle.tso_code.specs.Numbers.{IsWord}
 use Rattle.tso_code.specs.States.{AnswerFits}
@@ -30,13 +29,13 @@ use Rattle.tso_prog.specs.Views.{answer_view}
 use Rattle.tso_prog.specs.declared.answer.Answer.{Answer as TheirAnswer}
 use Rattle.tso_prog.specs.declared.answer.Answer.TheVariants as answers
 use Rattle.tso_prog.specs.declared.client.Client.{Client}
-use Rattle.tso_judge.proofs.Fitting.{fits, short_calls, viewed_calls}
+use Rattle.tso_judge.proofs.Fitting.{fits, short_calls}
 use Rattle.tso_state.proofs.ClientLemmas.{few_threads}
 use Rattle.tso_judge.proofs.Lists.{Each, each_append, each_more, each_none, each_rest}
-use Rattle.tso_judge.specs.Words.{AnswerHasWord, AnyAnswerHasWord, AreWords, HasWords, KindHasWord}
+use Rattle.tso_judge.specs.Words.{AnswerHasWord, AreWords, HasWords, KindHasWord}
 use Rattle.tso_state.specs.Actors.{number_of, thread_of}
 use Rattle.tso_state.specs.Views.{state_of}
-use Rattle.tso_state.specs.WellFormed.{IsWellFormed, calls_by}
+use Rattle.tso_state.specs.WellFormed.{IsWellFormed}
 use Rattle.tso_state.specs.declared.actor.Actor.{Actor}
 use Rattle.tso_state.specs.declared.actor.Actor.TheVariants.{Exec, Drain}
 use Rattle.tso_state.specs.declared.state.State.{State}

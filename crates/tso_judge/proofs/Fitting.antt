@@ -1,18 +1,18 @@
 -- Numbers of well-formed states that steps reach are in the ranges of their spelling.
-use Rattle.std.proofs.Common.{◌≡◌, ◌∙◌, ℕ, zero, suc, ◌+◌, ◌*◌, ◌^◌, ◌≤◌, ◌<◌, ◌&&◌, nat_le, Bool, true, false, if◌then◌else◌, List, [], ◌∷◌, ◌++◌, length, map, Option, None, Some, slice_get, get_or, refl, sym, ap, subst, arith}
-use Rattle.std.specs.Prelude.{count_by, is_some, slice_index_or}
-use Rattle.std.specs.List.{AllByRecursion, list_all, sum_by}
+use Rattle.std.proofs.Common.{◌≡◌, ◌∙◌, ℕ, zero, suc, ◌+◌, ◌^◌, ◌≤◌, ◌<◌, nat_le, Bool, true, false, if◌then◌else◌, List, [], ◌∷◌, length, map, Option, None, Some, slice_get, get_or, refl, ap, subst, arith}
+use Rattle.std.specs.Prelude.{is_some, slice_index_or}
+use Rattle.std.specs.List.{AllByRecursion, list_all}
 use Rattle.std.specs.Option.{option_map}
 use Rattle.std.proofs.lemmas.Bool.{and_parts, leb-true}
-use Rattle.std.proofs.lemmas.List.{length-append, length-map}
+use Rattle.std.proofs.lemmas.List.{length-map}
 use Rattle.std.proofs.lemmas.List.Concat.{length-flat_map}
 use Rattle.std.proofs.lemmas.List.Sums.{count_by-le-length}
 use Rattle.std.proofs.lemmas.Option.{same_Some, slice_get-get_or, slice_get_within}
 use Rattle.tso_code.specs.Fields.{ListFits}
-use Rattle.tso_code.specs.Numbers.{IsCount, IsPlace, IsWord}
-use Rattle.tso_code.specs.States.{AnyAnswerFits, CallFits, CoreFits, EntryFits, FrameFits, KindFits, RegistersFit, StateFits, ThreadFits}
+use Rattle.tso_code.specs.Numbers.{IsCount, IsWord}
+use Rattle.tso_code.specs.States.{AnyAnswerFits, CallFits, CoreFits, EntryFits, FrameFits, KindFits, ThreadFits}
 use Rattle.tso_compact.specs.Laws.{StepsGiveRuns}
-use Rattle.tso_flow.specs.Calls.{as_thread, bound_of, calls_of_client, number_or_zero, procedure_of_kind, step_limit}
+use Rattle.tso_flow.specs.Calls.{as_thread, bound_of, calls_of_client, number_or_zero, step_limit}
 use Rattle.tso_flow.specs.declared.location.ProcedureKind.{ProcedureKind}
 use Rattle.tso_flow.specs.declared.location.ProcedureKind.TheVariants as procedures
 use Rattle.tso_hist.specs.Views.{called_view, history_view}
@@ -26,7 +26,6 @@ use Rattle.tso_machine.specs.Activations.{Activation}
 use Rattle.tso_machine.specs.Instructions.{instructions_of, is_back_jump}
 use Rattle.tso_machine.specs.Laws.{RunsAreShort}
 use Rattle.tso_machine.specs.Machines.{entry_view}
-use Rattle.tso_machine.specs.Places.{first_memory}
 use Rattle.tso_machine.specs.Soundness.{back_bounds, bounds_in}
 use Rattle.tso_machine.specs.declared.buffer.Entry.{Entry}
 use Rattle.tso_machine.specs.declared.frame.Frame.{Frame}
@@ -47,7 +46,7 @@ use Rattle.tso_state.proofs.ViewLemmas.{length-threads_view, slice_get-threads_v
 use Rattle.tso_state.specs.Order.{flags_number}
 use Rattle.tso_word.specs.declared.Flags.{Flags}
 use Rattle.tso_state.specs.Views.{core_view, running_procedure, state_of, thread_view}
-use Rattle.tso_state.specs.WellFormed.{HasSizes, IsFrameOf, IsWellFormed, answered_count, calls_by, client_calls, thread_total, word_count}
+use Rattle.tso_state.specs.WellFormed.{IsFrameOf, IsWellFormed, answered_count, calls_by, client_calls, word_count}
 use Rattle.tso_state.specs.declared.state.Core.{Core}
 use Rattle.tso_state.specs.declared.state.Core.TheVariants.{Idle, Running, Stopped}
 use Rattle.tso_state.specs.declared.state.State.{State}

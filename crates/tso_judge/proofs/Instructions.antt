@@ -1,16 +1,14 @@
 -- What instructions make of words of 64 bits has 64 bits.
-use Rattle.std.proofs.Common.{◌≡◌, ◌∙◌, ℕ, zero, suc, ◌+◌, ◌-◌, ◌*◌, ◌^◌, ◌%◌, ◌≤◌, ◌<◌, ◌⊎◌, inl, inr, Bool, true, false, ◌&&◌, ◌||◌, nat_le, nat_lt, ◌==◌, if◌then◌else◌, List, [], ◌∷◌, length-set, take, Option, None, Some, slice_get, refl, sym, ap, subst, arith}
+use Rattle.std.proofs.Common.{◌≡◌, ◌∙◌, ℕ, ◌+◌, ◌-◌, ◌^◌, Bool, true, false, ◌&&◌, ◌||◌, nat_le, nat_lt, ◌==◌, if◌then◌else◌, length-set, take, Option, None, Some, slice_get, refl, arith}
 use Rattle.std.specs.Prelude.{slice_set, unwrap_or}
-use Rattle.std.specs.Int.RustNames.{bit_and, bit_or, bit_xor}
+use Rattle.std.specs.Int.RustNames.{bit_and}
 use Rattle.std.proofs.lemmas.Bool.{and_parts, ltb-true}
 use Rattle.std.proofs.lemmas.Nat.{and_le_l, or_lt, xor_lt}
 use Rattle.tso_code.specs.Numbers.{IsWord}
 use Rattle.tso_flow.specs.Accesses.{register_number}
-use Rattle.tso_flow.specs.Calls.{procedure_of_kind}
 use Rattle.tso_flow.specs.declared.location.ProcedureKind.{ProcedureKind}
 use Rattle.tso_flow.specs.declared.location.ProcedureKind.TheVariants as procedures
 use Rattle.tso_line.specs.Proper.{is_in_range, is_narrow, is_narrow_source, is_near, is_word, is_word_source}
-use Rattle.tso_line.specs.declared.instruction.Address.{Address}
 use Rattle.tso_line.specs.declared.instruction.Instruction.{Instruction}
 use Rattle.tso_line.specs.declared.instruction.Instruction.TheVariants as the
 use Rattle.tso_line.specs.declared.instruction.LockedOperation.{LockedOperation}
@@ -26,10 +24,10 @@ use Rattle.tso_machine.specs.Frames.{register_of, value_of}
 use Rattle.tso_machine.specs.Instructions.{action_at, at_next, at_place, back_jumps, counted_jump, done_answer, exchanged, instruction_action, instructions_of, is_taken, jump, new_word, next_action, operation_result, returned, with_register}
 use Rattle.tso_machine.specs.Places.{operand_place}
 use Rattle.tso_machine.specs.declared.frame.Frame.{Frame}
-use Rattle.tso_model.specs.Programs.{Action, BadAnswer, Barrier, Cut, Done, Fail, FalseAssertion, Load, Locked, Refused, Ret, Silent, Store, Value}
+use Rattle.tso_model.specs.Programs.{Action, BadAnswer, Barrier, Cut, Fail, FalseAssertion, Load, Locked, Refused, Ret, Silent, Store}
 use Rattle.tso_prog.specs.declared.client.Client.{Client}
 use Rattle.tso_judge.proofs.Lists.{Each, each_passes, each_set, word_at}
-use Rattle.tso_judge.specs.Words.{AnswerHasWord, AreRegisters, AreWords}
+use Rattle.tso_judge.specs.Words.{AnswerHasWord, AreRegisters}
 use Rattle.tso_word.specs.Word.{bitwise, difference, holds, sum}
 use Rattle.tso_word.specs.declared.BitOperation.{BitOperation}
 use Rattle.tso_word.specs.declared.BitOperation.TheVariants.{And, Or, Xor}

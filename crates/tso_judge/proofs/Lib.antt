@@ -1,3 +1,4 @@
+pub mod CrossingLemmas
 pub mod EndLemmas
 pub mod JudgeLemmas
 pub mod OneFault
@@ -11,3 +12,4 @@ pub mod Fitting
 pub mod EndNumbers
 pub mod Tables
 pub mod Trees
+pub mod LeastTables

@@ -1,13 +1,13 @@
 -- A record has one first fault, or meets all conditions.
-use Rattle.std.proofs.Common.{◌≡◌, ◌∙◌, ℕ, zero, suc, ◌<◌, inl, inr, refl, sym, ap, arith}
+use Rattle.std.proofs.Common.{◌≡◌, ◌∙◌, ℕ, zero, suc, inl, inr, refl, sym, ap, arith}
 use Rattle.std.proofs.lemmas.Bool.{cases_lt}
-use Rattle.tso_foot.specs.declared.table.Table.{Table}
 use Rattle.tso_judge.specs.Codes.{code_number}
 use Rattle.tso_judge.specs.Judging.{IsFirstFault, Meets}
 use Rattle.tso_rec.specs.Conditions.{AreMet}
 use Rattle.tso_judge.specs.declared.code.Code.{Code}
 use Rattle.tso_judge.specs.declared.code.Code.TheVariants as faults
 use Rattle.tso_prog.specs.declared.client.Client.{Client}
+use Rattle.tso_rec.specs.declared.basis.Basis.{Basis}
 use Rattle.tso_rec.specs.declared.record.End.{End}
 use Rattle.tso_state.specs.declared.state.State.{State}
 
@@ -47,7 +47,7 @@ same_code j k e = sym (code_is j) ∙ ap code_at e ∙ code_is k
 
 -- ---- one record
 
-module _ (c : Client) (t : Table) (Kept Within : Type 0) (s : State) (e : End) where
+module _ (c : Client) (t : Basis) (Kept Within : Type 0) (s : State) (e : End) where
   met : AreMet c t Kept Within s e → (k : Code) → Meets c t Kept Within s e k
   met m faults.K01 = tt
   met m faults.K02 = tt

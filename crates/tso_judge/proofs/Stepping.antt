@@ -1,5 +1,5 @@
 -- Steps lead from states with words of 64 bits to such states.
-use Rattle.std.proofs.Common.{◌≡◌, ◌∙◌, ℕ, zero, suc, ◌+◌, ◌*◌, ◌^◌, ◌≤◌, ◌<◌, ◌&&◌, ◌==◌, if◌then◌else◌, nat_le, Bool, true, false, List, [], ◌∷◌, ◌++◌, length, map, Option, None, Some, slice_get, refl, sym, ap, subst, arith}
+use Rattle.std.proofs.Common.{◌≡◌, ℕ, zero, suc, ◌^◌, ◌==◌, if◌then◌else◌, nat_le, Bool, true, false, List, [], ◌∷◌, ◌++◌, length, map, Option, None, Some, slice_get, refl, subst}
 use Rattle.std.specs.Prelude.{replicate, slice_index_or, slice_set}
 use Rattle.std.specs.List.{list_all}
 use Rattle.std.specs.Option.{option_and_then, option_map}
@@ -19,9 +19,9 @@ use Rattle.tso_machine.specs.Changes.{first_frame}
 use Rattle.tso_machine.specs.Instructions.{next_action}
 use Rattle.tso_machine.specs.Places.{first_memory}
 use Rattle.tso_machine.specs.Programs.{calls_of, jump_count, program_of, start_of}
-use Rattle.tso_model.specs.Programs.{Action, Answer, Barrier, CallKind, Cut, Fail, Load, Locked, Pop, Program, Push, Ret, Silent, Store}
+use Rattle.tso_model.specs.Programs.{Action, Answer, Barrier, CallKind, Cut, Fail, Load, Locked, Pop, Push, Ret, Silent, Store}
 use Rattle.tso_model.specs.Reduce.{Steps}
-use Rattle.tso_model.specs.States.{Answered, Began, Buffer, Called, CompactCore, CompactThread, Executing, Halted, Log, Resting, Same, State, answered, begun_call, begun_by, calls_in, first_state, latest, logged, returned}
+use Rattle.tso_model.specs.States.{Answered, Began, Buffer, Called, CompactCore, CompactThread, Executing, Halted, Log, Resting, Same, State, answered, begun_call, begun_by, calls_in, latest, logged}
 use Rattle.tso_model.specs.Steps.{Access, Actor, Drains, Exec, Move, Nothing, Read, Update, Write, action_move, call_move, core_move, drain_move, memory_after, move, perform, step, thread_of, when_empty, word_read}
 use Rattle.tso_model.specs.Prologue.{call_if, next_call}
 use Rattle.tso_prog.specs.Limits.{are_words, is_prologue, is_thread}

@@ -1,11 +1,11 @@
 -- Whether the states after chosen steps are kept, one by one.
-use Rattle.std.proofs.Common.{◌≡◌, ◌∙◌, ℕ, ◌+◌, ◌<◌, ◌≤◌, inl, inr, Bool, List, length, Some, get_or, refl, sym, ap, subst, arith}
-use Rattle.std.specs.Prelude.{◌↔◌, All, Contains, IsTrue}
+use Rattle.std.proofs.Common.{◌≡◌, ◌∙◌, ℕ, ◌+◌, ◌<◌, inl, inr, Bool, List, length, get_or, sym, subst, arith}
+use Rattle.std.specs.Prelude.{◌↔◌, Contains, IsTrue}
 use Rattle.std.proofs.lemmas.Bool.{cases_lt}
 use Rattle.std.proofs.lemmas.List.{get_or_default}
 use Rattle.std.proofs.lemmas.Option.{same_Some}
 use Rattle.tso_choose.specs.declared.choice.Choice.{Choice}
-use Rattle.tso_compact.specs.Plans.{HasStep, IsStep}
+use Rattle.tso_compact.specs.Plans.{IsStep}
 use Rattle.tso_rec.specs.Conditions.{IsKeptAfter}
 use Rattle.tso_prog.specs.declared.client.Client.{Client}
 use Rattle.tso_state.specs.Views.{state_of}

@@ -2,13 +2,17 @@
 #![tactic(auto)]
 
 mod code;
+mod crossings;
 mod ends;
 mod judging;
 mod laws;
 mod reasons;
 mod successors;
+mod whole;
 
 pub use code::Code;
-pub use ends::has_no_stopped;
-pub use judging::{judge, judge_alone, judge_state};
+pub use crossings::is_met_from;
+pub use ends::{has_no_stopped, is_over};
+pub use judging::judge_alone;
 pub use laws::{certificates_fit, states_fit, words_stay};
+pub use whole::{Whole, least_table};

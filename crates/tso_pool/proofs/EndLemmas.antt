@@ -9,6 +9,7 @@ use Rattle.tso_choose.specs.Needs.{is_enabled}
 use Rattle.tso_choose.specs.declared.choice.Choice.{Choice}
 use Rattle.tso_compact.specs.Plans.{HasStep, kind_of_move}
 use Rattle.tso_foot.specs.declared.table.Table.{Table}
+use Rattle.tso_rec.specs.Bases.{by_steps}
 use Rattle.tso_rec.specs.Conditions.{AreMet, HasNoStopped, IsExplained, IsOver}
 use Rattle.tso_machine.specs.Programs.{program_of}
 use Rattle.tso_model.specs.Steps as model
@@ -58,7 +59,7 @@ none_over c t s choices w chosen none a = by_case (is_enabled c s a) refl
 all_of : {X : Type 0} (P : X → Type 0) (xs : List X) → ((k : ℕ) (x : X) → slice_get xs k ≡ Some x → P x) → All P xs
 all_of P xs each k d lt = each k (get_or xs k d) (slice_get-get_or xs k d lt)
 
-chosen_met : (c : Client) (t : Table) (s : State) (choices : List Choice) → IsWellFormed c s → AreChosen c t s choices → 0 < length choices → AreMet c t (Unit {0}) (Unit {0}) s (Choices choices)
+chosen_met : (c : Client) (t : Table) (s : State) (choices : List Choice) → IsWellFormed c s → AreChosen c t s choices → 0 < length choices → AreMet c (by_steps t) (Unit {0}) (Unit {0}) s (Choices choices)
 chosen_met c t s choices w chosen some =
     let valid = chosen_are_valid c t s choices w chosen in
     record {

@@ -10,6 +10,7 @@ use Rattle.tso_code.specs.Numbers.{Reading, digits_at, number_at}
 use Rattle.tso_code.specs.States.{state_at}
 use Rattle.tso_rec.specs.Fronts.{ReadsFronts}
 use Rattle.tso_rec.specs.Spelling.{record_at}
+use Rattle.tso_rec.specs.declared.basis.Grain.{Grain}
 use lib.Pointwise.{pointwise_decides}
 
 pub reads_behind : {X : Type 0} {s : X → List ℕ} {r : Reading X} → ReadsFronts s r → (spelled bytes rest : List ℕ) (x : X) → r spelled ≡ Some (x, []) → pointwise eqb (take (length spelled) bytes) spelled ≡ true → rest ≡ drop (length spelled) bytes → r bytes ≡ Some (x, rest)
@@ -19,10 +20,10 @@ reads_behind {X} {s} {r} reads spelled bytes rest x e same is =
     ap r (sym whole) ∙ reads.more spelled rest x e
 
 -- no record is spelled by no bytes
-no_record : record_at [] ≡ None
+no_record : (g : Grain) → record_at g [] ≡ None
 unfolding record_at state_at list_at number_at digits_at
-no_record = refl
+no_record g = refl
 
-pub nothing_read : (bytes : List ℕ) → eqb (length bytes) 0 ≡ true → record_at bytes ≡ None
-nothing_read [] e = no_record
-nothing_read (b ∷ bytes) e = absurd (false≢true (sym (eqb-suc-zero (length bytes)) ∙ e))
+pub nothing_read : (g : Grain) (bytes : List ℕ) → eqb (length bytes) 0 ≡ true → record_at g bytes ≡ None
+nothing_read g [] e = no_record g
+nothing_read g (b ∷ bytes) e = absurd (false≢true (sym (eqb-suc-zero (length bytes)) ∙ e))

@@ -1,3 +1,4 @@
+pub mod Bases
 pub mod Conditions
 pub mod Records
 pub mod Exactness

@@ -3,9 +3,10 @@ ghost use Rattle.std.specs.Prelude.{◌≡◌, ◌++◌, [], Err, IfOk, OnOk};
 ghost use Rattle.tso_code.specs.Fields.{Gives};
 ghost use Rattle.tso_rec.specs.Keeping.{parts_cmp, record_of};
 ghost use Rattle.tso_rec.specs.Parts.{kept_after, part_count};
-ghost use Rattle.tso_rec.specs.Spelling.{a_record, record_at};
+ghost use Rattle.tso_rec.specs.Spelling.{a_record, ending, ending_at, record_at};
 ghost use Rattle.tso_state.specs.Order.{state_cmp};
 
+use crate::basis::Grain;
 use crate::known::Known;
 use crate::record::{End, Record};
 use crate::shared::{
@@ -13,6 +14,7 @@ use crate::shared::{
 };
 use std::alloc::{AllocError, Global};
 use std::cmp::Ordering;
+use tso_choose::Choices;
 use tso_code::{Code, ReadError};
 use tso_hist::{Call, History};
 use tso_list::{Exact, Seq};
@@ -50,6 +52,42 @@ impl Part for End {
     ghost use Rattle.std.proofs.Common.{rules};
 
     ghost copied = { λ x y c. Prim.search rules };
+}
+
+// The end at the front of the bytes, and the bytes after it.
+#[tactic(auto, unfolding(crate::specs::Spelling::ending_at))]
+fn read_end<'a>(
+    alloc: Global,
+    grain: Grain,
+    known: &mut Known,
+    bytes: &'a [u8],
+) -> Result<(Shared<End>, &'a [u8]), ReadError>
+    ensures { Gives (λ x. (x.0, x.1.now)) result (ending_at grain bytes.now) }
+{
+    match grain {
+        Grain::Steps => known.ends.read(alloc, 0, bytes),
+        Grain::Crossings => match bytes {
+            [0, rest @ ..] => {
+                let end = Shared::new(alloc, End::Choices(Choices::new(alloc)))?;
+                Ok((end, rest))
+            }
+            [1, ..] => known.ends.read(alloc, 0, bytes),
+            _ => Err(ReadError::Malformed),
+        },
+    }
+}
+
+// Puts the spelling of an end at the end of the bytes.
+fn write_end(grain: Grain, end: &Shared<End>, out: &mut Vec<u8>) -> Result<(), AllocError>
+    ensures { OnOk result (out.new.items ≡ out.old.items ++ ending grain end.now) }
+{
+    match (grain, end.get()) {
+        (Grain::Crossings, End::Choices(_)) => {
+            out.push(0)?;
+            Ok(())
+        }
+        _ => end.write(out),
+    }
 }
 
 impl Kept {
@@ -105,14 +143,16 @@ impl Kept {
         })
     }
 
-    /// The record at the front of the bytes, and the bytes after it. Its parts are shared with equal ones that were read before.
+    /// The record at the front of the bytes, of a certificate of this grain, and the bytes after it. Its parts are shared with equal ones
+    /// that were read before.
     #[tactic(auto, unfolding(crate::specs::Spelling::record_at, tso_code::specs::States::state_at))]
     pub fn read<'a>(
         alloc: Global,
+        grain: Grain,
         known: &mut Known,
         bytes: &'a [u8],
     ) -> Result<(Kept, &'a [u8]), ReadError>
-        ensures read { Gives (λ x. (record_of x.0, x.1.now)) result (record_at bytes.now) }
+        ensures read { Gives (λ x. (record_of x.0, x.1.now)) result (record_at grain bytes.now) }
         ensures empty { bytes.now ≡ [] → result ≡ Err ReadError.Malformed }
     {
         if bytes.is_empty() {
@@ -121,7 +161,7 @@ impl Kept {
         let (memory, rest) = known.memories.read(alloc, 0, bytes)?;
         let (threads, rest) = known.threads.read_list(alloc, rest)?;
         let (history, rest) = known.calls.read_list(alloc, rest)?;
-        let (end, rest) = known.ends.read(alloc, 0, rest)?;
+        let (end, rest) = read_end(alloc, grain, known, rest)?;
         let kept = Kept {
             memory,
             threads,
@@ -189,14 +229,13 @@ impl Kept {
             + differing(before.history.as_slice(), self.history.as_slice())
     }
 
-    /// Puts the spelling of the record at the end.
-    pub fn write(&self, out: &mut Vec<u8>) -> Result<(), AllocError>
-        ensures { OnOk result (out.new.items ≡ out.old.items ++ a_record (record_of self.now)) }
+    /// Puts the spelling of the record at the end, in a certificate of this grain. Choices are not spelled at a crossing.
+    pub fn write(&self, grain: Grain, out: &mut Vec<u8>) -> Result<(), AllocError>
+        ensures { OnOk result (out.new.items ≡ out.old.items ++ a_record grain (record_of self.now)) }
     {
         self.memory.write(out)?;
         write_all(self.threads.as_slice(), out)?;
         write_all(self.history.as_slice(), out)?;
-        self.end.write(out)?;
-        Ok(())
+        write_end(grain, &self.end, out)
     }
 }

@@ -1,6 +1,7 @@
 //! Records, a state with its end, and lists of records that keep what changes.
 #![tactic(auto)]
 
+mod basis;
 mod kept;
 mod known;
 mod packed;
@@ -10,6 +11,7 @@ mod shared;
 mod spelling;
 mod told;
 
+pub use basis::{Basis, Grain};
 pub use kept::Kept;
 pub use known::{Known, Shelf};
 pub use packed::Packed;

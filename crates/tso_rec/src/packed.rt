@@ -8,6 +8,7 @@ ghost use Rattle.tso_rec.specs.Records.{ends_of, states_of};
 ghost use Rattle.tso_rec.specs.Spelling.{a_record, record_at};
 ghost use Rattle.tso_state.specs.Order.{state_cmp};
 
+use crate::basis::Grain;
 use crate::kept::Kept;
 use crate::known::Known;
 use crate::record::{End, Record};
@@ -137,44 +138,50 @@ impl Packed {
         Ok(state)
     }
 
-    /// So many records at the front of the bytes, and the bytes after them. However many are asked for, room is made only for
+    /// So many records of a certificate of this grain at the front of the bytes, and the bytes after them. However many are asked for, room is made only for
     /// records that were read.
-    pub fn read(alloc: Global, count: u64, bytes: &[u8]) -> Result<(Packed, &[u8]), ReadError>
-        ensures read { Gives (λ x. (x.0, x.1.now)) result (items_at record_at count bytes.now) }
+    pub fn read(
+        alloc: Global,
+        grain: Grain,
+        count: u64,
+        bytes: &[u8],
+    ) -> Result<(Packed, &[u8]), ReadError>
+        ensures read { Gives (λ x. (x.0, x.1.now)) result (items_at (record_at grain) count bytes.now) }
         ensures empty { 0 < count → bytes.now ≡ [] → result ≡ Err ReadError.Malformed }
     {
         let mut known = Known::new(alloc);
-        Packed::read_among(alloc, &mut known, count, bytes)
+        Packed::read_among(alloc, grain, &mut known, count, bytes)
     }
 
     /// The same, with parts shared with equal ones of records that were read before, also of other lists.
     pub fn read_among<'a>(
         alloc: Global,
+        grain: Grain,
         known: &mut Known,
         count: u64,
         bytes: &'a [u8],
     ) -> Result<(Packed, &'a [u8]), ReadError>
-        ensures read { Gives (λ x. (x.0, x.1.now)) result (items_at record_at count bytes.now) }
+        ensures read { Gives (λ x. (x.0, x.1.now)) result (items_at (record_at grain) count bytes.now) }
         ensures empty { 0 < count → bytes.now ≡ [] → result ≡ Err ReadError.Malformed }
     {
         let mut packed = Packed::new(alloc);
         let mut rest = bytes;
         for _ in 0..count {
-            let (kept, after) = Kept::read(alloc, known, rest)?;
+            let (kept, after) = Kept::read(alloc, grain, known, rest)?;
             packed.append(kept)?;
             rest = after;
         }
         Ok((packed, rest))
     }
 
-    /// Puts the count of the records and then the records at the end of the bytes.
-    pub fn write(&self, out: &mut Vec<u8>) -> Result<(), AllocError>
-        ensures { OnOk result (out.new.items ≡ out.old.items ++ list a_record self.now) }
+    /// Puts the count of the records and then the records at the end of the bytes of a certificate of this grain.
+    pub fn write(&self, grain: Grain, out: &mut Vec<u8>) -> Result<(), AllocError>
+        ensures { OnOk result (out.new.items ≡ out.old.items ++ list (a_record grain) self.now) }
     {
         let kept = self.kept.as_slice();
         write_number(kept.len() as u64, out)?;
         for record in kept {
-            record.write(out)?;
+            record.write(grain, out)?;
         }
         Ok(())
     }

@@ -2,6 +2,7 @@
 ghost use Rattle.std.specs.Prelude.{◌≡◌, ◌++◌, [], Err, OnOk};
 ghost use Rattle.tso_code.specs.Fields.{Gives};
 ghost use Rattle.tso_rec.specs.Spelling.{a_record, EndFits, ending, ending_at, record_at, RecordFits};
+ghost use Rattle.tso_rec.specs.declared.basis.Grain.TheVariants.{Steps};
 
 use crate::record::{End, Record};
 use std::alloc::{AllocError, Global};
@@ -11,11 +12,11 @@ use tso_fifo::Order;
 use tso_state::State;
 
 impl Code for End {
-    ghost Fits = { EndFits };
+    ghost Fits = { EndFits Steps };
 
-    ghost spell = { ending };
+    ghost spell = { ending Steps };
 
-    ghost read_at = { ending_at };
+    ghost read_at = { ending_at Steps };
 
     #[tactic(auto, unfolding(crate::specs::Spelling::ending_at))]
     fn read(alloc: Global, bytes: &[u8]) -> Result<(End, &[u8]), ReadError> {
@@ -47,11 +48,11 @@ impl Code for End {
 }
 
 impl Code for Record {
-    ghost Fits = { RecordFits };
+    ghost Fits = { RecordFits Steps };
 
-    ghost spell = { a_record };
+    ghost spell = { a_record Steps };
 
-    ghost read_at = { record_at };
+    ghost read_at = { record_at Steps };
 
     #[tactic(auto, unfolding(crate::specs::Spelling::record_at))]
     fn read(alloc: Global, bytes: &[u8]) -> Result<(Record, &[u8]), ReadError> {

@@ -39,8 +39,9 @@ impl Readable for Call {
 
 impl Readable for End {
     ghost use Rattle.tso_rec.specs.EndCodes.{ending_code};
+    ghost use Rattle.tso_rec.specs.declared.basis.Grain.TheVariants.{Steps};
 
-    ghost one_spelling = { ending_code };
+    ghost one_spelling = { ending_code Steps };
 }
 
 impl<T: Readable> Readable for Seq<T> {

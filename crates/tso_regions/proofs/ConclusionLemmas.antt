@@ -7,7 +7,7 @@ use Rattle.tso_regions.proofs.GatheringLemmas.{all_searched}
 use Rattle.tso_regions.proofs.SettlingLemmas.{all_settled}
 use Rattle.tso_regions.specs.Gathering.{AreGathered, AreSettledBetween, IsBegunAt, owned_below}
 use Rattle.tso_regions.specs.Regions.{Domain}
-use Rattle.tso_search.specs.Searched.{AreSearched}
+use Rattle.tso_search.specs.BySteps.{AreSearched}
 use Rattle.tso_state.specs.declared.state.State.{State}
 use Rattle.tso_store.specs.Sheets.{Sheet}
 

@@ -14,7 +14,7 @@ use Rattle.tso_regions.specs.Owners.{owner_in}
 use Rattle.tso_regions.specs.Regions.{Domain}
 use Rattle.tso_search.proofs.SearchLemmas.{kept_at}
 use Rattle.tso_search.specs.Reached.{AllMet}
-use Rattle.tso_search.specs.Searched.{AreSearched, IsDone, IsWorked, IsWorkedAt}
+use Rattle.tso_search.specs.BySteps.{AreSearched, IsDone, IsWorked, IsWorkedAt}
 use Rattle.tso_state.specs.Views.{state_of}
 use Rattle.tso_state.specs.declared.actor.Actor.{Actor}
 use Rattle.tso_state.specs.declared.state.State.{State}
@@ -228,9 +228,7 @@ kept_among c old new s a among k =
 -- what is worked in some states is so in others that have each of them
 pub worked_among : (c : Client) (t : Table) (old new : List State) (s : State) → ((x : State) (n : ℕ) → slice_get old n ≡ Some x → (m : ℕ) × (slice_get new m ≡ Some x)) → IsWorked c t old s → IsWorked c t new s
 worked_among c t old new s among w = record {
-  set = w.set;
-  chosen = w.chosen;
-  moves = λ choices chosen k d lt. kept_among c old new s _ among (w.moves choices chosen k d lt);
+  kept = record { set = w.kept.set; chosen = w.kept.chosen; moves = λ choices chosen k d lt. kept_among c old new s _ among (w.kept.moves choices chosen k d lt) };
   unstopped = w.unstopped;
   explained = w.explained;
 }

@@ -17,7 +17,9 @@ use Rattle.tso_search.proofs.SearchLemmas.{IsNewState, chosen_followed, done_sta
 use Rattle.tso_search.specs.Goodness.{IsGood}
 use Rattle.tso_search.specs.Marking.{IsMarkedToo}
 use Rattle.tso_search.specs.Reached.{AllMet, IsMet}
-use Rattle.tso_search.specs.Searched.{AreDone, AreFollowed, IsDone, IsFollowed, IsGoodAt}
+use Rattle.tso_search.specs.BySteps.{AreDone, AreFollowed, IsDone, IsFollowed, any_steps}
+use Rattle.tso_search.specs.declared.ground.Ground.TheVariants.{Steps}
+use Rattle.tso_search.specs.Searched.{IsGoodAt}
 use Rattle.tso_state.specs.declared.actor.Actor.{Actor}
 use Rattle.tso_state.specs.declared.state.State.{State}
 use Rattle.tso_store.specs.Sheets.{Sheet}
@@ -43,22 +45,22 @@ pub met_as : (c : Client) (old new : List State) → AllMet c old → new ≡ ol
 met_as c old new met same = subst (AllMet c) (sym same) met
 
 -- a new state, to which a step has led
-pub met_with : (c : Client) → HasNoFault c → (old new : List State) (n m : ℕ) (a : Actor) → IsNewState c old new n a m → AllMet c old → AllMet c new
+pub met_with : (c : Client) → HasNoFault c → (old new : List State) (n m : ℕ) (a : Actor) → IsNewState c any_steps old new n a m → AllMet c old → AllMet c new
 met_with c sound old new n m a s met k x at =
     of_longer old s.to x k (subst (λ (xs : List State). slice_get xs k ≡ Some x) s.grown at) (λ before. met k x before)
-    (λ last same. subst (IsMet c) same (met_on c sound s.from s.to a (met n s.from s.at) s.step))
+    (λ last same. subst (IsMet c) same (met_on c sound any_steps s.from s.to a (met n s.from s.at) s.leads))
 
-pub stays_with : (c : Client) (old new : List State) (n m : ℕ) (a : Actor) → IsNewState c old new n a m → Extends old new
+pub stays_with : (c : Client) (old new : List State) (n m : ℕ) (a : Actor) → IsNewState c any_steps old new n a m → Extends old new
 stays_with c old new n m a s i x at = subst (λ (xs : List State). slice_get xs i ≡ Some x) (sym s.grown) (old_item old s.to x i at)
 
-pub sound_with : (c : Client) → HasNoFault c → (old new : List State) (n m : ℕ) (a : Actor) → IsNewState c old new n a m → AreSound c old → IsGoodAt c new m → AreSound c new
-sound_with c fault old new n m a s sound good = record { met = met_with c fault old new n m a s sound.met; good = good_with c old new n m a s sound.good good }
+pub sound_with : (c : Client) → HasNoFault c → (old new : List State) (n m : ℕ) (a : Actor) → IsNewState c any_steps old new n a m → AreSound c old → IsGoodAt c new m → AreSound c new
+sound_with c fault old new n m a s sound good = record { met = met_with c fault old new n m a s sound.met; good = good_with c any_steps old new n m a s sound.good good }
 
-pub followed_with : (c : Client) (old new : List State) (n m : ℕ) (a : Actor) → IsNewState c old new n a m → IsFollowed c old new n a
+pub followed_with : (c : Client) (old new : List State) (n m : ℕ) (a : Actor) → IsNewState c any_steps old new n a m → IsFollowed c old new n a
 followed_with c old new n m a s x at has =
-    let k = new_is_next c old new n m a s in
+    let k = new_is_next c any_steps old new n m a s in
     let same : k.from ≡ x = same_Some k.from x (sym k.at ∙ stays_with c old new n m a s n x at) in
-    kept_at c new x k.to a m (subst (λ (y : State). IsStep c y a k.to) same k.step) k.number
+    kept_at c new x k.to a m (subst (λ (y : State). IsStep c y a k.to) same k.leads) k.number
 
 -- ---- the actors of a set, one after another
 
@@ -72,7 +74,7 @@ following_on c old mid next new n set k a f client sound stays actor one same =
       client = client ∙ f.client;
       sound = sound;
       stays = stays_stays old.states mid.states next.states f.stays stays;
-      followed = followed_on c old.states mid.states next.states n set k f.stays stays f.followed (λ bit. subst (IsFollowed c mid.states next.states n) actor one);
+      followed = followed_on c any_steps old.states mid.states next.states n set k f.stays stays f.followed (λ bit. subst (IsFollowed c mid.states next.states n) actor one);
     } in
     subst (λ (s : Sheet). IsFollowing c old s n set (k + 1)) (sym same) r
 
@@ -82,7 +84,7 @@ following_past c old mid new n set k f off same =
       client = f.client;
       sound = f.sound;
       stays = f.stays;
-      followed = followed_on c old.states mid.states mid.states n set k f.stays (λ i x at. at) f.followed (λ bit. absurd (true-false (has_bit set k) bit off));
+      followed = followed_on c any_steps old.states mid.states mid.states n set k f.stays (λ i x at. at) f.followed (λ bit. absurd (true-false (has_bit set k) bit off));
     } in
     subst (λ (s : Sheet). IsFollowing c old s n set (k + 1)) (sym same) r
 
@@ -94,9 +96,7 @@ done_now c t old new n set s sound stays here is followed = record {
   state = s;
   at = stays n s here;
   worked = record {
-    set = set;
-    chosen = is;
-    moves = chosen_followed c t s set old new n (sound.met n s here).plausible.well_formed is here followed;
+    kept = record { set = set; chosen = is; moves = chosen_followed c t s set old new n (sound.met n s here).plausible.well_formed is here followed };
     unstopped = λ over. (sound.good n s here).unstopped;
     explained = λ over. (sound.good n s here).explained;
   };
@@ -107,7 +107,7 @@ pub done_with : (c : Client) (t : Table) (old new : List State) (marks marks' : 
     → ((s : State) → slice_get old n ≡ Some s → IsChoice c t s set) → AreFollowed c old new n set 10 → IsMarkedToo marks marks' n → AreDone c t new marks'
 done_with c t old new marks marks' n set sound done stays there chosen followed too k marked = elim ((too k).0 marked) [
   | inl same ↦ subst (IsDone c t new) (sym same) (done_now c t old new n set s sound stays here (chosen s here) followed)
-  | inr before ↦ done_stays c t old new marks stays done k before
+  | inr before ↦ done_stays c (Steps t) old new marks stays done k before
 ]
   where
     s : State
@@ -169,5 +169,5 @@ region_more client table c t old new marks halt after d same sound stays =
       client_is = d.client_is;
       table_is = d.table_is;
       store_is = is;
-      explored = record { met = here.met; done = done_stays c t old.states new.states marks stays d.explored.done; good = λ none. here.good };
+      explored = record { met = here.met; done = done_stays c (Steps t) old.states new.states marks stays d.explored.done; good = λ none. here.good };
     }

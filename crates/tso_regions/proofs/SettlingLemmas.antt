@@ -13,7 +13,7 @@ use Rattle.tso_regions.specs.Owners.{owner_in, owner_of}
 use Rattle.tso_regions.specs.Regions.{Domain}
 use Rattle.tso_search.specs.Marking.{is_marked}
 use Rattle.tso_search.specs.Reached.{AllMet}
-use Rattle.tso_search.specs.Searched.{AreDone}
+use Rattle.tso_search.specs.BySteps.{AreDone}
 use Rattle.tso_state.specs.declared.state.State.{State}
 use Rattle.tso_keys.specs.Keys.{state_at, states_at}
 use Rattle.tso_keys.specs.declared.key.Key.{Key}

@@ -8,7 +8,7 @@ use Rattle.tso_regions.specs.Owners.{owner_in}
 use Rattle.tso_regions.specs.Regions.{Domain}
 use Rattle.tso_search.specs.Marking.{is_marked}
 use Rattle.tso_search.specs.Reached.{AllMet}
-use Rattle.tso_search.specs.Searched.{AreDone}
+use Rattle.tso_search.specs.BySteps.{AreDone}
 use Rattle.tso_state.specs.Views.{state_of}
 use Rattle.tso_state.specs.declared.state.State.{State}
 use Rattle.tso_store.specs.Gathering.{Gathering, no_state}

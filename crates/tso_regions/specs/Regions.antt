@@ -6,7 +6,7 @@ use Rattle.tso_prog.specs.declared.client.Client.{Client}
 use Rattle.tso_regions.specs.declared.halt.Halt.{Halt}
 use Rattle.tso_search.specs.Goodness.{AllGood, IsGood}
 use Rattle.tso_search.specs.Reached.{AllMet, IsMet}
-use Rattle.tso_search.specs.Searched.{AreDone, AreFollowed}
+use Rattle.tso_search.specs.BySteps.{AreDone, AreFollowed}
 use Rattle.tso_state.specs.declared.state.State.{State}
 use Rattle.tso_store.specs.Sheets.{Sheet}
 

@@ -7,7 +7,7 @@ ghost use Rattle.tso_prog.specs.declared.client.Client.{Client};
 ghost use Rattle.tso_regions.specs.Regions.{AreSound};
 ghost use Rattle.tso_search.specs.Marking.{is_marked};
 ghost use Rattle.tso_search.specs.Reached.{AllMet};
-ghost use Rattle.tso_search.specs.Searched.{AreDone};
+ghost use Rattle.tso_search.specs.BySteps.{AreDone};
 
 use crate::agenda::Agenda;
 use crate::halt::Halt;

@@ -4,7 +4,7 @@ ghost use Rattle.std.specs.Prelude.{◌≡◌, ◌≤◌, IfOk, IfSome, Some, le
 ghost use Rattle.tso_parts.specs.Numbers.{IsNumbered};
 ghost use Rattle.tso_regions.specs.Gathering.{AreSettledBetween, IsBegunAt};
 ghost use Rattle.tso_regions.specs.Regions.{AreSound};
-ghost use Rattle.tso_search.specs.Searched.{AreSearched};
+ghost use Rattle.tso_search.specs.BySteps.{AreSearched};
 
 use crate::gathering::gathered_of;
 use crate::owner::Owner;

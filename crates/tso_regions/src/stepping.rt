@@ -5,7 +5,8 @@ ghost use Rattle.tso_parts.specs.Numbers.{Extends};
 ghost use Rattle.tso_regions.specs.Regions.{AreSound};
 ghost use Rattle.tso_search.specs.Goodness.{AllGoodBelow};
 ghost use Rattle.tso_search.specs.Reached.{AllMet};
-ghost use Rattle.tso_search.specs.Searched.{AreDone, AreFollowed, IsFollowed, IsGoodAt};
+ghost use Rattle.tso_search.specs.BySteps.{AreDone, AreFollowed, IsFollowed};
+ghost use Rattle.tso_search.specs.Searched.{IsGoodAt};
 ghost use Rattle.tso_store.specs.Sheets.{IsKeptSuccessor, IsSuccessorOrNone};
 
 use crate::halt::Halt;

@@ -120,7 +120,7 @@ const SAID: [Word; 3] = [
 
 // The command with the words for how a search goes.
 fn with_search<'a>(alloc: Global, command: Command<'a>) -> Result<Command<'a>, AllocError> {
-    let command = command.arg(form_argument(alloc))?;
+    let command = command.arg(form_argument(alloc).default_value("1"))?;
     let command = command.arg(workers_argument(alloc, "how many workers search, 1 to 64"))?;
     command.arg(states(alloc))
 }
@@ -278,7 +278,7 @@ fn search_of<'a>(alloc: Global, verify: &ArgMatches<'a>) -> Result<Search<'a>, F
         variant: variant_of(verify),
         cert: verify.get_str("out"),
         trace: verify.get_str("trace"),
-        form: form_of(verify),
+        form: form_of(verify).unwrap_or(Form::Arrays),
         workers,
         limit,
         stats: verify.get_flag("stats"),

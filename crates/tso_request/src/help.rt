@@ -18,7 +18,8 @@ pub const VERIFY: &str =
 threads. Writes CERT where all runs are good, or TRACE where one is not, and never both; without --out or --trace
 that one is not written. CERT is decided by `tsoq check`, TRACE is shown by `tsoq replay`; where --client, --before
 or --mode put other calls in place of those of FILE, both want the same words. With --form 2 the table of CERT says
-cells where that of --form 1 says whole arrays.
+cells where that of --form 1 says whole arrays; with --form 3 records are crossings, and there are
+fewer of them.
 
 Example:
   tsoq verify queues/vyukov.tso --out vyukov.cert --trace vyukov.trace
@@ -91,7 +92,8 @@ pub const SURVEY: &str =
 threads and N calls, of which at most P threads push and C pop, each push with a value of its own. Clients that
 differ in the order of threads alone are one, and one whose threads' calls begin those of a larger one is not
 searched: where all runs of the larger one are good, so are all of its. With --coverage it counts what the records of
-all certificates show together, which proves nothing: lines that were never met, and where calls were cut.
+all certificates show together, which proves nothing: lines that were never met, and where calls were cut. Without
+--form it searches crossings, as with --form 3, unless certificates are counted or written to a folder.
 
 Example:
   tsoq survey queues/vyukov_weak.tso --threads 3 --calls 4

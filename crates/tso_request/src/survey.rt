@@ -1,13 +1,17 @@
 //! What is asked about the clients of a queue.
 
+use crate::form::{Form, form_argument, form_of};
 use crate::help;
 use crate::limit::StateLimit;
 use clap::{Arg, ArgMatches, Command};
 use std::alloc::{AllocError, Global};
 use tso_cert::Workers;
-use tso_front::Failure;
+use tso_front::{Failure, misused, refuse_given};
 use tso_survey::{Asking, asking_arguments, asking_of};
 use tso_verdict::{workers_argument, workers_of};
+
+const COUNTED: &str =
+    "--coverage counts the records of certificates of steps: --form 1 or 2, and not 3\n";
 
 /// What a survey asks about, by how many workers, and how many states a search may meet.
 #[derive(Clone, Copy)]
@@ -15,6 +19,27 @@ pub struct Survey<'a> {
     pub asking: Asking<'a>,
     pub workers: Workers,
     pub limit: StateLimit,
+    pub form: Form,
+}
+
+// What the words say of the form: crossings, where they say nothing and no certificate is kept or counted.
+fn survey_form(
+    alloc: Global,
+    asking: &Asking<'_>,
+    matches: &ArgMatches<'_>,
+) -> Result<Form, Failure> {
+    if asking.lists {
+        refuse_given(alloc, matches, &["form"], "--list")?;
+    }
+    if asking.collect.is_some() {
+        refuse_given(alloc, matches, &["form"], "--collect")?;
+    }
+    match form_of(matches) {
+        Some(Form::Crossings) if asking.counts => Err(misused(alloc, COUNTED)),
+        Some(form) => Ok(form),
+        None if asking.counts || asking.out.is_some() => Ok(Form::Arrays),
+        None => Ok(Form::Crossings),
+    }
 }
 
 /// The words of a survey, with the option for how many states a search may meet.
@@ -27,6 +52,7 @@ pub fn survey_command<'a>(alloc: Global, states: Arg<'a>) -> Result<Command<'a>,
     let command = asking_arguments(alloc, command)?;
     let help = "how many workers search, a client each, 1 to 64";
     let command = command.arg(workers_argument(alloc, help))?;
+    let command = command.arg(form_argument(alloc))?;
     command.arg(states)
 }
 
@@ -38,9 +64,11 @@ pub fn survey_of<'a>(
     limit: StateLimit,
     matches: &ArgMatches<'a>,
 ) -> Result<Survey<'a>, Failure> {
+    let asking = asking_of(alloc, matches)?;
     Ok(Survey {
-        asking: asking_of(alloc, matches)?,
+        asking,
         workers: workers_of(alloc, matches)?,
         limit,
+        form: survey_form(alloc, &asking, matches)?,
     })
 }

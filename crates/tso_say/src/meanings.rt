@@ -71,7 +71,7 @@ two halves, so that a look-up could miss a record.";
 
 pub const K04: &str =
     "The table of what may still be read or written is not closed for this program: an instruction's entry
-lacks what it, or one that control can go on to, reads or writes; or, in version 2, an interval lacks a word that a
+lacks what it, or one that control can go on to, reads or writes; or, where it has intervals, one lacks a word that a
 register may hold there. The certificate is of another program, or damaged.";
 
 pub const K05: &str =
@@ -80,15 +80,17 @@ words or threads, a position outside its procedure, or calls that do not fit wha
 
 pub const K06: &str =
     "The record ends in the wrong way: some thread or store buffer has a step, and the record lacks a rising list
-of actors that each have one; or nothing has a step, and the record has no order of the calls.";
+of actors that each have one, or, of crossings, is none; or nothing has a step, and the record has no order of the calls.";
 
 pub const K07: &str =
     "A chosen actor lacks a reason why the other threads can wait, has one too many, or has one that does not hold.";
 
 pub const K08: &str =
-    "The state after a chosen actor's step has no record, so the certificate leaves runs out.";
+    "The state after a chosen actor's step has no record, so the certificate leaves runs out. Of crossings: the state in
+which the run behind an actor's move stops.";
 
-pub const K09: &str = "The initial state has no record.";
+pub const K09: &str =
+    "The initial state has no record. Of crossings: the state in which the run from it stops.";
 
 pub const K10: &str =
     "A run ends in this state with a thread that was stopped by a fault: an access outside its array, a false
@@ -102,7 +104,7 @@ would not.";
 pub const K12: &str =
     "A register of a running thread holds a word outside of the interval that the table gives it at the thread's
 position, so what the table says of the cells that may still be read or written does not hold for this state. Only
-certificates of version 2 have intervals.";
+certificates of version 2, and those of crossings, have intervals.";
 
 // ---- traces
 

@@ -6,6 +6,7 @@ use Rattle.tso_cert.proofs.Opening.{opens_fork}
 use Rattle.tso_cert.proofs.TreeCode.{tree_again, tree_take}
 use Rattle.tso_cert.specs.Certificates.{fork_at, tree_at}
 use Rattle.tso_cert.specs.Lookup.{tree_states}
+use Rattle.tso_rec.specs.declared.basis.Grain.TheVariants.{Steps}
 use Rattle.tso_state.specs.Rising.{IsRising}
 use Rattle.tso_cert.specs.Trees.{Tree, fork, record_count, records_of, spelling_of}
 use Rattle.tso_code.proofs.StateCodes.{state_code}
@@ -35,10 +36,10 @@ use Rattle.tso_store.specs.Gathering.{Gathering}
 -- ---- halves
 
 -- behind the byte of a fork
-opens_behind : (depth room : ℕ) (behind : List ℕ) → (depth ≡ 0 → ⊥) → tree_at depth room (1 ∷ behind) ≡ fork_at (tree_at (depth - 1)) room behind
+opens_behind : (depth room : ℕ) (behind : List ℕ) → (depth ≡ 0 → ⊥) → tree_at Steps depth room (1 ∷ behind) ≡ fork_at (tree_at Steps (depth - 1)) room behind
 opens_behind depth room behind deep =
     let all : take (length (1 ∷ behind) - 1) behind ≡ behind = take_all (length (1 ∷ behind) - 1) behind (omega arith) in
-    opens_fork depth room (1 ∷ behind) (omega arith) refl deep ∙ ap (fork_at (tree_at (depth - 1)) room) all
+    opens_fork Steps depth room (1 ∷ behind) (omega arith) refl deep ∙ ap (fork_at (tree_at Steps (depth - 1)) room) all
 
 -- where parts lie behind the bytes or not, the halves are those of the fork at the front
 pub halves_of : (u : Unread) (behind : List ℕ) (halves : Unread × Unread) → (u.depth ≡ 0 → ⊥) → u.bytes.now ≡ 1 ∷ behind → u.more.now ≡ [] → AreWithin u behind halves → AreHalvesOf (is_apart u) (stretch_at u) (stretch_at halves.0) (stretch_at halves.1)
@@ -126,69 +127,69 @@ forks_shape one two a b p q = λ left right s first second.
     let R : Shape → Type 0 = λ x. IsShapeOf x right in
     (subst L (sym p) first, subst R (sym q) second)
 
-fork_reads : (depth room middle left : ℕ) (bytes after_left after_state rest : List ℕ) (one two : Tree) (s : State) → tree_at depth room bytes ≡ Ok (one, middle, after_left) → state_at after_left ≡ Some (s, after_state) → tree_at depth middle after_state ≡ Ok (two, left, rest)
-    → fork_at (tree_at depth) room bytes ≡ Ok (fork one s two, left, rest)
+fork_reads : (depth room middle left : ℕ) (bytes after_left after_state rest : List ℕ) (one two : Tree) (s : State) → tree_at Steps depth room bytes ≡ Ok (one, middle, after_left) → state_at after_left ≡ Some (s, after_state) → tree_at Steps depth middle after_state ≡ Ok (two, left, rest)
+    → fork_at (tree_at Steps depth) room bytes ≡ Ok (fork one s two, left, rest)
 fork_reads depth room middle left bytes after_left after_state rest one two s a b c = rw (a, b, c) refl
 
 -- what was read with more room is read with less, if it has enough
-less_room : (depth all first second room : ℕ) (bytes rest : List ℕ) (t : Tree) → tree_at depth all bytes ≡ Ok (t, second, rest) → first ≡ room + (all - second) → tree_at depth first bytes ≡ Ok (t, room, rest)
+less_room : (depth all first second room : ℕ) (bytes rest : List ℕ) (t : Tree) → tree_at Steps depth all bytes ≡ Ok (t, second, rest) → first ≡ room + (all - second) → tree_at Steps depth first bytes ≡ Ok (t, room, rest)
 less_room depth all first second room bytes rest t reads fits =
-    let took = tree_take depth all bytes (t, second, rest) reads in
+    let took = tree_take Steps depth all bytes (t, second, rest) reads in
     let count = took.3 in
     let enough : record_count t ≤ first = omega (arith, count, fits) in
     let left : first - record_count t ≡ room = omega (arith, count, fits) in
-    ap (tree_at depth first) took.0 ∙ tree_again depth first t rest took.1 took.2 enough ∙ ap (λ n. Ok (t, n, rest)) left
+    ap (tree_at Steps depth first) took.0 ∙ tree_again Steps depth first t rest took.1 took.2 enough ∙ ap (λ n. Ok (t, n, rest)) left
 
 -- the bytes behind a fork's state are those of the second half
-meets : (bytes end right rest after : List ℕ) (t : Tree) (s : State) → bytes ≡ spelling_of t ++ rest → end ≡ rest → state_at end ≡ Some (s, after) → IsEnd bytes right → length after ≡ length right → after ≡ right
+meets : (bytes end right rest after : List ℕ) (t : Tree) (s : State) → bytes ≡ spelling_of Steps t ++ rest → end ≡ rest → state_at end ≡ Some (s, after) → IsEnd bytes right → length after ≡ length right → after ≡ right
 meets bytes end right rest after t s spelled same reads behind long =
     let takes = (state_code.takes end (s, after) reads).0 in
-    let whole : bytes ≡ (spelling_of t ++ state s) ++ after = spelled ∙ ap (λ l. spelling_of t ++ l) (sym same ∙ takes) ∙ sym (append_assoc (spelling_of t) (state s) after) in
-    same_ends bytes after right (record { front = spelling_of t ++ state s; is = whole }) behind long
+    let whole : bytes ≡ (spelling_of Steps t ++ state s) ++ after = spelled ∙ ap (λ l. spelling_of Steps t ++ l) (sym same ∙ takes) ∙ sym (append_assoc (spelling_of Steps t) (state s) after) in
+    same_ends bytes after right (record { front = spelling_of Steps t ++ state s; is = whole }) behind long
 
 -- behind a fork's byte its left half is read, its state, and the bytes of its right half are left
 record AreReadTo (depth room middle : ℕ) (bytes right : List ℕ) (one : Tree) (s : State) : Type 0 where
   after : List ℕ
-  left : tree_at depth room bytes ≡ Ok (one, middle, after)
+  left : tree_at Steps depth room bytes ≡ Ok (one, middle, after)
   state : state_at after ≡ Some (s, right)
 
-read_to : (apart : Bool) (depth room middle : ℕ) (behind left right rest end after : List ℕ) (one : Tree) (s : State) → AreBehind apart behind left right → tree_at depth room left ≡ Ok (one, middle, rest) → IsEnd left end → length end ≡ length rest → state_at end ≡ Some (s, after) → Meet apart after right
+read_to : (apart : Bool) (depth room middle : ℕ) (behind left right rest end after : List ℕ) (one : Tree) (s : State) → AreBehind apart behind left right → tree_at Steps depth room left ≡ Ok (one, middle, rest) → IsEnd left end → length end ≡ length rest → state_at end ≡ Some (s, after) → Meet apart after right
     → AreReadTo depth room middle behind right one s
 read_to false depth room middle behind left right rest end after one s are reads ends long reads_state meet =
-    let took = tree_take depth room left (one, middle, rest) reads in
-    let end_is : end ≡ rest = same_ends left end rest ends (record { front = spelling_of one; is = took.0 }) long in
+    let took = tree_take Steps depth room left (one, middle, rest) reads in
+    let end_is : end ≡ rest = same_ends left end rest ends (record { front = spelling_of Steps one; is = took.0 }) long in
     let right_ends : IsEnd left right = record { front = are.1.front; is = are.0 ∙ are.1.is } in
     let same : after ≡ right = meets left end right rest after one s took.0 end_is reads_state right_ends meet in
     record {
       after = rest;
-      left = ap (tree_at depth room) (sym are.0) ∙ reads;
+      left = ap (tree_at Steps depth room) (sym are.0) ∙ reads;
       state = ap state_at (sym end_is) ∙ reads_state ∙ ap (λ (w : List ℕ). Some (s, w)) same;
     }
 read_to true depth room middle behind left right rest end after one s are reads ends long reads_state meet =
-    let took = tree_take depth room left (one, middle, rest) reads in
-    let end_is : end ≡ rest = same_ends left end rest ends (record { front = spelling_of one; is = took.0 }) long in
+    let took = tree_take Steps depth room left (one, middle, rest) reads in
+    let end_is : end ≡ rest = same_ends left end rest ends (record { front = spelling_of Steps one; is = took.0 }) long in
     let alone : state_at rest ≡ Some (s, []) = ap state_at (sym end_is) ∙ reads_state ∙ ap (λ (w : List ℕ). Some (s, w)) meet in
     record {
       after = rest ++ right;
-      left = ap (tree_at depth room) are ∙ tree_before depth room middle left rest right one reads;
+      left = ap (tree_at Steps depth room) are ∙ tree_before depth room middle left rest right one reads;
       state = state_before rest [] right s alone;
     }
 
 -- the tree of a fork whose halves were read by themselves
 forked_tree : (apart : Bool) (whole left right : Stretch) (first second : Half) (room : ℕ) (middle : State) (halves : AreHalvesOf apart whole left right) (one : IsTreeRead left first) (two : IsTreeRead right second) → IsSeam apart left right first.records second.records middle room
-    → tree_at whole.depth whole.room whole.bytes ≡ Ok (fork one.tree middle two.tree, room, two.rest)
+    → tree_at Steps whole.depth whole.room whole.bytes ≡ Ok (fork one.tree middle two.tree, room, two.rest)
 forked_tree apart whole left right first second room middle halves one two seam =
     let d = whole.depth - 1 in
-    let reads_left : tree_at d whole.room left.bytes ≡ Ok (one.tree, first.records.room, one.rest) =
-    sym (ap (λ (s : Stretch). tree_at s.depth s.room left.bytes) halves.left_is) ∙ one.reads in
-    let reads_right : tree_at d whole.room right.bytes ≡ Ok (two.tree, second.records.room, two.rest) =
-    sym (ap (λ (s : Stretch). tree_at s.depth s.room right.bytes) halves.right_is) ∙ two.reads in
+    let reads_left : tree_at Steps d whole.room left.bytes ≡ Ok (one.tree, first.records.room, one.rest) =
+    sym (ap (λ (s : Stretch). tree_at Steps s.depth s.room left.bytes) halves.left_is) ∙ one.reads in
+    let reads_right : tree_at Steps d whole.room right.bytes ≡ Ok (two.tree, second.records.room, two.rest) =
+    sym (ap (λ (s : Stretch). tree_at Steps s.depth s.room right.bytes) halves.right_is) ∙ two.reads in
     let all : right.room ≡ whole.room = ap (λ (s : Stretch). s.room) halves.right_is in
     let to = read_to apart d whole.room first.records.room halves.behind left.bytes right.bytes one.rest seam.end seam.rest one.tree middle halves.are reads_left seam.ends (seam.long ∙ one.behind) seam.reads seam.meet in
     let fits : first.records.room ≡ room + (whole.room - second.records.room) = seam.fits.is ∙ ap (λ n. room + (n - second.records.room)) all in
-    let reads_rest : tree_at d first.records.room right.bytes ≡ Ok (two.tree, room, two.rest) = less_room d whole.room first.records.room second.records.room room right.bytes two.rest two.tree reads_right fits in
+    let reads_rest : tree_at Steps d first.records.room right.bytes ≡ Ok (two.tree, room, two.rest) = less_room d whole.room first.records.room second.records.room room right.bytes two.rest two.tree reads_right fits in
     let reads_fork = fork_reads d whole.room first.records.room room halves.behind to.after right.bytes two.rest one.tree two.tree middle to.left to.state reads_rest in
-    ap (tree_at whole.depth whole.room) halves.fork ∙ opens_behind whole.depth whole.room halves.behind halves.deep ∙ reads_fork
+    ap (tree_at Steps whole.depth whole.room) halves.fork ∙ opens_behind whole.depth whole.room halves.behind halves.deep ∙ reads_fork
 
 -- a fork of two trees that were read by themselves
 pub forked : (apart : Bool) (whole left right : Stretch) (first second h : Half) (new : Gathering) (room : ℕ) → AreHalvesOf apart whole left right → IsTreeRead left first → IsTreeRead right second → AreGrafted apart left right first.records second first.states new room

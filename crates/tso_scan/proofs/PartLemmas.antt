@@ -1,15 +1,14 @@
 -- Texts that lie in several parts.
-use Rattle.std.proofs.Common.{◌≡◌, ◌∙◌, ℕ, ◌-◌, ◌≤◌, List, [], ◌∷◌, ◌++◌, Some, Ok, Option, Result, refl, sym, ap, append_assoc, arith, drop, get_or, length, take}
+use Rattle.std.proofs.Common.{◌≡◌, ◌∙◌, ℕ, ◌-◌, ◌≤◌, List, [], ◌∷◌, ◌++◌, Some, Ok, refl, sym, ap, append_assoc, arith, drop, get_or, length, take}
 use Rattle.std.proofs.lemmas.List.{take-append-drop, take_all}
-use Rattle.tso_cert.proofs.TreeCode.{bind_ok, field_ok, magic_again, magic_take, tree_again, tree_take}
-use Rattle.tso_cert.specs.Certificates.{◌>>=◌, field, front_at, magic, magic_at, tree_at}
+use Rattle.tso_cert.proofs.FrontCode.{front_again, front_take}
+use Rattle.tso_cert.proofs.TreeCode.{tree_again, tree_take}
+use Rattle.tso_cert.specs.Certificates.{front, front_at, magic, tree_at}
 use Rattle.tso_cert.specs.Trees.{Tree, record_count, spelling_of}
-use Rattle.tso_cert.specs.declared.fault.Fault.{Fault}
 use Rattle.tso_code.proofs.StateCodes.{state_code}
-use Rattle.tso_code.proofs.TableCodes.{table_code}
 use Rattle.tso_code.specs.States.{state, state_at}
-use Rattle.tso_code.specs.Tables.{table, table_at}
-use Rattle.tso_foot.specs.declared.table.Table.{Table}
+use Rattle.tso_rec.specs.declared.basis.Basis.{Basis}
+use Rattle.tso_rec.specs.declared.basis.Grain.TheVariants.{Steps}
 use Rattle.tso_scan.specs.Halves.{IsEnd}
 use Rattle.tso_scan.specs.Parts.{text_of}
 use Rattle.tso_state.specs.declared.state.State.{State}
@@ -59,14 +58,14 @@ front_byte b (c ∷ rest) le e = let all = take_all (length (c ∷ rest) - 1) re
 -- ---- what is read of the front
 
 -- a tree is read whatever stands behind it
-pub tree_before : (depth room left : ℕ) (bytes rest more : List ℕ) (t : Tree) → tree_at depth room bytes ≡ Ok (t, left, rest) → tree_at depth room (bytes ++ more) ≡ Ok (t, left, rest ++ more)
+pub tree_before : (depth room left : ℕ) (bytes rest more : List ℕ) (t : Tree) → tree_at Steps depth room bytes ≡ Ok (t, left, rest) → tree_at Steps depth room (bytes ++ more) ≡ Ok (t, left, rest ++ more)
 tree_before depth room left bytes rest more t reads =
-    let took = tree_take depth room bytes (t, left, rest) reads in
+    let took = tree_take Steps depth room bytes (t, left, rest) reads in
     let count = took.3 in
     let enough : record_count t ≤ room = omega (arith, count) in
     let same : room - record_count t ≡ left = omega (arith, count) in
-    let whole : bytes ++ more ≡ spelling_of t ++ (rest ++ more) = ap (λ (w : List ℕ). w ++ more) took.0 ∙ append_assoc (spelling_of t) rest more in
-    ap (tree_at depth room) whole ∙ tree_again depth room t (rest ++ more) took.1 took.2 enough ∙ ap (λ (n : ℕ). Ok (t, n, rest ++ more)) same
+    let whole : bytes ++ more ≡ spelling_of Steps t ++ (rest ++ more) = ap (λ (w : List ℕ). w ++ more) took.0 ∙ append_assoc (spelling_of Steps t) rest more in
+    ap (tree_at Steps depth room) whole ∙ tree_again Steps depth room t (rest ++ more) took.1 took.2 enough ∙ ap (λ (n : ℕ). Ok (t, n, rest ++ more)) same
 
 -- so is a state
 pub state_before : (bytes rest more : List ℕ) (s : State) → state_at bytes ≡ Some (s, rest) → state_at (bytes ++ more) ≡ Some (s, rest ++ more)
@@ -75,15 +74,14 @@ state_before bytes rest more s reads =
     ap state_at (ap (λ (w : List ℕ). w ++ more) took.0 ∙ append_assoc (state s) rest more) ∙ state_code.again s (rest ++ more) took.1
 
 -- so is the table with what stands before it
-front_before : (bytes rest more : List ℕ) (t : Table) → front_at bytes ≡ Ok (t, rest) → front_at (bytes ++ more) ≡ Ok (t, rest ++ more)
-front_before bytes rest more t front =
-    let m = bind_ok (magic_at bytes) (λ rest. field (table_at rest)) (t, rest) front in
-    let head = magic_take bytes m.0 m.1 in
-    let took = table_code.takes m.0 (t, rest) (field_ok (table_at m.0) (t, rest) m.2) in
-    let behind : m.0 ++ more ≡ table t ++ (rest ++ more) = ap (λ (w : List ℕ). w ++ more) took.0 ∙ append_assoc (table t) rest more in
-    let whole : bytes ++ more ≡ magic ++ (table t ++ (rest ++ more)) = ap (λ (w : List ℕ). w ++ more) head ∙ append_assoc magic m.0 more ∙ ap (λ (w : List ℕ). magic ++ w) behind in
-    ap front_at whole ∙ ap (λ (r : Result (List ℕ) Fault). r >>= λ rest. field (table_at rest)) (magic_again (table t ++ (rest ++ more))) ∙ ap (λ (o : Option (Table × List ℕ)). field o) (table_code.again t (rest ++ more) took.1)
+front_before : (bytes rest more : List ℕ) (b : Basis) → front_at bytes ≡ Ok (b, rest) → front_at (bytes ++ more) ≡ Ok (b, rest ++ more)
+front_before bytes rest more b reads =
+    let took = front_take bytes (b, rest) reads in
+    ap front_at (ap (λ (w : List ℕ). w ++ more) took.0 ∙ apart (magic b.grain) (front b) rest more) ∙ front_again b (rest ++ more) took.1
+  where
+    apart : (s t u more : List ℕ) → (s ++ (t ++ u)) ++ more ≡ s ++ (t ++ (u ++ more))
+    apart s t u more = simp append_assoc
 
-pub front_of_text : (first rest : List ℕ) (more : List (List ℕ)) (t : Table) → front_at first ≡ Ok (t, rest) → front_at (text_of first more) ≡ Ok (t, text_of rest more)
-front_of_text first rest [] t front = front
-front_of_text first rest (second ∷ more) t front = front_before first rest (text_of second more) t front
+pub front_of_text : (first rest : List ℕ) (more : List (List ℕ)) (b : Basis) → front_at first ≡ Ok (b, rest) → front_at (text_of first more) ≡ Ok (b, text_of rest more)
+front_of_text first rest [] b reads = reads
+front_of_text first rest (second ∷ more) b reads = front_before first rest (text_of second more) b reads

@@ -11,6 +11,7 @@ use Rattle.tso_parts.specs.Numbers.{Extends}
 use Rattle.tso_prog.specs.declared.client.Client.{Client}
 use Rattle.tso_rec.specs.Records.{ends_of, states_of}
 use Rattle.tso_rec.specs.Spelling.{record_at}
+use Rattle.tso_rec.specs.declared.basis.Grain.TheVariants.{Steps}
 use Rattle.tso_rec.specs.declared.record.End.{End}
 use Rattle.tso_rec.specs.declared.record.Record.{Record}
 use Rattle.tso_scan.specs.Scanned.{AreRecordsScanned, HasMore, IsEndScanned, IsRecordScanned, IsScan, IsStateScanned, scanned_states}
@@ -111,7 +112,7 @@ record_scanned c old mid new bytes after rest one two = record {
 pub record AreRecordsTo (c : Client) (old new : Scan) (many done : ℕ) (bytes rest : List ℕ) : Type 0 where
   pub records : List Record
   pub count : length records ≡ done
-  pub reads : with_front records (items_at record_at (many - done) rest) ≡ items_at record_at many bytes
+  pub reads : with_front records (items_at (record_at Steps) (many - done) rest) ≡ items_at (record_at Steps) many bytes
   pub more : HasMore c old new (states_of records) (ends_of records)
 
 no_front : {X : Type 0} (o : Option (List X × List ℕ)) → with_front [] o ≡ o
@@ -130,7 +131,7 @@ pub records_none : (c : Client) (s : Scan) (many : ℕ) (bytes : List ℕ) → I
 records_none c s many bytes is = record {
   records = [];
   count = refl;
-  reads = no_front (items_at record_at (many - 0) bytes) ∙ ap (λ k. items_at record_at k bytes) (let e : many - 0 ≡ many = omega arith in e);
+  reads = no_front (items_at (record_at Steps) (many - 0) bytes) ∙ ap (λ k. items_at (record_at Steps) k bytes) (let e : many - 0 ≡ many = omega arith in e);
   more = nothing_more c s is;
 }
 
@@ -142,7 +143,7 @@ records_more c old mid new many done bytes rest after lt is one =
     record {
       records = is.records ++ one.last ∷ [];
       count = length-append is.records (one.last ∷ []) ∙ ap (λ k. k + 1) is.count;
-      reads = goes_on record_at is.records many done rest one.last after (items_at record_at many bytes) lt one.reads is.reads;
+      reads = goes_on (record_at Steps) is.records many done rest one.last after (items_at (record_at Steps) many bytes) lt one.reads is.reads;
       more = subst (λ (l : List State). HasMore c old new l (ends_of (is.records ++ one.last ∷ []))) (sym one_state) (subst (λ (l : List End). HasMore c old new (states_of is.records ++ one.last.state ∷ []) l) (sym one_end) both);
     }
 
@@ -150,6 +151,6 @@ pub records_all : (c : Client) (old new : Scan) (many done : ℕ) (bytes rest : 
 records_all c old new many done bytes rest le ge is = record {
   records = is.records;
   count = let a = is.count in omega (arith, le, ge, a);
-  reads = is_done record_at is.records many done rest (items_at record_at many bytes) le is.reads;
+  reads = is_done (record_at Steps) is.records many done rest (items_at (record_at Steps) many bytes) le is.reads;
   more = is.more;
 }

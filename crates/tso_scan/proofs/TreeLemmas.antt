@@ -3,15 +3,18 @@ use Rattle.std.proofs.Common.{Box, Global, ◌≡◌, ℕ, zero, suc, ◌-◌, �
 use Rattle.std.specs.Prelude.{IfSome}
 use Rattle.std.proofs.lemmas.Bool.{le-ltb}
 use Rattle.std.proofs.lemmas.List.{append-nil, length-map, map-append}
-use Rattle.tso_cert.proofs.TreeCode.{Three, bind_ok}
-use Rattle.tso_cert.specs.Certificates.{Branch, certificate_at, field, fork_at, front_at, leaf_at, magic_at, tree_at}
+use Rattle.tso_cert.proofs.TreeCode.{Three, behind, ended}
+use Rattle.tso_cert.specs.Certificates.{◌>>=◌, Branch, certificate_at, fork_at, front_at, leaf_at, tree_at}
 use Rattle.tso_cert.specs.Lookup.{tree_states}
 use Rattle.tso_cert.specs.Trees.{fork, leaf, records_of}
+use Rattle.tso_cert.specs.declared.fault.Fault.{Fault}
 use Rattle.tso_code.specs.Numbers.{number_at}
-use Rattle.tso_code.specs.Tables.{table_at}
 use Rattle.tso_foot.specs.declared.table.Table.{Table}
 use Rattle.tso_prog.specs.declared.client.Client.{Client}
+use Rattle.tso_rec.specs.Bases.{by_steps}
 use Rattle.tso_rec.specs.Records.{ends_of}
+use Rattle.tso_rec.specs.declared.basis.Basis.{Basis}
+use Rattle.tso_rec.specs.declared.basis.Grain.TheVariants.{Steps}
 use Rattle.tso_rec.specs.declared.record.End.{End}
 use Rattle.tso_rec.specs.declared.record.Record.{Record}
 use Rattle.tso_scan.proofs.ScanLemmas.{twice_more}
@@ -27,7 +30,7 @@ use Rattle.tso_keys.proofs.StateLemmas.{key_more, key_state, kept_stay, state_go
 use Rattle.tso_keys.specs.Keys.{IsKeyOf, state_at}
 use Rattle.tso_keys.specs.declared.key.Key.{Key}
 
-pub leaf_scanned : (c : Client) (old new : Scan) (room found : ℕ) (bytes rest after : List ℕ) → number_at bytes ≡ Some (found, rest) → found ≤ min 64 room → AreRecordsScanned c old new found rest after → IsBranchScanned c old new (leaf_at room bytes) (Leaf found) (room - found) after
+pub leaf_scanned : (c : Client) (old new : Scan) (room found : ℕ) (bytes rest after : List ℕ) → number_at bytes ≡ Some (found, rest) → found ≤ min 64 room → AreRecordsScanned c old new found rest after → IsBranchScanned c old new (leaf_at Steps room bytes) (Leaf found) (room - found) after
 unfolding leaf_at
 leaf_scanned c old new room found bytes rest after number few is = record {
   tree = leaf is.records;
@@ -67,11 +70,11 @@ first_is c mid new ss es k s more key at =
 
 -- a fork is its left half, its state and its right half
 pub fork_scanned : (c : Client) (old left_read now : Scan) (sources : Sources) (depth room : ℕ) (bytes after_left after_state rest : List ℕ) (one two : Box Shape Global) (middle left : ℕ) (k : Key)
-    → IsBranchScanned c old left_read (tree_at depth room bytes) one.value middle after_left
+    → IsBranchScanned c old left_read (tree_at Steps depth room bytes) one.value middle after_left
     → (read : IsKeyReadAs c left_read.sources sources after_left k after_state)
-    → IsBranchScanned c (record { sources = sources; keys = left_read.keys; reader = left_read.reader; ends = left_read.ends }) now (tree_at depth middle after_state) two.value left rest
+    → IsBranchScanned c (record { sources = sources; keys = left_read.keys; reader = left_read.reader; ends = left_read.ends }) now (tree_at Steps depth middle after_state) two.value left rest
     → slice_get now.keys (length left_read.keys) ≡ Some k
-    → IsBranchScanned c old now (fork_at (tree_at depth) room bytes) (Fork one two) left rest
+    → IsBranchScanned c old now (fork_at (tree_at Steps depth) room bytes) (Fork one two) left rest
 fork_scanned c old left_read now sources depth room bytes after_left after_state rest one two middle left k first read second at =
     let mid : Scan = record { sources = sources; keys = left_read.keys; reader = left_read.reader; ends = left_read.ends } in
     let key = key_scanned c left_read sources k after_left after_state first.more.scan read in
@@ -89,16 +92,17 @@ fork_scanned c old left_read now sources depth room bytes after_left after_state
 
 -- ---- whole certificates
 
-pub whole_reads : (bytes rest : List ℕ) (t : Table) (x : Three) → front_at bytes ≡ Ok (t, rest) → tree_at 64 4194304 rest ≡ Ok x → x.2 ≡ [] → certificate_at bytes ≡ Ok (t, x.0)
+pub whole_reads : (bytes rest : List ℕ) (b : Basis) (x : Three) → front_at bytes ≡ Ok (b, rest) → tree_at b.grain 64 4194304 rest ≡ Ok x → x.2 ≡ [] → certificate_at bytes ≡ Ok (b, x.0)
 unfolding certificate_at
-whole_reads bytes rest t x front tree nothing =
-    let m = bind_ok (magic_at bytes) (λ rest. field (table_at rest)) (t, rest) front in
-    rw (m.1, m.2, tree, nothing) refl
+whole_reads bytes rest b x front tree nothing =
+    ap (λ (r : Result (Basis × List ℕ) Fault). r >>= behind) front
+    ∙ ap (λ (r : Branch). r >>= ended b) tree
+    ∙ ap (λ (w : List ℕ). ended b (x.0, x.1, w)) nothing
 
-pub certificate_scanned : (c : Client) (bytes rest : List ℕ) (t : Table) (s : Scanned) → front_at bytes ≡ Ok (t, rest) → IsScannedBehind c t rest s → IsScanned c bytes s
+pub certificate_scanned : (c : Client) (bytes rest : List ℕ) (t : Table) (s : Scanned) → front_at bytes ≡ Ok (by_steps t, rest) → IsScannedBehind c t rest s → IsScanned c bytes s
 certificate_scanned c bytes rest t s front is = record {
   tree = is.tree;
-  reads = whole_reads bytes rest t (is.tree, is.left, []) front is.reads refl ∙ ap (λ (x : Table). Ok (x, is.tree)) (sym is.table);
+  reads = whole_reads bytes rest (by_steps t) (is.tree, is.left, []) front is.reads refl ∙ ap (λ (x : Table). Ok (by_steps x, is.tree)) (sym is.table);
   scanned = is.scanned;
 }
 

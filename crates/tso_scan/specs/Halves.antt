@@ -2,6 +2,7 @@
 use Rattle.std.specs.Prelude.{◌≡◌, ◌+◌, ◌-◌, ◌≤◌, ◌++◌, ◌∷◌, ℕ, Bool, IsTrue, List, [], false, length, Ok, Some, slice_get, true}
 use Rattle.tso_cert.specs.Certificates.{tree_at}
 use Rattle.tso_cert.specs.Lookup.{tree_states}
+use Rattle.tso_rec.specs.declared.basis.Grain.TheVariants.{Steps}
 use Rattle.tso_state.specs.Rising.{IsRising}
 use Rattle.tso_cert.specs.Trees.{Tree, fork, records_of}
 use Rattle.tso_code.specs.States.{state_at}
@@ -88,7 +89,7 @@ pub record AreHalvesOf (apart : Bool) (whole left right : Stretch) : Type 0 wher
 pub record IsTwig (c : Client) (old new : Scan) (depth room : ℕ) (bytes : List ℕ) (t : Twig) : Type 0 where
   pub rest : List ℕ
   pub behind : t.behind ≡ length rest
-  pub is : IsBranchScanned c old new (tree_at depth room bytes) t.shape t.room rest
+  pub is : IsBranchScanned c old new (tree_at Steps depth room bytes) t.shape t.room rest
 
 -- all that was read, as one tree
 pub record IsHalfOf (c : Client) (scan : Scan) (t : Twig) (h : Half) : Type 0 where
@@ -105,7 +106,7 @@ pub record IsTreeRead (s : Stretch) (h : Half) : Type 0 where
   pub tree : Tree
   pub rest : List ℕ
   pub behind : h.records.behind ≡ length rest
-  pub reads : tree_at s.depth s.room s.bytes ≡ Ok (tree, h.records.room, rest)
+  pub reads : tree_at Steps s.depth s.room s.bytes ≡ Ok (tree, h.records.room, rest)
   pub client : h.states.client ≡ s.client
   pub states : h.states.states ≡ tree_states tree
   pub rises : IsTrue h.rises → IsRising h.states.states

@@ -2,12 +2,14 @@
 use Rattle.std.specs.Prelude.{◌≡◌, ◌+◌, ◌<◌, ◌^◌, ◌++◌, ◌∷◌, ℕ, List, [], length, Ok, Some, slice_get}
 use Rattle.tso_cert.specs.Certificates.{Branch, certificate_at, tree_at}
 use Rattle.tso_cert.specs.Lookup.{tree_states}
+use Rattle.tso_rec.specs.declared.basis.Grain.TheVariants.{Steps}
 use Rattle.tso_state.specs.Rising.{IsRising}
 use Rattle.tso_cert.specs.Trees.{Tree, fork, leaf, records_of}
 use Rattle.tso_code.specs.Fields.{items_at}
 use Rattle.tso_code.specs.States.{state_at}
 use Rattle.tso_foot.specs.declared.table.Table.{Table}
 use Rattle.tso_prog.specs.declared.client.Client.{Client}
+use Rattle.tso_rec.specs.Bases.{by_steps}
 use Rattle.tso_rec.specs.Records.{ends_of, states_of}
 use Rattle.tso_rec.specs.Spelling.{ending_at, record_at}
 use Rattle.tso_rec.specs.declared.record.End.{End}
@@ -44,7 +46,7 @@ pub record IsStateScanned (c : Client) (old new : Scan) (bytes rest : List ℕ) 
 -- the end at the front of the bytes is the last one
 pub record IsEndScanned (old new : Scan) (bytes rest : List ℕ) : Type 0 where
   pub end : End
-  pub reads : ending_at bytes ≡ Some (end, rest)
+  pub reads : ending_at Steps bytes ≡ Some (end, rest)
   pub ends : new.ends ≡ old.ends ++ end ∷ []
   pub sources : new.sources ≡ old.sources
   pub keys : new.keys ≡ old.keys
@@ -52,14 +54,14 @@ pub record IsEndScanned (old new : Scan) (bytes rest : List ℕ) : Type 0 where
 -- the record at the front of the bytes is the last one
 pub record IsRecordScanned (c : Client) (old new : Scan) (bytes rest : List ℕ) : Type 0 where
   pub last : Record
-  pub reads : record_at bytes ≡ Some (last, rest)
+  pub reads : record_at Steps bytes ≡ Some (last, rest)
   pub more : HasMore c old new (last.state ∷ []) (last.end ∷ [])
 
 -- the last ones are the records at the front of the bytes, so many
 pub record AreRecordsScanned (c : Client) (old new : Scan) (many : ℕ) (bytes rest : List ℕ) : Type 0 where
   pub records : List Record
   pub count : length records ≡ many
-  pub reads : items_at record_at many bytes ≡ Some (records, rest)
+  pub reads : items_at (record_at Steps) many bytes ≡ Some (records, rest)
   pub more : HasMore c old new (states_of records) (ends_of records)
 
 -- ---- trees
@@ -102,11 +104,11 @@ pub record IsScannedBehind (c : Client) (t : Table) (bytes : List ℕ) (s : Scan
   pub table : s.table ≡ t
   pub tree : Tree
   pub left : ℕ
-  pub reads : tree_at 64 4194304 bytes ≡ Ok (tree, left, [])
+  pub reads : tree_at Steps 64 4194304 bytes ≡ Ok (tree, left, [])
   pub scanned : IsScannedTree c tree s
 
--- the bytes are read as this table and such a tree
+-- the bytes are read as a certificate of steps, of this table and such a tree
 pub record IsScanned (c : Client) (bytes : List ℕ) (s : Scanned) : Type 0 where
   pub tree : Tree
-  pub reads : certificate_at bytes ≡ Ok (s.table, tree)
+  pub reads : certificate_at bytes ≡ Ok (by_steps s.table, tree)
   pub scanned : IsScannedTree c tree s

@@ -1,6 +1,7 @@
 //! Certificates read straight into a store: each part is told by its spelling, and no tree of records is made.
 #![tactic(auto)]
 
+mod front;
 mod halves;
 mod histories;
 mod neighbours;

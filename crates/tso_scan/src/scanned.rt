@@ -6,13 +6,14 @@ ghost use Rattle.tso_scan.specs.Scanned.{IsScanned, IsScannedBehind};
 ghost use Rattle.tso_scan.specs.Parts.{text_of};
 ghost use Rattle.tso_prog.specs.declared.client.Client.{Client};
 
+use crate::front::read_steps;
 use crate::halves::{Half, RECORDS, Records, Unread, read_alone};
 use crate::shape::Shape;
 use crate::whole::{Whole, whole_of};
 use std::alloc::{AllocError, Global};
 use std::thread;
 use std::thread::Threads;
-use tso_cert::{DecodeError, read_table, run_by};
+use tso_cert::run_by;
 use tso_flow::Checked;
 use tso_foot::Table;
 use tso_list::Seq;
@@ -191,8 +192,8 @@ fn scan_tree_with<'a, R: Threads + Sync>(
 }
 
 /// The certificate in the bytes, for this client, read straight into a store, where its states rise. `None` where they are no
-/// certificate, where a record's state does not fit the client or is not above the one before, where a fork's state is not the first
-/// one of its right half, or where there are as many parts as numbers: then nothing is said of the bytes.
+/// certificate of steps, where a record's state does not fit the client or is not above the one before, where a fork's state is not the
+/// first one of its right half, or where there are as many parts as numbers: then nothing is said of the bytes.
 ///
 /// Errors: where a growth was refused.
 pub fn scan<'a>(
@@ -202,10 +203,9 @@ pub fn scan<'a>(
 ) -> Result<Option<Scanned<'a>>, AllocError>
     ensures { IfOk result (λ o. IfSome o (IsScanned checked.now.client bytes.now)) }
 {
-    match read_table(alloc, bytes) {
-        Ok((table, rest)) => scan_tree(alloc, checked, table, rest),
-        Err(DecodeError::Fault(_)) => Ok(None),
-        Err(DecodeError::Memory) => Err(AllocError),
+    match read_steps(alloc, bytes)? {
+        Some((table, rest)) => scan_tree(alloc, checked, table, rest),
+        None => Ok(None),
     }
 }
 
@@ -224,9 +224,8 @@ pub fn scan_with<'a, R: Threads + Sync>(
 ) -> Result<Option<Scanned<'a>>, AllocError>
     ensures { IfOk result (λ o. IfSome o (IsScanned checked.now.client (text_of bytes.now more.now))) }
 {
-    match read_table(alloc, bytes) {
-        Ok((table, rest)) => scan_tree_with(rt, alloc, checked, table, rest, more, workers),
-        Err(DecodeError::Fault(_)) => Ok(None),
-        Err(DecodeError::Memory) => Err(AllocError),
+    match read_steps(alloc, bytes)? {
+        Some((table, rest)) => scan_tree_with(rt, alloc, checked, table, rest, more, workers),
+        None => Ok(None),
     }
 }

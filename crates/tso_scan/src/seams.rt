@@ -5,8 +5,8 @@ ghost use Rattle.std.specs.Prelude.{◌≡◌, ◌≤◌, IfSome, length};
 ghost use Rattle.tso_scan.specs.Halves.{IsEnd};
 ghost use Rattle.tso_scan.specs.Seams.{HasForks, forks_before};
 
+use crate::front::read_steps;
 use std::alloc::Global;
-use tso_cert::read_table;
 use tso_code::Code;
 use tso_state::State;
 
@@ -145,12 +145,12 @@ pub fn right_half(alloc: Global, bytes: &[u8], taken: usize) -> Option<&[u8]>
     tree_from(alloc, bytes, forks, taken / 16 * 7)
 }
 
-/// How many forks a certificate has on the way to its first leaf, if its table is at the front of these bytes, and the forks too.
+/// How many forks a certificate of steps has on the way to its first leaf, if its table is at the front of these bytes, and the forks too.
 pub fn forks_at(alloc: Global, bytes: &[u8]) -> Option<usize>
     ensures { IfSome result (HasForks bytes.now) }
 {
-    match read_table(alloc, bytes) {
-        Ok((table, rest)) => {
+    match read_steps(alloc, bytes) {
+        Ok(Some((table, rest))) => {
             drop(table);
             let forks = forks_before(rest, MOST);
             if forks < rest.len() {
@@ -159,7 +159,7 @@ pub fn forks_at(alloc: Global, bytes: &[u8]) -> Option<usize>
                 None
             }
         }
-        Err(_) => None,
+        Ok(None) | Err(_) => None,
     }
 }
 

@@ -1,6 +1,7 @@
 //! Trees that were read.
 ghost use Rattle.std.specs.Prelude.{◌≡◌, ◌≤◌, IfOk, IfSome, IsTrue, Some, slice_get};
 ghost use Rattle.tso_cert.specs.Certificates.{fork_at, leaf_at, tree_at};
+ghost use Rattle.tso_rec.specs.declared.basis.Grain.TheVariants.{Steps};
 ghost use Rattle.tso_scan.specs.Scanned.{IsBranchScanned, IsScan};
 
 use crate::shape::Shape;
@@ -26,7 +27,7 @@ fn leaf_of<'a>(
     bytes: &'a [u8],
 ) -> Result<Option<(Shape, u32, &'a [u8])>, Refused>
     requires { IsScan client.now scan.old }
-    ensures { IfOk result (λ o. IfSome o (λ x. IsBranchScanned client.now scan.old scan.new (leaf_at room bytes.now) x.0 x.1 x.2.now)) }
+    ensures { IfOk result (λ o. IfSome o (λ x. IsBranchScanned client.now scan.old scan.new (leaf_at Steps room bytes.now) x.0 x.1 x.2.now)) }
 {
     let Some((count, rest)) = read_number(bytes) else {
         return Ok(None);
@@ -54,7 +55,7 @@ pub fn branch_of<'a>(
     bytes: &'a [u8],
 ) -> Result<Option<(Shape, u32, &'a [u8])>, Refused>
     requires { IsScan client.now scan.old }
-    ensures { IfOk result (λ o. IfSome o (λ x. IsBranchScanned client.now scan.old scan.new (tree_at depth room bytes.now) x.0 x.1 x.2.now)) }
+    ensures { IfOk result (λ o. IfSome o (λ x. IsBranchScanned client.now scan.old scan.new (tree_at Steps depth room bytes.now) x.0 x.1 x.2.now)) }
 {
     match bytes {
         [0, rest @ ..] => {
@@ -99,7 +100,7 @@ fn fork_of<'a>(
     bytes: &'a [u8],
 ) -> Result<Option<(Shape, u32, &'a [u8])>, Refused>
     requires { IsScan client.now scan.old }
-    ensures { IfOk result (λ o. IfSome o (λ x. IsBranchScanned client.now scan.old scan.new (fork_at (tree_at depth) room bytes.now) x.0 x.1 x.2.now)) }
+    ensures { IfOk result (λ o. IfSome o (λ x. IsBranchScanned client.now scan.old scan.new (fork_at (tree_at Steps depth) room bytes.now) x.0 x.1 x.2.now)) }
 {
     let Some((left, room, rest)) = branch_of(scan, client, alloc, depth, room, bytes)? else {
         return Ok(None);

@@ -1,5 +1,5 @@
 -- What is chosen where a core's step may go first alone.
-use Rattle.std.proofs.Common.{◌≡◌, ◌∙◌, ℕ, ◌*◌, ◌%◌, ◌^◌, ◌<◌, ◌==◌, inl, inr, true, false, List, [], ◌∷◌, Option, None, Some, slice_get, refl, sym, ap, subst, arith, ne_eqb}
+use Rattle.std.proofs.Common.{◌≡◌, ◌∙◌, ℕ, zero, suc, ◌*◌, ◌%◌, ◌^◌, ◌<◌, ◌==◌, inl, inr, true, false, List, [], ◌∷◌, Option, None, Some, slice_get, refl, sym, ap, subst, arith, ne_eqb}
 use Rattle.std.specs.Int.{bit_at}
 use Rattle.std.specs.Option.{option_and_then, option_map}
 use Rattle.std.proofs.Math.Nat.{mod-eq_of_lt}
@@ -84,3 +84,19 @@ pub lone_chosen : (d c : Client) (t : Table) (states : List State) (n : ℕ) (l 
     → (s : State) → slice_get states n ≡ Some s → IsChoice c t s set
 lone_chosen d c t states n l set same at only s here =
     subst (λ x. IsChoice x t s set) same (subst (λ x. IsChoice d t x set) (same_Some _ _ (sym at.at ∙ here)) (core_chosen d t at.state l set at.first only))
+
+-- ---- all actors
+
+-- the cores and buffers of five threads
+pub all_are_there : (k : ℕ) → k < 10 → has_bit 1023 k ≡ true
+all_are_there zero lt = refl
+all_are_there (suc zero) lt = refl
+all_are_there (suc (suc zero)) lt = refl
+all_are_there (suc (suc (suc zero))) lt = refl
+all_are_there (suc (suc (suc (suc zero)))) lt = refl
+all_are_there (suc (suc (suc (suc (suc zero))))) lt = refl
+all_are_there (suc (suc (suc (suc (suc (suc zero)))))) lt = refl
+all_are_there (suc (suc (suc (suc (suc (suc (suc zero))))))) lt = refl
+all_are_there (suc (suc (suc (suc (suc (suc (suc (suc zero)))))))) lt = refl
+all_are_there (suc (suc (suc (suc (suc (suc (suc (suc (suc zero))))))))) lt = refl
+all_are_there (suc (suc (suc (suc (suc (suc (suc (suc (suc (suc k)))))))))) lt = absurd (omega (arith, lt))

@@ -1,16 +1,31 @@
 -- The labels of steps, one after another, and what the run to a bad state is.
-use Rattle.std.proofs.Common.{◌≡◌, ℕ, ◌-◌, ◌<◌, ◌≤◌, List, [], ◌∷◌, ◌++◌, length, map, Some, get_or, slice_get, slice_index_or, refl, sym, ap, subst, ◌∙◌, arith, inl, inr}
-use Rattle.std.proofs.lemmas.List.{map-append}
+use Rattle.std.proofs.Common.{◌≡◌, Bool, true, false, ℕ, ◌-◌, ◌<◌, ◌≤◌, List, [], ◌∷◌, ◌++◌, length, map, Some, get_or, slice_get, slice_index_or, refl, sym, ap, subst, ◌∙◌, arith, inl, inr}
+use Rattle.std.proofs.lemmas.List.{length-map, map-append}
 use Rattle.std.proofs.lemmas.Option.{same_Some, slice_get-get_or}
 use Rattle.std.specs.Option.{option_map}
+use Rattle.std.specs.Prelude.{◌↔◌, IsTrue}
 use Rattle.tso_compact.proofs.NamingLemmas.{shaped}
-use Rattle.tso_compact.specs.Laws.{IsLabelRun, initial_of}
-use Rattle.tso_compact.specs.Plans.{HasHistories, IsLabelled, IsRunOfStep, IsStep}
-use Rattle.tso_search.specs.Reached.{AllMet, AreLabelsTo, AreOrigins, IsBadAt, IsOrigin}
-use Rattle.tso_search.specs.Searched.{IsBegun}
-use Rattle.tso_search.specs.Ways.{AreLabelsFrom, ComeEarlier, IsOriginOf, LeadBack}
+use Rattle.tso_compact.proofs.PathLemmas.{initial_is_plausible}
+use Rattle.tso_compact.specs.Laws.{IsLabelRun, IsPlausible, initial_of}
+use Rattle.tso_compact.specs.Plans.{HasHistories, HasStep, IsLabelled, IsRunOfStep, IsStep}
+use Rattle.tso_crossing.proofs.AsSteps.{moves_are_steps}
+use Rattle.tso_crossing.specs.Late.{AllAre}
+use Rattle.tso_flow.specs.Calls.{step_limit}
+use Rattle.tso_flow.specs.Faults.{HasNoFault}
+use Rattle.tso_foot.specs.declared.table.ArrayTable.{ArrayTable}
+use Rattle.tso_judge.proofs.CrossingLemmas.{same_move, same_run}
+use Rattle.tso_move.specs.Own.{extent_of}
+use Rattle.tso_move.specs.Runs.{IsMove, IsRun}
+use Rattle.tso_search.proofs.SearchLemmas.{plausible_along}
+use Rattle.tso_search.specs.Grounds.{Goes, IsFirst, Leads}
+use Rattle.tso_search.specs.Reached.{AreOrigins, IsBad, IsOrigin}
+use Rattle.tso_search.specs.Ways.{AreLed, ComeEarlier, IsBadEnd, IsOriginOf, IsTrail, LeadBack}
+use Rattle.tso_search.specs.declared.ground.Ground.{Ground}
+use Rattle.tso_search.specs.declared.ground.Ground.TheVariants as grounds
+use Rattle.tso_search.specs.declared.trail.Trail.{Trail}
 use Rattle.tso_search.specs.declared.origin.Origin.{Origin}
 use Rattle.tso_rec.specs.Conditions.{IsStoppedAt}
+use Rattle.tso_machine.proofs.RunLaws.{runs_are_short}
 use Rattle.tso_machine.specs.Activations.{Activation}
 use Rattle.tso_machine.specs.Machines.{label_of}
 use Rattle.tso_machine.specs.Places.{first_memory}
@@ -25,16 +40,17 @@ use Rattle.tso_model.proofs.Threads.{shaped_get, threads_get}
 use Rattle.tso_model.specs.Labels as model
 use Rattle.tso_model.specs.Labels.{Machine, Run, after_label, after_labels, core_of, first_machine, machine_of}
 use Rattle.tso_model.specs.Linear.{IsOrder}
+use Rattle.tso_model.specs.Reduce.{Steps}
+use Rattle.tso_model.specs.Steps as steps
 use Rattle.tso_model.specs.States as states_of_model
 use Rattle.tso_model.specs.States.{Called, calls_in}
 use Rattle.tso_prog.specs.declared.client.Client.{Client}
 use Rattle.tso_state.proofs.ViewLemmas.{slice_get-threads_view}
 use Rattle.tso_state.specs.Actors.{actor_of}
 use Rattle.tso_state.specs.Views.{running_procedure, state_of, thread_view}
-use Rattle.tso_state.specs.WellFormed.{IsWellFormed}
 use Rattle.tso_state.specs.declared.actor.Actor.{Actor}
 use Rattle.tso_state.specs.declared.state.State.{State}
-use Rattle.tso_store.specs.Sheets.{CanStep}
+use Rattle.tso_store.proofs.Views.{same_state}
 use Rattle.tso_trace.proofs.LawLemmas.{no_fault}
 use Rattle.tso_trace.specs.Runs.{IsErrorTrace, IsGoodRun, IsTraceFault, queue_of}
 use Rattle.tso_trace.specs.declared.fault.TraceFault.{TraceFault}
@@ -42,8 +58,8 @@ use Rattle.tso_trace.specs.declared.fault.TraceFault.TheVariants.{Memory}
 
 -- ---- ways
 
-pub come_earlier : (c : Client) (states : List State) (origins : List Origin) → AreOrigins c states origins → ComeEarlier origins
-come_earlier c states origins all k o at = let earlier = (all k o at).earlier in omega (arith, earlier)
+pub come_earlier : (c : Client) (g : Ground) (states : List State) (origins : List Origin) → AreOrigins c g states origins → ComeEarlier origins
+come_earlier c g states origins all k o at = let earlier = (all k o at).earlier in omega (arith, earlier)
 
 pub leads_on : (origins : List Origin) (n : ℕ) (way : List Origin) (m : ℕ) (o : Origin) → LeadBack origins n way m → IsOriginOf origins m o → LeadBack origins n (way ++ o ∷ []) o.from
 leads_on origins n [] m o same is =
@@ -81,9 +97,9 @@ last_origin origins n (x ∷ way) o m (first, rest) =
     let l = last_origin origins x.from way o m rest in
     record { number = l.number; way_there = (first, l.way_there); origin = l.origin; from = l.from }
 
-pub origin_at : (c : Client) (states : List State) (origins : List Origin) (n : ℕ) (o : Origin) → AreOrigins c states origins → IsOriginOf origins n o → IsOrigin c states n o
-origin_at c states origins n o all is =
-    let P : ℕ → Type 0 = λ k. IsOrigin c states k o in
+pub origin_at : (c : Client) (g : Ground) (states : List State) (origins : List Origin) (n : ℕ) (o : Origin) → AreOrigins c g states origins → IsOriginOf origins n o → IsOrigin c g states n o
+origin_at c g states origins n o all is =
+    let P : ℕ → Type 0 = λ k. IsOrigin c g states k o in
     subst P (sym is.next) (all is.place o is.at)
 
 -- ---- labels
@@ -93,80 +109,159 @@ after_both : (h : List (List Called)) (xs ys : List model.Label) → after_label
 after_both h [] ys = refl
 after_both h (x ∷ xs) ys = after_both (after_label h x) xs ys
 
-has_histories : (c : Client) (s : State) → IsWellFormed c s → HasHistories s
-has_histories c s w = record { lists = w.sizes.history ∙ sym w.sizes.threads }
-
--- the labels of a step lead on, with the history
-pub step_labels : (c : Client) (states : List State) (n : ℕ) (s : State) (a : Actor) (labels : List Label) → AllMet c states → slice_get states n ≡ Some s → IsLabelled c s a labels → (HasHistories s → IsRunOfStep c s a labels)
-    → AreLabelsFrom c states n a labels
-step_labels c states n s a labels met at named runs u t there step =
-    let same : s ≡ u = same_Some s u (sym at ∙ there) in
-    let P : State → Type 0 = λ x. IsLabelRun c (state_of x) (state_of t) (map label_of labels) in
-    let Q : State → Type 0 = λ x. IsStep c x a t in
-    subst P same (of_step (subst Q (sym same) step))
-  where
-    of_step : IsStep c s a t → IsLabelRun c (state_of s) (state_of t) (map label_of labels)
-    of_step step =
-        let lists = has_histories c s (met n s at).plausible.well_formed in
-        let left = step_leaves (program_of c) (state_of s) (actor_of a) (state_of t) (shaped s lists) step in
-        record { run = runs lists t step; history = left.0 ∙ ap (after_labels (state_of s).history) (sym named.labels) }
-
-pub no_labels : (c : Client) (states : List State) (origins : List Origin) → IsBegun c states origins → AreLabelsTo c states 0 []
-no_labels c states origins begun s at =
-    let same : begun.initial ≡ s = same_Some begun.initial s (sym begun.initial_at ∙ at) in
-    let first : state_of s ≡ initial_of c = ap state_of (sym same) ∙ begun.initial_is in
-    record { run = ap machine_of first; history = ap (λ (x : states_of_model.State Activation). x.history) first }
-
 both_runs : (c : Client) (r s t : states_of_model.State Activation) (xs ys : List model.Label) → IsLabelRun c r s xs → IsLabelRun c s t ys → IsLabelRun c r t (xs ++ ys)
 both_runs c r s t xs ys first second = record {
   run = run_append (program_of c) (machine_of r) (machine_of s) (machine_of t) xs ys first.run second.run;
   history = second.history ∙ ap (λ h. after_labels h ys) first.history ∙ sym (after_both r.history xs ys);
 }
 
--- the labels to a state and those of a step from it
-pub more_labels : (c : Client) (states : List State) (origins : List Origin) (n : ℕ) (o : Origin) (labels more : List Label) → IsOrigin c states n o
-    → AreLabelsTo c states o.from labels → AreLabelsFrom c states o.from o.actor more → AreLabelsTo c states n (labels ++ more)
-more_labels c states origins n o labels more is to from s at =
-    let same : is.after ≡ s = same_Some is.after s (sym is.after_at ∙ at) in
-    let P : State → Type 0 = λ x. IsLabelRun c (initial_of c) (state_of x) (map label_of (labels ++ more)) in
-    let R : List model.Label → Type 0 = λ ls. IsLabelRun c (initial_of c) (state_of is.after) ls in
-    subst P same (subst R (sym (map-append label_of labels more))
-    (both_runs c (initial_of c) (state_of is.before) (state_of is.after) (map label_of labels) (map label_of more) (to is.before is.before_at) (from is.before is.after is.before_at is.step)))
+-- ---- trails
 
--- the labels so far lead to the state to which the way that is left leads back
-pub record AreLabelsSoFar (c : Client) (states : List State) (origins : List Origin) (n : ℕ) (way : List Origin) (labels : List Label) : Type 0 where
+-- the initial state alone
+pub trail_first : (c : Client) (t : Trail) → state_of t.state ≡ initial_of c → t.labels.items ≡ [] → IsTrail c t
+trail_first c t first none = record {
+  labels = rw none (record { run = ap machine_of first; history = ap (λ (x : states_of_model.State Activation). x.history) first });
+  plausible = initial_is_plausible c t.state first;
+}
+
+pub has_histories : (c : Client) (s : State) → IsPlausible c s → HasHistories s
+has_histories c s p = record { lists = p.well_formed.sizes.history ∙ sym p.well_formed.sizes.threads }
+
+-- the labels of a step lead on, with the history
+step_run : (c : Client) (s t : State) (a : Actor) (labels : List Label) → HasHistories s → IsLabelled c s a labels → IsRunOfStep c s a labels → IsStep c s a t → IsLabelRun c (state_of s) (state_of t) (map label_of labels)
+step_run c s t a labels lists named runs step =
+    let left = step_leaves (program_of c) (state_of s) (actor_of a) (state_of t) (shaped s lists) step in
+    record { run = runs t step; history = left.0 ∙ ap (after_labels (state_of s).history) (sym named.labels) }
+
+-- behind a step
+pub trail_on : (c : Client) → HasNoFault c → (old new : Trail) (a : Actor) (labels : List Label) → IsTrail c old → IsStep c old.state a new.state → IsLabelled c old.state a labels → IsRunOfStep c old.state a labels
+    → new.labels.items ≡ old.labels.items ++ labels → IsTrail c new
+trail_on c sound old new a labels trail step named runs joined =
+    let both = both_runs c (initial_of c) (state_of old.state) (state_of new.state) (map label_of old.labels.items) (map label_of labels) trail.labels
+    (step_run c old.state new.state a labels (has_histories c old.state trail.plausible) named runs step) in
+    let P : List model.Label → Type 0 = λ ls. IsLabelRun c (initial_of c) (state_of new.state) ls in
+    record {
+      labels = subst P (sym (ap (map label_of) joined ∙ map-append label_of old.labels.items labels)) both;
+      plausible = plausible_along c sound old.state new.state (actor_of a ∷ []) trail.plausible (state_of new.state, step, refl);
+    }
+
+-- no trail has more labels than the client's limit
+pub trail_is_short : (c : Client) (t : Trail) → IsTrail c t → length t.labels.items ≤ step_limit c
+trail_is_short c t trail =
+    let P : Machine Activation → Type 0 = λ m. Run (program_of c) m (map label_of t.labels.items) (machine_of (state_of t.state)) in
+    let few = runs_are_short c (map label_of t.labels.items) (machine_of (state_of t.state)) (subst P (sym (first_same (program_of c) (first_memory c.arrays))) trail.labels.run) in
+    let count = length-map t.labels.items label_of in
+    omega (arith, few, count)
+
+-- ---- steps of one actor
+
+pub differ : (s t : State) (r : Bool) → IsTrue r ↔ (s ≡ t) → r ≡ false → s ≡ t → ⊥
+differ s t true tells off same = let clash : true ≡ false = off in cc
+differ s t false tells off same = let clash : false ≡ true = tells.1 same in cc
+
+pub same_by : (s t : State) (r : Bool) → IsTrue r ↔ (s ≡ t) → r ≡ true → s ≡ t
+same_by s t r tells is = tells.0 is
+
+-- those of a move
+pub move_led : (c : Client) (own : ArrayTable) (s first t : State) (a : Actor) → IsMove c own s a t → IsStep c s a first → AreLed c first a t
+move_led c own s first t a move step =
+    let (m, rest, one, own_ones, more) = moves_are_steps Activation (program_of c) (extent_of c own) (state_of s) (state_of t) (actor_of a) move in
+    let same : m ≡ state_of first = same_Some m (state_of first) (sym one ∙ step) in
+    record { actors = rest; own = own_ones; steps = subst (λ (x : states_of_model.State Activation). Steps (steps.step (program_of c)) x rest (state_of t)) same more }
+
+led_by : (c : Client) (s t : State) (a : Actor) (actors : List steps.Actor) → AllAre (actor_of a) actors → Steps (steps.step (program_of c)) (state_of s) actors (state_of t) → (s ≡ t → ⊥) → HasStep c s a
+led_by c s t a [] own path differ = absurd (differ (same_state s t path))
+led_by c s t a (b ∷ rest) (is, own) (m, one, more) differ =
+    let P : steps.Actor → Type 0 = λ x. steps.step (program_of c) (state_of s) x ≡ Some m in
+    let e : steps.step (program_of c) (state_of s) (actor_of a) ≡ Some m = subst P is one in
+    rw e refl
+
+-- while they have not led to the state, there is another
+pub led_steps : (c : Client) (s t : State) (a : Actor) → AreLed c s a t → (s ≡ t → ⊥) → HasStep c s a
+led_steps c s t a led differ = led_by c s t a led.actors led.own led.steps differ
+
+on_by : (c : Client) (s next t : State) (a : Actor) (actors : List steps.Actor) → AllAre (actor_of a) actors → Steps (steps.step (program_of c)) (state_of s) actors (state_of t) → (s ≡ t → ⊥) → IsStep c s a next → AreLed c next a t
+on_by c s next t a [] own path differ step = absurd (differ (same_state s t path))
+on_by c s next t a (b ∷ rest) (is, own) (m, one, more) differ step =
+    let P : steps.Actor → Type 0 = λ x. steps.step (program_of c) (state_of s) x ≡ Some m in
+    let same : m ≡ state_of next = same_Some m (state_of next) (sym (subst P is one) ∙ step) in
+    record { actors = rest; own = own; steps = subst (λ (x : states_of_model.State Activation). Steps (steps.step (program_of c)) x rest (state_of t)) same more }
+
+pub led_on : (c : Client) (s next t : State) (a : Actor) → AreLed c s a t → (s ≡ t → ⊥) → IsStep c s a next → AreLed c next a t
+led_on c s next t a led differ step = on_by c s next t a led.actors led.own led.steps differ step
+
+-- ---- where actors lead is one state
+
+pub same_leads : (c : Client) (g : Ground) (s x y : State) (a : Actor) → Leads c g s a x → Leads c g s a y → x ≡ y
+same_leads c (grounds.Steps t) s x y a p q = same_state x y (same_Some (state_of x) (state_of y) (sym p ∙ q))
+same_leads c (grounds.Crossings own t) s x y a p q =
+    let same : p.after ≡ q.after = same_move c own t s p.after q.after a p.move q.move in
+    same_run c own t q.after x y (subst (λ (z : State). IsRun c own t z x) same p.run) q.run
+
+pub same_first : (c : Client) (g : Ground) (x y : State) → IsFirst c g x → IsFirst c g y → x ≡ y
+same_first c (grounds.Steps t) x y p q = same_state x y (p ∙ sym q)
+same_first c (grounds.Crossings own t) x y p q =
+    let same : p.initial ≡ q.initial = same_state p.initial q.initial (p.initial_is ∙ sym q.initial_is) in
+    same_run c own t q.initial x y (subst (λ (z : State). IsRun c own t z x) same p.run) q.run
+
+pub leads_somewhere : (c : Client) (g : Ground) (s x : State) (a : Actor) → Leads c g s a x → Goes c g s a
+leads_somewhere c (grounds.Steps t) s x a step = rw step refl
+leads_somewhere c (grounds.Crossings own t) s x a is = rw is.move refl
+
+-- ---- along a way
+
+-- the trail so far leads to the state to which the way that is left leads back, the way to a run that is not good
+pub record IsTrailTo (c : Client) (g : Ground) (origins : List Origin) (n : ℕ) (way : List Origin) (t : Trail) : Type 0 where
+  pub bad : IsBadEnd c g origins n
   pub number : ℕ
   pub way_there : LeadBack origins n way number
-  pub labels_there : AreLabelsTo c states number labels
+  pub at : slice_get bad.states number ≡ Some t.state
+  pub trail : IsTrail c t
 
-next_origin : (c : Client) (states : List State) (origins : List Origin) (n : ℕ) (way rest : List Origin) (o : Origin) (labels : List Label) → AreLabelsSoFar c states origins n way labels → way ≡ rest ++ o ∷ []
-    → (m : ℕ) × LeadsTo origins n rest o m × AreLabelsTo c states m labels
-next_origin c states origins n way rest o labels far is =
+pub way_first : (c : Client) (g : Ground) (origins : List Origin) (n : ℕ) (way : List Origin) (t : Trail) → IsBadEnd c g origins n → LeadBack origins n way 0 → IsTrail c t → IsFirst c g t.state → IsTrailTo c g origins n way t
+way_first c g origins n way t bad back trail first = record {
+  bad = bad;
+  number = 0;
+  way_there = back;
+  at = bad.begun.initial_at ∙ ap Some (same_first c g bad.begun.initial t.state bad.begun.initial_is first);
+  trail = trail;
+}
+
+-- the next origin of a way comes from the state to which the trail leads
+record IsNextOnWay (c : Client) (g : Ground) (states : List State) (origins : List Origin) (n : ℕ) (rest : List Origin) (o : Origin) (s : State) : Type 0 where
+  number : ℕ
+  way_there : LeadBack origins n rest number
+  after : State
+  at : slice_get states number ≡ Some after
+  leads : Leads c g s o.actor after
+
+next_on_way : (c : Client) (g : Ground) (origins : List Origin) (n : ℕ) (way rest : List Origin) (o : Origin) (t : Trail) → (far : IsTrailTo c g origins n way t) → way ≡ rest ++ o ∷ []
+    → IsNextOnWay c g far.bad.states origins n rest o t.state
+next_on_way c g origins n way rest o t far is =
     let P : List Origin → Type 0 = λ w. LeadBack origins n w far.number in
-    (far.number, last_origin origins n rest o far.number (subst P is far.way_there), far.labels_there)
+    let l = last_origin origins n rest o far.number (subst P is far.way_there) in
+    let origin = origin_at c g far.bad.states origins l.number o far.bad.begun.origins l.origin in
+    let here : slice_get far.bad.states o.from ≡ Some t.state = ap (slice_get far.bad.states) l.from ∙ far.at in
+    let same : origin.before ≡ t.state = same_Some origin.before t.state (sym origin.before_at ∙ here) in
+    record { number = l.number; way_there = l.way_there; after = origin.after; at = origin.after_at; leads = subst (λ (x : State). Leads c g x o.actor origin.after) same origin.leads }
 
-pub next_step : (c : Client) (states : List State) (origins : List Origin) (n : ℕ) (way rest : List Origin) (o : Origin) (labels : List Label) → IsBegun c states origins → AreLabelsSoFar c states origins n way labels
-    → way ≡ rest ++ o ∷ [] → CanStep c states o.from o.actor
-next_step c states origins n way rest o labels begun far is =
-    let (m, l, to) = next_origin c states origins n way rest o labels far is in
-    let origin = origin_at c states origins l.number o begun.origins l.origin in
-    record { from = origin.before; at = origin.before_at; step = rw origin.step refl }
+-- its actor leads somewhere
+pub goes_next : (c : Client) (g : Ground) (origins : List Origin) (n : ℕ) (way rest : List Origin) (o : Origin) (t : Trail) → IsTrailTo c g origins n way t → way ≡ rest ++ o ∷ [] → Goes c g t.state o.actor
+goes_next c g origins n way rest o t far is =
+    let next = next_on_way c g origins n way rest o t far is in
+    leads_somewhere c g t.state next.after o.actor next.leads
 
-pub next_labels : (c : Client) (states : List State) (origins : List Origin) (n : ℕ) (way rest : List Origin) (o : Origin) (labels more after : List Label) → IsBegun c states origins
-    → AreLabelsSoFar c states origins n way labels → way ≡ rest ++ o ∷ [] → AreLabelsFrom c states o.from o.actor more → after ≡ labels ++ more → AreLabelsSoFar c states origins n rest after
-next_labels c states origins n way rest o labels more after begun far is from joined =
-    let (m, l, to) = next_origin c states origins n way rest o labels far is in
-    let origin = origin_at c states origins l.number o begun.origins l.origin in
-    let P : ℕ → Type 0 = λ k. AreLabelsTo c states k labels in
-    let Q : List Label → Type 0 = λ ls. AreLabelsTo c states l.number ls in
-    record { number = l.number; way_there = l.way_there; labels_there = subst Q (sym joined) (more_labels c states origins l.number o labels more origin (subst P (sym l.from) to) from) }
-
-pub all_labels : (c : Client) (states : List State) (origins : List Origin) (n : ℕ) (way : List Origin) (labels : List Label) → AreLabelsSoFar c states origins n way labels → way ≡ [] → AreLabelsTo c states n labels
-all_labels c states origins n way labels far none =
-    let P : List Origin → Type 0 = λ w. LeadBack origins n w far.number in
-    let same : n ≡ far.number = subst P none far.way_there in
-    let Q : ℕ → Type 0 = λ k. AreLabelsTo c states k labels in
-    subst Q (sym same) far.labels_there
+pub way_on : (c : Client) (g : Ground) (origins : List Origin) (n : ℕ) (way rest : List Origin) (o : Origin) (old new : Trail) → IsTrailTo c g origins n way old → way ≡ rest ++ o ∷ []
+    → Leads c g old.state o.actor new.state → IsTrail c new → IsTrailTo c g origins n rest new
+way_on c g origins n way rest o old new far is leads trail =
+    let next = next_on_way c g origins n way rest o old far is in
+    record {
+      bad = far.bad;
+      number = next.number;
+      way_there = next.way_there;
+      at = next.at ∙ ap Some (same_leads c g old.state next.after new.state o.actor next.leads leads);
+      trail = trail;
+    }
 
 -- ---- errors
 
@@ -180,24 +275,18 @@ stopped_at c s i lists stop =
       ap core_of halted,
     )
 
-pub error_to : (c : Client) (states : List State) (origins : List Origin) (n : ℕ) (labels : List Label) → IsBegun c states origins → IsBadAt c states n → AreLabelsTo c states n labels → IsErrorTrace c labels
-error_to c states origins n labels begun bad to = record { run = record { machine = machine_of (state_of s); leads = record { run = run } }; errs = errs }
+error_to : (c : Client) (s : State) (labels : List Label) → IsPlausible c s → IsBad c s → IsLabelRun c (initial_of c) (state_of s) (map label_of labels) → IsErrorTrace c labels
+error_to c s labels plausible bad run_of = record { run = record { machine = machine_of (state_of s); leads = record { run = run } }; errs = errs }
   where
-    s : State
-    s = bad.state
-
-    run_of : IsLabelRun c (initial_of c) (state_of s) (map label_of labels)
-    run_of = to s bad.at
-
     run : Run (program_of c) (first_machine (program_of c) (first_memory c.arrays)) (map label_of labels) (machine_of (state_of s))
     run =
         let P : Machine Activation → Type 0 = λ m. Run (program_of c) m (map label_of labels) (machine_of (state_of s)) in
         subst P (sym (first_same (program_of c) (first_memory c.arrays))) run_of.run
 
     errs : IsGoodRun c labels → ⊥
-    errs good = elim bad.bad [
+    errs good = elim bad [
       | inl stops ↦ stops (λ i stop.
-          let (t, at, is) = stopped_at c s i (has_histories c s (begun.met n s bad.at).plausible.well_formed) stop in
+          let (t, at, is) = stopped_at c s i (has_histories c s plausible) stop in
           good.0 i (stops_are_faults (program_of c) (first_memory c.arrays) (map label_of labels) (machine_of (state_of s)) i t run at is))
       | inr none ↦
           let order = good.1.0 in
@@ -205,6 +294,15 @@ error_to c states origins n labels begun bad to = record { run = record { machin
           let P : List (List Called) → Type 0 = λ h. IsOrder (queue_of c) h order in
           none (order, subst P (sym run_of.history) ordered)
     ]
+
+-- at the end of its way the trail's labels are an error
+pub way_errs : (c : Client) (g : Ground) (origins : List Origin) (n : ℕ) (way : List Origin) (t : Trail) → IsTrailTo c g origins n way t → way ≡ [] → IsErrorTrace c t.labels.items
+way_errs c g origins n way t far none =
+    let P : List Origin → Type 0 = λ w. LeadBack origins n w far.number in
+    let same : n ≡ far.number = subst P none far.way_there in
+    let Q : ℕ → Type 0 = λ k. slice_get far.bad.states k ≡ Some t.state in
+    let here : far.bad.bad.state ≡ t.state = same_Some far.bad.bad.state t.state (sym far.bad.bad.at ∙ subst Q (sym same) far.at) in
+    error_to c t.state t.labels.items far.trail.plausible (subst (IsBad c) here far.bad.bad.bad) far.trail.labels
 
 -- so nothing but want of memory refuses it
 pub only_memory : (c : Client) (labels : List Label) (fault : TraceFault) → IsErrorTrace c labels → IsTraceFault c labels fault → fault ≡ Memory

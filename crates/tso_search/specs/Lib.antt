@@ -1,3 +1,5 @@
+pub mod BySteps
+pub mod Grounds
 pub mod Marking
 pub mod Reached
 pub mod Goodness

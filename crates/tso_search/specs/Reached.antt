@@ -1,13 +1,12 @@
 -- States that compact steps reach, and where they were met from.
-use Rattle.std.specs.Prelude.{◌≡◌, ◌⊎◌, ◌+◌, ◌<◌, ℕ, List, map, Some, slice_get}
-use Rattle.tso_compact.specs.Laws.{IsLabelRun, IsPlausible, initial_of}
-use Rattle.tso_compact.specs.Plans.{IsStep}
+use Rattle.std.specs.Prelude.{◌≡◌, ◌⊎◌, ◌+◌, ◌<◌, ℕ, List, Some, slice_get}
+use Rattle.tso_compact.specs.Laws.{IsPlausible, initial_of}
+use Rattle.tso_search.specs.Grounds.{Leads}
+use Rattle.tso_search.specs.declared.ground.Ground.{Ground}
 use Rattle.tso_search.specs.declared.origin.Origin.{Origin}
 use Rattle.tso_fifo.specs.Orders.{HasOrder}
 use Rattle.tso_rec.specs.Conditions.{HasNoStopped}
-use Rattle.tso_machine.specs.Machines.{label_of}
 use Rattle.tso_machine.specs.Programs.{program_of}
-use Rattle.tso_machine.specs.declared.label.Label.{Label}
 use Rattle.tso_model.specs.Reduce.{Steps}
 use Rattle.tso_model.specs.Steps as model
 use Rattle.tso_prog.specs.declared.client.Client.{Client}
@@ -26,22 +25,18 @@ pub record IsMet (c : Client) (s : State) : Type 0 where
 abbrev pub AllMet : Client → List State → Type 0
 AllMet c states = (n : ℕ) (s : State) → slice_get states n ≡ Some s → IsMet c s
 
--- the actor's step leads from a state with a lower number to state number n
-pub record IsOrigin (c : Client) (states : List State) (n : ℕ) (o : Origin) : Type 0 where
+-- the actor leads from a state with a lower number to state number n
+pub record IsOrigin (c : Client) (g : Ground) (states : List State) (n : ℕ) (o : Origin) : Type 0 where
   pub earlier : o.from < n
   pub before : State
   pub after : State
   pub before_at : slice_get states o.from ≡ Some before
   pub after_at : slice_get states n ≡ Some after
-  pub step : IsStep c before o.actor after
+  pub leads : Leads c g before o.actor after
 
 -- each state but the first has its origin, in order
-abbrev pub AreOrigins : Client → List State → List Origin → Type 0
-AreOrigins c states origins = (k : ℕ) (o : Origin) → slice_get origins k ≡ Some o → IsOrigin c states (k + 1) o
-
--- a run of these labels leads from the initial state to state number n, with its history
-abbrev pub AreLabelsTo : Client → List State → ℕ → List Label → Type 0
-AreLabelsTo c states n labels = (s : State) → slice_get states n ≡ Some s → IsLabelRun c (initial_of c) (state_of s) (map label_of labels)
+abbrev pub AreOrigins : Client → Ground → List State → List Origin → Type 0
+AreOrigins c g states origins = (k : ℕ) (o : Origin) → slice_get origins k ≡ Some o → IsOrigin c g states (k + 1) o
 
 -- a run to this state is not good: a fault has stopped a thread, or no order explains the calls
 abbrev pub IsBad : Client → State → Type 0

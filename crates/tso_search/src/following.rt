@@ -1,17 +1,22 @@
-//! The steps of the chosen actors of one state.
+//! Where the actors of one state lead that are followed.
 
-ghost use Rattle.std.specs.Prelude.{◌≡◌, ◌+◌, ◌<◌, ◌≤◌, ◌++◌, ◌∷◌, [], IfErr, IfOk, IfSome, OnOk, length};
+ghost use Rattle.std.specs.Prelude.{◌≡◌, ◌+◌, ◌<◌, ◌≤◌, ◌++◌, ◌∷◌, [], IfErr, IfOk, IfSome, MatchBool, OnOk, length};
 ghost use Rattle.tso_search.specs.Goodness.{AllGood, AllGoodBelow};
+ghost use Rattle.tso_search.specs.Grounds.{HasRoom, IsLed, IsNextOrNone};
+ghost use Rattle.tso_search.specs.Reached.{IsBadAt};
 ghost use Rattle.tso_search.specs.Searched.{AreFollowed, GoesOn, IsBegun, IsFollowed, IsGoodAt, IsStop, IsStopAt};
 ghost use Rattle.tso_search.specs.declared.stop.Stop.TheVariants as stops;
-ghost use Rattle.tso_store.specs.Sheets.{IsKeptSuccessor, IsSuccessorOrNone};
+ghost use Rattle.tso_store.specs.Arriving.{IsArrivalOrNone};
+ghost use Rattle.tso_store.specs.Sheets.{IsSuccessorOrNone};
 
-use crate::judging::{Judged, is_new_good};
+use crate::ground::Ground;
+use crate::judging::{Judged, is_new_good, is_stop_good};
 use crate::origin::Origin;
 use crate::stop::Stop;
 use std::alloc::{AllocError, Global};
 use tso_choose::{actor_at, has_bit};
 use tso_flow::Checked;
+use tso_foot::{ArrayTable, Table};
 use tso_parts::Refused;
 use tso_state::Actor;
 use tso_store::Store;
@@ -36,6 +41,46 @@ fn successor(
     }
 }
 
+// The number of the state in which the run behind the actor's move stops, and whether it is new, if there is a move. Where parts of states
+// have no numbers left, as 4,294,967,295 have, it is refused as for want of memory.
+fn arrival(
+    alloc: Global,
+    store: &mut Store<'_>,
+    own: &ArrayTable,
+    table: &Table,
+    number: u32,
+    actor: Actor,
+) -> Result<Option<(u32, bool)>, Stop>
+    ensures arrival { IfOk result (IsArrivalOrNone store.old.client own.now table.now store.old.states store.new.states number actor) }
+    ensures err { IfErr result (λ stop. stop ≡ stops.Memory) }
+    ensures client { store.new.client ≡ store.old.client }
+{
+    match store.arrive(alloc, own, table, number, actor) {
+        Ok(stop) => Ok(stop),
+        Err(Refused::Memory | Refused::Full) => Err(Stop::Memory),
+    }
+}
+
+// The number of the state to which the actor leads, and whether it is new, if it leads somewhere.
+fn next_of(
+    alloc: Global,
+    ground: &Ground,
+    store: &mut Store<'_>,
+    number: u32,
+    actor: Actor,
+) -> Result<Option<(u32, bool)>, Stop>
+    requires { HasRoom ground.now store.old.kept 4294967290 }
+    ensures next { IfOk result (IsNextOrNone store.old.client ground.now store.old.states store.new.states number actor) }
+    ensures err { IfErr result (λ stop. stop ≡ stops.Memory) }
+    ensures room { HasRoom ground.now store.new.kept (store.old.kept + 4) }
+    ensures client { store.new.client ≡ store.old.client }
+{
+    match ground {
+        Ground::Steps(_) => successor(alloc, store, number, actor),
+        Ground::Crossings(own, table) => arrival(alloc, store, own, table, number, actor),
+    }
+}
+
 // Puts an origin at the end.
 fn keep_origin(origins: &mut Vec<Origin>, origin: Origin) -> Result<(), AllocError>
     ensures ok { OnOk result (origins.new.items ≡ origins.old.items ++ origin ∷ []) }
@@ -54,43 +99,66 @@ fn within(count: usize, limit: u32) -> Result<(), Stop>
     Ok(())
 }
 
+// Whether the runs to a new state are good, which an actor has led to.
+fn is_good_there(
+    alloc: Global,
+    checked: &Checked,
+    ground: &Ground,
+    store: &Store<'_>,
+    judged: &mut Judged,
+    origin: Origin,
+    new: u32,
+) -> Result<bool, AllocError>
+    requires led { IsLed checked.now.client ground.now store.now.states origin.from origin.actor new }
+    requires earlier { origin.from < new }
+    requires below { AllGoodBelow checked.now.client store.now.states new }
+    ensures { IfOk result (λ good. MatchBool good (IsGoodAt checked.now.client store.now.states new) (IsBadAt checked.now.client store.now.states new)) }
+{
+    match ground {
+        Ground::Steps(_) => is_new_good(
+            alloc,
+            checked,
+            store,
+            judged,
+            origin.from,
+            origin.actor,
+            new,
+        ),
+        Ground::Crossings(_, _) => is_stop_good(alloc, checked, store, judged, new),
+    }
+}
+
 // Goes on where the runs to a new state are good.
 fn judge(
     alloc: Global,
     checked: &Checked,
+    ground: &Ground,
     store: &Store<'_>,
     judged: &mut Judged,
     origin: Origin,
     new: u32,
 ) -> Result<(), Stop>
-    requires next { IsKeptSuccessor checked.now.client store.now.states origin.from origin.actor new }
+    requires led { IsLed checked.now.client ground.now store.now.states origin.from origin.actor new }
     requires earlier { origin.from < new }
     requires below { AllGoodBelow checked.now.client store.now.states new }
     ensures good { OnOk result (IsGoodAt checked.now.client store.now.states new) }
     ensures stop { IfErr result (IsStopAt checked.now.client store.now.states new) }
 {
-    if is_new_good(
-        alloc,
-        checked,
-        store,
-        judged,
-        origin.from,
-        origin.actor,
-        new,
-    )? {
+    if is_good_there(alloc, checked, ground, store, judged, origin, new)? {
         return Ok(());
     }
     Err(Stop::Violation(new))
 }
 
-/// Follows the step of an actor of state `number`, keeps where a new state was met from, and judges it. The number of the new
-/// state, if there is one.
+/// Follows an actor of state `number`, keeps where a new state was met from, and judges it. The number of the new state, if there is
+/// one.
 ///
 /// Errors: `Limit` where the new state is one more than the limit, `Violation` where the runs to it are not good, `Memory` where a
-/// growth was refused.
+/// growth was refused, or, by crossings, where parts of states have no numbers left.
 pub fn follow(
     alloc: Global,
     checked: &Checked,
+    ground: &Ground,
     store: &mut Store<'_>,
     origins: &mut Vec<Origin>,
     judged: &mut Judged,
@@ -99,20 +167,20 @@ pub fn follow(
     limit: u32,
 ) -> Result<Option<u32>, Stop>
     requires client { store.old.client ≡ checked.now.client }
-    requires begun { IsBegun checked.now.client store.old.states origins.old.items }
+    requires begun { IsBegun checked.now.client ground.now store.old.states origins.old.items }
     requires good { AllGood checked.now.client store.old.states }
     requires from { number < length store.old.states }
     requires few { length store.old.states ≤ limit }
-    requires room { store.old.kept + 4 < 4294967295 }
-    ensures on { OnOk result (GoesOn checked.now.client limit store.old.states store.new.states origins.new.items) }
+    requires room { HasRoom ground.now store.old.kept 4294967290 }
+    ensures on { OnOk result (GoesOn checked.now.client ground.now limit store.old.states store.new.states origins.new.items) }
     ensures good { OnOk result (AllGood checked.now.client store.new.states) }
-    ensures followed { OnOk result (IsFollowed checked.now.client store.old.states store.new.states number actor) }
+    ensures followed { OnOk result (IsFollowed checked.now.client ground.now store.old.states store.new.states number actor) }
     ensures new { IfOk result (λ met. IfSome met (λ n. n < length store.new.states)) }
-    ensures stop { IfErr result (IsStop checked.now.client limit store.new.states origins.new.items) }
-    ensures room { store.new.kept ≤ store.old.kept + 4 }
+    ensures stop { IfErr result (IsStop checked.now.client ground.now limit store.new.states origins.new.items) }
+    ensures room { HasRoom ground.now store.new.kept (store.old.kept + 4) }
     ensures client { store.new.client ≡ store.old.client }
 {
-    let Some(next) = successor(alloc, store, number, actor)? else {
+    let Some(next) = next_of(alloc, ground, store, number, actor)? else {
         return Ok(None);
     };
     if !next.1 {
@@ -125,7 +193,7 @@ pub fn follow(
     keep_origin(origins, origin)?;
     store.states_differ();
     within(store.len(), limit)?;
-    judge(alloc, checked, store, judged, origin, next.0)?;
+    judge(alloc, checked, ground, store, judged, origin, next.0)?;
     Ok(Some(next.0))
 }
 
@@ -137,10 +205,11 @@ fn list(met: &mut Vec<u32>, new: Option<u32>) -> Result<(), AllocError> {
     Ok(())
 }
 
-/// Follows the steps of all actors of a set, and lists the states that are new.
+/// Follows all actors of a set, and lists the states that are new.
 pub fn follow_all(
     alloc: Global,
     checked: &Checked,
+    ground: &Ground,
     store: &mut Store<'_>,
     origins: &mut Vec<Origin>,
     judged: &mut Judged,
@@ -150,22 +219,24 @@ pub fn follow_all(
     met: &mut Vec<u32>,
 ) -> Result<(), Stop>
     requires client { store.old.client ≡ checked.now.client }
-    requires begun { IsBegun checked.now.client store.old.states origins.old.items }
+    requires begun { IsBegun checked.now.client ground.now store.old.states origins.old.items }
     requires good { AllGood checked.now.client store.old.states }
     requires from { number < length store.old.states }
     requires few { length store.old.states ≤ limit }
-    requires room { store.old.kept + 40 < 4294967295 }
-    ensures on { OnOk result (GoesOn checked.now.client limit store.old.states store.new.states origins.new.items) }
+    requires room { HasRoom ground.now store.old.kept 4294967254 }
+    ensures on { OnOk result (GoesOn checked.now.client ground.now limit store.old.states store.new.states origins.new.items) }
     ensures good { OnOk result (AllGood checked.now.client store.new.states) }
-    ensures followed { OnOk result (AreFollowed checked.now.client store.old.states store.new.states number set 10) }
-    ensures stop { IfErr result (IsStop checked.now.client limit store.new.states origins.new.items) }
-    ensures room { store.new.kept ≤ store.old.kept + 40 }
+    ensures followed { OnOk result (AreFollowed checked.now.client ground.now store.old.states store.new.states number set 10) }
+    ensures stop { IfErr result (IsStop checked.now.client ground.now limit store.new.states origins.new.items) }
+    ensures room { HasRoom ground.now store.new.kept (store.old.kept + 40) }
     ensures client { store.new.client ≡ store.old.client }
 {
     for k in 0..10 {
         if has_bit(set, k) {
             let actor = actor_at(k);
-            let new = follow(alloc, checked, store, origins, judged, number, actor, limit)?;
+            let new = follow(
+                alloc, checked, ground, store, origins, judged, number, actor, limit,
+            )?;
             list(met, new)?;
         }
     }

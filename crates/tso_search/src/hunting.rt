@@ -1,21 +1,21 @@
 //! Hunts: a search that goes on for a while in another order than that of numbers, in which a violation may come sooner.
 
 ghost use Rattle.std.specs.Prelude.{◌≡◌, ◌+◌, ◌<◌, ◌≤◌, IfErr, OnOk, length, slice_get};
-ghost use Rattle.tso_choose.specs.Choosing.{IsChoice};
 ghost use Rattle.tso_parts.specs.Numbers.{Extends};
+ghost use Rattle.tso_search.specs.Grounds.{AreToFollow, HasRoom};
 ghost use Rattle.tso_search.specs.Searched.{IsHunting, IsStop};
 ghost use Rattle.tso_state.specs.declared.state.State.{State as StateValue};
 
 use crate::following::follow_all;
+use crate::ground::Ground;
 use crate::judging::Judged;
-use crate::looking::chosen_at;
+use crate::looking::to_follow;
 use crate::marks::Marks;
 use crate::origin::Origin;
 use crate::stop::Stop;
 use crate::track::{Next, Track, Way};
 use std::alloc::Global;
 use tso_flow::Checked;
-use tso_foot::Table;
 use tso_store::Store;
 
 /// How often a hunt looks for a state to go on from.
@@ -25,7 +25,7 @@ const LOOKS: u32 = 1_048_576;
 fn work_marked(
     alloc: Global,
     checked: &Checked,
-    table: &Table,
+    ground: &Ground,
     store: &mut Store<'_>,
     origins: &mut Vec<Origin>,
     judged: &mut Judged,
@@ -36,19 +36,19 @@ fn work_marked(
     met: &mut Vec<u32>,
 ) -> Result<(), Stop>
     requires client { store.old.client ≡ checked.now.client }
-    requires hunting { IsHunting checked.now.client table.now limit store.old.states origins.old.items marks.old }
+    requires hunting { IsHunting checked.now.client ground.now limit store.old.states origins.old.items marks.old }
     requires there { number < length store.old.states }
-    requires chosen { (s : StateValue) → slice_get store.old.states number ≡ Some s → IsChoice checked.now.client table.now s set }
-    requires room { store.old.kept + 40 < 4294967295 }
-    ensures hunting { OnOk result (IsHunting checked.now.client table.now limit store.new.states origins.new.items marks.new) }
+    requires chosen { (s : StateValue) → slice_get store.old.states number ≡ Some s → AreToFollow checked.now.client ground.now s set }
+    requires room { HasRoom ground.now store.old.kept 4294967254 }
+    ensures hunting { OnOk result (IsHunting checked.now.client ground.now limit store.new.states origins.new.items marks.new) }
     ensures stays { OnOk result (Extends store.old.states store.new.states) }
-    ensures stop { IfErr result (IsStop checked.now.client limit store.new.states origins.new.items) }
-    ensures room { store.new.kept ≤ store.old.kept + 40 }
+    ensures stop { IfErr result (IsStop checked.now.client ground.now limit store.new.states origins.new.items) }
+    ensures room { HasRoom ground.now store.new.kept (store.old.kept + 40) }
     ensures client { store.new.client ≡ store.old.client }
 {
     met.clear();
     follow_all(
-        alloc, checked, store, origins, judged, number, set, limit, met,
+        alloc, checked, ground, store, origins, judged, number, set, limit, met,
     )?;
     marks.mark(number)?;
     Ok(())
@@ -59,7 +59,7 @@ fn work_marked(
 fn leave(
     alloc: Global,
     checked: &Checked,
-    table: &Table,
+    ground: &Ground,
     store: &mut Store<'_>,
     origins: &mut Vec<Origin>,
     judged: &mut Judged,
@@ -69,12 +69,12 @@ fn leave(
     limit: u32,
 ) -> Result<(), Stop>
     requires client { store.old.client ≡ checked.now.client }
-    requires hunting { IsHunting checked.now.client table.now limit store.old.states origins.old.items marks.old }
-    requires room { store.old.kept + 40 < 4294967295 }
-    ensures hunting { OnOk result (IsHunting checked.now.client table.now limit store.new.states origins.new.items marks.new) }
+    requires hunting { IsHunting checked.now.client ground.now limit store.old.states origins.old.items marks.old }
+    requires room { HasRoom ground.now store.old.kept 4294967254 }
+    ensures hunting { OnOk result (IsHunting checked.now.client ground.now limit store.new.states origins.new.items marks.new) }
     ensures stays { OnOk result (Extends store.old.states store.new.states) }
-    ensures stop { IfErr result (IsStop checked.now.client limit store.new.states origins.new.items) }
-    ensures room { store.new.kept ≤ store.old.kept + 40 }
+    ensures stop { IfErr result (IsStop checked.now.client ground.now limit store.new.states origins.new.items) }
+    ensures room { HasRoom ground.now store.new.kept (store.old.kept + 40) }
     ensures client { store.new.client ≡ store.old.client }
 {
     let Next { number, in_turn } = next;
@@ -84,7 +84,7 @@ fn leave(
     if number as usize >= store.len() {
         return Ok(());
     }
-    let set = chosen_at(checked, table, store, number);
+    let set = to_follow(checked, ground, store, number);
     if !in_turn && set.count_ones() > 1 {
         track.put_off(number)?;
         return Ok(());
@@ -92,7 +92,7 @@ fn leave(
     work_marked(
         alloc,
         checked,
-        table,
+        ground,
         store,
         origins,
         judged,
@@ -115,7 +115,7 @@ fn leave(
 pub fn hunt(
     alloc: Global,
     checked: &Checked,
-    table: &Table,
+    ground: &Ground,
     store: &mut Store<'_>,
     origins: &mut Vec<Origin>,
     judged: &mut Judged,
@@ -125,12 +125,12 @@ pub fn hunt(
     limit: u32,
 ) -> Result<(), Stop>
     requires client { store.old.client ≡ checked.now.client }
-    requires hunting { IsHunting checked.now.client table.now limit store.old.states origins.old.items marks.old }
-    requires room { store.old.kept ≤ 4000000000 }
-    ensures hunting { OnOk result (IsHunting checked.now.client table.now limit store.new.states origins.new.items marks.new) }
+    requires hunting { IsHunting checked.now.client ground.now limit store.old.states origins.old.items marks.old }
+    requires room { HasRoom ground.now store.old.kept 4000000000 }
+    ensures hunting { OnOk result (IsHunting checked.now.client ground.now limit store.new.states origins.new.items marks.new) }
     ensures stays { OnOk result (Extends store.old.states store.new.states) }
-    ensures stop { IfErr result (IsStop checked.now.client limit store.new.states origins.new.items) }
-    ensures room { store.new.kept ≤ store.old.kept + 41943040 }
+    ensures stop { IfErr result (IsStop checked.now.client ground.now limit store.new.states origins.new.items) }
+    ensures room { HasRoom ground.now store.new.kept (store.old.kept + 41943040) }
     ensures client { store.new.client ≡ store.old.client }
 {
     let mut track = Track::new(alloc, way, from, store.len() as u32)?;
@@ -141,7 +141,7 @@ pub fn hunt(
             break;
         };
         leave(
-            alloc, checked, table, store, origins, judged, marks, &mut track, next, limit,
+            alloc, checked, ground, store, origins, judged, marks, &mut track, next, limit,
         )?;
     }
     Ok(())

@@ -209,3 +209,27 @@ pub fn is_new_good(
     }
     is_explained(alloc, checked, store, judged, new)
 }
+
+/// Whether the runs to state `new`, in which a run of free actors' moves has stopped, are good, where those to all states with lower
+/// numbers are. So it is for the states on the way there: a stopped thread stays so, and what an order explains it explains before.
+///
+/// Errors: where a growth was refused.
+pub fn is_stop_good(
+    alloc: Global,
+    checked: &Checked,
+    store: &Store<'_>,
+    judged: &mut Judged,
+    new: u32,
+) -> Result<bool, AllocError>
+    requires there { new < length store.now.states }
+    requires below { AllGoodBelow checked.now.client store.now.states new }
+    ensures { IfOk result (λ good. MatchBool good (IsGoodAt checked.now.client store.now.states new) (IsBadAt checked.now.client store.now.states new)) }
+{
+    let Some(stop) = store.view(new) else {
+        unreachable!()
+    };
+    if !has_no_stopped(&stop) {
+        return Ok(false);
+    }
+    is_explained(alloc, checked, store, judged, new)
+}

@@ -3,13 +3,14 @@
 ghost use Rattle.std.specs.Prelude.{◌≡◌, ◌≤◌, IfOk, IfSome, length};
 ghost use Rattle.tso_search.specs.Shortening.{IsShorter, IsTraceOf};
 
+use crate::ground::Ground;
 use crate::leaving::call_count;
 use crate::narrowing::found_within;
 use crate::shortest::Shortest;
 use crate::track::Way;
 use std::alloc::{AllocError, Global};
 use tso_flow::Checked;
-use tso_foot::{Table, build};
+use tso_foot::build;
 use tso_machine::{Label, calls_of};
 use tso_prog::Client;
 use tso_trace::Trace;
@@ -75,7 +76,7 @@ fn keep(checked: &Checked, shortest: &mut Shortest, trace: Trace)
 fn fewer(
     alloc: Global,
     checked: &Checked,
-    table: &Table,
+    ground: &Ground,
     shortest: &mut Shortest,
     most: &[usize],
     thread: usize,
@@ -86,7 +87,7 @@ fn fewer(
     let Some(fewer) = one_less(alloc, most, thread)? else {
         return Ok(None);
     };
-    let found = found_within(alloc, checked, table, Way::Depth, fewer.as_slice(), SOME)?;
+    let found = found_within(alloc, checked, ground, Way::Depth, fewer.as_slice(), SOME)?;
     drop(fewer);
     match found {
         Some(trace) => {
@@ -102,7 +103,7 @@ fn fewer(
 fn take_away(
     alloc: Global,
     checked: &Checked,
-    table: &Table,
+    ground: &Ground,
     shortest: &mut Shortest,
     most: &mut Vec<usize>,
     thread: usize,
@@ -111,7 +112,7 @@ fn take_away(
     ensures { IsShorter checked.now.client shortest.old.trace shortest.new.trace }
 {
     for _ in 0..16 {
-        match fewer(alloc, checked, table, shortest, most.as_slice(), thread)? {
+        match fewer(alloc, checked, ground, shortest, most.as_slice(), thread)? {
             Some(counts) => *most = counts,
             None => break,
         }
@@ -123,7 +124,7 @@ fn take_away(
 fn fewest(
     alloc: Global,
     checked: &Checked,
-    table: &Table,
+    ground: &Ground,
     shortest: &mut Shortest,
     threads: usize,
 ) -> Result<Vec<usize>, AllocError>
@@ -132,7 +133,7 @@ fn fewest(
 {
     let mut most = begun(alloc, shortest.trace.labels.as_slice(), threads)?;
     for thread in 0..threads {
-        take_away(alloc, checked, table, shortest, &mut most, thread)?;
+        take_away(alloc, checked, ground, shortest, &mut most, thread)?;
     }
     Ok(most)
 }
@@ -181,7 +182,7 @@ fn has_calls(client: &Client, counts: &[usize]) -> bool {
 fn search_choice(
     alloc: Global,
     checked: &Checked,
-    table: &Table,
+    ground: &Ground,
     shortest: &mut Shortest,
     counts: &[usize],
     states: usize,
@@ -189,7 +190,7 @@ fn search_choice(
     requires { IsTraceOf checked.now.client shortest.old.trace }
     ensures { IsShorter checked.now.client shortest.old.trace shortest.new.trace }
 {
-    match found_within(alloc, checked, table, Way::Breadth, counts, states)? {
+    match found_within(alloc, checked, ground, Way::Breadth, counts, states)? {
         Some(trace) => {
             keep(checked, shortest, trace);
             Ok(true)
@@ -202,7 +203,7 @@ fn search_choice(
 fn search_number(
     alloc: Global,
     checked: &Checked,
-    table: &Table,
+    ground: &Ground,
     shortest: &mut Shortest,
     threads: usize,
     total: usize,
@@ -217,14 +218,14 @@ fn search_number(
     {
         return Ok(false);
     }
-    search_choice(alloc, checked, table, shortest, counts.as_slice(), FEW)
+    search_choice(alloc, checked, ground, shortest, counts.as_slice(), FEW)
 }
 
 // The same of all choices of so many calls.
 fn search_choices(
     alloc: Global,
     checked: &Checked,
-    table: &Table,
+    ground: &Ground,
     shortest: &mut Shortest,
     threads: usize,
     total: usize,
@@ -234,7 +235,7 @@ fn search_choices(
 {
     let mut is_found = false;
     for choice in 0..CHOICES {
-        is_found |= search_number(alloc, checked, table, shortest, threads, total, choice)?;
+        is_found |= search_number(alloc, checked, ground, shortest, threads, total, choice)?;
     }
     Ok(is_found)
 }
@@ -243,7 +244,7 @@ fn search_choices(
 fn search_few(
     alloc: Global,
     checked: &Checked,
-    table: &Table,
+    ground: &Ground,
     shortest: &mut Shortest,
     threads: usize,
     most: usize,
@@ -252,7 +253,7 @@ fn search_few(
     ensures { IsShorter checked.now.client shortest.old.trace shortest.new.trace }
 {
     for total in 0..most {
-        if search_choices(alloc, checked, table, shortest, threads, total + 1)? {
+        if search_choices(alloc, checked, ground, shortest, threads, total + 1)? {
             return Ok(true);
         }
     }
@@ -267,21 +268,21 @@ fn few_of(total: usize) -> usize {
     }
 }
 
-// Looks for a shorter trace with few calls, with this table.
+// Looks for a shorter trace with few calls by such a search.
 fn lessen_with(
     alloc: Global,
     checked: &Checked,
-    table: &Table,
+    ground: &Ground,
     shortest: &mut Shortest,
     threads: usize,
 ) -> Result<(), AllocError>
     requires { IsTraceOf checked.now.client shortest.old.trace }
     ensures { IsShorter checked.now.client shortest.old.trace shortest.new.trace }
 {
-    let counts = fewest(alloc, checked, table, shortest, threads)?;
+    let counts = fewest(alloc, checked, ground, shortest, threads)?;
     let few = few_of(total_of(&checked.client, counts.as_slice()));
-    if !search_few(alloc, checked, table, shortest, threads, few)? {
-        search_choice(alloc, checked, table, shortest, counts.as_slice(), MANY)?;
+    if !search_few(alloc, checked, ground, shortest, threads, few)? {
+        search_choice(alloc, checked, ground, shortest, counts.as_slice(), MANY)?;
     }
     Ok(())
 }
@@ -300,8 +301,8 @@ pub fn lessen(
     requires { IsTraceOf checked.now.client shortest.old.trace }
     ensures { IsShorter checked.now.client shortest.old.trace shortest.new.trace }
 {
-    let table = build(alloc, checked)?;
-    let done = lessen_with(alloc, checked, &table, shortest, threads);
-    drop(table);
+    let ground = Ground::Steps(build(alloc, checked)?);
+    let done = lessen_with(alloc, checked, &ground, shortest, threads);
+    drop(ground);
     done
 }

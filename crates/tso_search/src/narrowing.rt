@@ -1,13 +1,15 @@
 //! Searches of a part of a client's runs: those in which no thread begins more than so many calls.
 
 ghost use Rattle.std.specs.Prelude.{◌≡◌, ◌+◌, ◌<◌, ◌≤◌, [], IfErr, IfOk, IfSome, OnOk, length};
+ghost use Rattle.tso_search.specs.Grounds.{HasRoom};
 ghost use Rattle.tso_search.specs.Reached.{AllMet};
 ghost use Rattle.tso_search.specs.Searched.{IsHunting, IsStarted, IsStop};
 ghost use Rattle.tso_search.specs.Shortening.{IsTraceOf};
 
 use crate::following::follow_all;
+use crate::ground::Ground;
 use crate::judging::Judged;
-use crate::looking::chosen_at;
+use crate::looking::{ALL, to_follow};
 use crate::origin::Origin;
 use crate::starting::{is_first_good, started};
 use crate::stop::Stop;
@@ -15,7 +17,6 @@ use crate::track::{Next, Track, Way};
 use crate::way::trace_to;
 use std::alloc::{AllocError, Global};
 use tso_flow::Checked;
-use tso_foot::Table;
 use tso_state::{Core, Viewed};
 use tso_store::Store;
 use tso_trace::Trace;
@@ -25,9 +26,6 @@ const LOOKS: u32 = 65_536;
 
 /// More states than a search ever meets.
 const LIMIT: u32 = 4_194_304;
-
-/// The cores and buffers of five threads, as a set.
-const ALL: u16 = 0x3ff;
 
 // Whether a thread is between two calls and has begun as many as it may.
 fn is_done<S: Viewed>(view: &S, most: &[usize], thread: usize) -> bool {
@@ -52,7 +50,7 @@ fn done<S: Viewed>(view: &S, most: &[usize]) -> u16 {
 // The chosen actors of a state but for the cores that may begin no further call; all others if no other actor is chosen.
 fn chosen_within(
     checked: &Checked,
-    table: &Table,
+    ground: &Ground,
     store: &Store<'_>,
     number: u32,
     most: &[usize],
@@ -61,7 +59,7 @@ fn chosen_within(
     requires met { AllMet checked.now.client store.now.states }
     requires there { number < length store.now.states }
 {
-    let chosen = chosen_at(checked, table, store, number);
+    let chosen = to_follow(checked, ground, store, number);
     let Some(view) = store.view(number) else {
         unreachable!()
     };
@@ -76,7 +74,7 @@ fn chosen_within(
 fn go_on(
     alloc: Global,
     checked: &Checked,
-    table: &Table,
+    ground: &Ground,
     store: &mut Store<'_>,
     origins: &mut Vec<Origin>,
     judged: &mut Judged,
@@ -85,18 +83,18 @@ fn go_on(
     most: &[usize],
 ) -> Result<(), Stop>
     requires client { store.old.client ≡ checked.now.client }
-    requires hunting { IsHunting checked.now.client table.now 4194304 store.old.states origins.old.items [] }
-    requires room { store.old.kept + 40 < 4294967295 }
-    ensures hunting { OnOk result (IsHunting checked.now.client table.now 4194304 store.new.states origins.new.items []) }
-    ensures stop { IfErr result (IsStop checked.now.client 4194304 store.new.states origins.new.items) }
-    ensures room { store.new.kept ≤ store.old.kept + 40 }
+    requires hunting { IsHunting checked.now.client ground.now 4194304 store.old.states origins.old.items [] }
+    requires room { HasRoom ground.now store.old.kept 4294967254 }
+    ensures hunting { OnOk result (IsHunting checked.now.client ground.now 4194304 store.new.states origins.new.items []) }
+    ensures stop { IfErr result (IsStop checked.now.client ground.now 4194304 store.new.states origins.new.items) }
+    ensures room { HasRoom ground.now store.new.kept (store.old.kept + 40) }
     ensures client { store.new.client ≡ store.old.client }
 {
     let Next { number, in_turn } = next;
     if number as usize >= store.len() {
         return Ok(());
     }
-    let set = chosen_within(checked, table, store, number, most);
+    let set = chosen_within(checked, ground, store, number, most);
     if !in_turn && set.count_ones() > 1 {
         track.put_off(number)?;
         return Ok(());
@@ -104,7 +102,7 @@ fn go_on(
     step_on(
         alloc,
         checked,
-        table,
+        ground,
         store,
         origins,
         judged,
@@ -120,7 +118,7 @@ fn go_on(
 fn dive(
     alloc: Global,
     checked: &Checked,
-    table: &Table,
+    ground: &Ground,
     store: &mut Store<'_>,
     origins: &mut Vec<Origin>,
     judged: &mut Judged,
@@ -128,9 +126,9 @@ fn dive(
     states: usize,
 ) -> Result<(), Stop>
     requires client { store.old.client ≡ checked.now.client }
-    requires hunting { IsHunting checked.now.client table.now 4194304 store.old.states origins.old.items [] }
-    requires room { store.old.kept ≤ 8 }
-    ensures stop { IfErr result (IsStop checked.now.client 4194304 store.new.states origins.new.items) }
+    requires hunting { IsHunting checked.now.client ground.now 4194304 store.old.states origins.old.items [] }
+    requires room { HasRoom ground.now store.old.kept 8 }
+    ensures stop { IfErr result (IsStop checked.now.client ground.now 4194304 store.new.states origins.new.items) }
     ensures client { store.new.client ≡ store.old.client }
 {
     let mut track = Track::new(alloc, Way::Depth, 0, store.len() as u32)?;
@@ -141,7 +139,7 @@ fn dive(
             break;
         };
         go_on(
-            alloc, checked, table, store, origins, judged, &mut track, next, most,
+            alloc, checked, ground, store, origins, judged, &mut track, next, most,
         )?;
     }
     Ok(())
@@ -151,7 +149,7 @@ fn dive(
 fn step_on(
     alloc: Global,
     checked: &Checked,
-    table: &Table,
+    ground: &Ground,
     store: &mut Store<'_>,
     origins: &mut Vec<Origin>,
     judged: &mut Judged,
@@ -160,18 +158,18 @@ fn step_on(
     met: &mut Vec<u32>,
 ) -> Result<(), Stop>
     requires client { store.old.client ≡ checked.now.client }
-    requires hunting { IsHunting checked.now.client table.now 4194304 store.old.states origins.old.items [] }
+    requires hunting { IsHunting checked.now.client ground.now 4194304 store.old.states origins.old.items [] }
     requires there { number < length store.old.states }
-    requires room { store.old.kept + 40 < 4294967295 }
-    ensures hunting { OnOk result (IsHunting checked.now.client table.now 4194304 store.new.states origins.new.items []) }
-    ensures stop { IfErr result (IsStop checked.now.client 4194304 store.new.states origins.new.items) }
-    ensures room { store.new.kept ≤ store.old.kept + 40 }
+    requires room { HasRoom ground.now store.old.kept 4294967254 }
+    ensures hunting { OnOk result (IsHunting checked.now.client ground.now 4194304 store.new.states origins.new.items []) }
+    ensures stop { IfErr result (IsStop checked.now.client ground.now 4194304 store.new.states origins.new.items) }
+    ensures room { HasRoom ground.now store.new.kept (store.old.kept + 40) }
     ensures client { store.new.client ≡ store.old.client }
 {
-    let set = chosen_within(checked, table, store, number, most);
+    let set = chosen_within(checked, ground, store, number, most);
     met.clear();
     follow_all(
-        alloc, checked, store, origins, judged, number, set, LIMIT, met,
+        alloc, checked, ground, store, origins, judged, number, set, LIMIT, met,
     )
 }
 
@@ -179,7 +177,7 @@ fn step_on(
 fn spread(
     alloc: Global,
     checked: &Checked,
-    table: &Table,
+    ground: &Ground,
     store: &mut Store<'_>,
     origins: &mut Vec<Origin>,
     judged: &mut Judged,
@@ -187,16 +185,16 @@ fn spread(
     states: usize,
 ) -> Result<(), Stop>
     requires client { store.old.client ≡ checked.now.client }
-    requires hunting { IsHunting checked.now.client table.now 4194304 store.old.states origins.old.items [] }
-    requires room { store.old.kept ≤ 8 }
-    ensures stop { IfErr result (IsStop checked.now.client 4194304 store.new.states origins.new.items) }
+    requires hunting { IsHunting checked.now.client ground.now 4194304 store.old.states origins.old.items [] }
+    requires room { HasRoom ground.now store.old.kept 8 }
+    ensures stop { IfErr result (IsStop checked.now.client ground.now 4194304 store.new.states origins.new.items) }
     ensures client { store.new.client ≡ store.old.client }
 {
     let mut number = 0;
     let mut met = Vec::new(alloc);
     'states: while (number as usize) < store.len() && number < LOOKS && store.len() <= states {
         step_on(
-            alloc, checked, table, store, origins, judged, number, most, &mut met,
+            alloc, checked, ground, store, origins, judged, number, most, &mut met,
         )?;
         number += 1;
     }
@@ -207,7 +205,7 @@ fn spread(
 fn search_within(
     alloc: Global,
     checked: &Checked,
-    table: &Table,
+    ground: &Ground,
     store: &mut Store<'_>,
     origins: &mut Vec<Origin>,
     judged: &mut Judged,
@@ -216,15 +214,15 @@ fn search_within(
     states: usize,
 ) -> Result<(), Stop>
     requires client { store.old.client ≡ checked.now.client }
-    requires hunting { IsHunting checked.now.client table.now 4194304 store.old.states origins.old.items [] }
-    requires room { store.old.kept ≤ 8 }
-    ensures stop { IfErr result (IsStop checked.now.client 4194304 store.new.states origins.new.items) }
+    requires hunting { IsHunting checked.now.client ground.now 4194304 store.old.states origins.old.items [] }
+    requires room { HasRoom ground.now store.old.kept 8 }
+    ensures stop { IfErr result (IsStop checked.now.client ground.now 4194304 store.new.states origins.new.items) }
     ensures client { store.new.client ≡ store.old.client }
 {
     match way {
-        Way::Breadth => spread(alloc, checked, table, store, origins, judged, most, states),
+        Way::Breadth => spread(alloc, checked, ground, store, origins, judged, most, states),
         Way::Depth | Way::Probe => dive(
-            alloc, checked, table, store, origins, judged, most, states,
+            alloc, checked, ground, store, origins, judged, most, states,
         ),
     }
 }
@@ -233,7 +231,7 @@ fn search_within(
 fn found_from(
     alloc: Global,
     checked: &Checked,
-    table: &Table,
+    ground: &Ground,
     store: &mut Store<'_>,
     origins: &mut Vec<Origin>,
     way: Way,
@@ -241,19 +239,19 @@ fn found_from(
     states: usize,
 ) -> Result<Option<Trace>, AllocError>
     requires client { store.old.client ≡ checked.now.client }
-    requires started { IsStarted checked.now.client store.old.states }
+    requires started { IsStarted checked.now.client ground.now store.old.states }
     requires none { origins.old.items ≡ [] }
-    requires room { store.old.kept ≤ 8 }
+    requires room { HasRoom ground.now store.old.kept 8 }
     ensures { IfOk result (λ found. IfSome found (IsTraceOf checked.now.client)) }
 {
-    if !is_first_good(alloc, checked, store)? {
+    if !is_first_good(alloc, checked, ground, store)? {
         return Ok(None);
     }
     let mut judged = Judged::new(alloc)?;
     match search_within(
         alloc,
         checked,
-        table,
+        ground,
         store,
         origins,
         &mut judged,
@@ -262,7 +260,7 @@ fn found_from(
         states,
     ) {
         Err(Stop::Violation(number)) => {
-            let trace = trace_to(alloc, checked, store, origins.as_slice(), number)?;
+            let trace = trace_to(alloc, checked, ground, origins.as_slice(), number)?;
             Ok(Some(trace))
         }
         Err(Stop::Memory) => Err(AllocError),
@@ -277,19 +275,19 @@ fn found_from(
 pub fn found_within(
     alloc: Global,
     checked: &Checked,
-    table: &Table,
+    ground: &Ground,
     way: Way,
     most: &[usize],
     states: usize,
 ) -> Result<Option<Trace>, AllocError>
     ensures { IfOk result (λ found. IfSome found (IsTraceOf checked.now.client)) }
 {
-    let mut store = started(alloc, checked)?;
+    let mut store = started(alloc, checked, ground)?;
     let mut origins = Vec::new(alloc);
     let found = found_from(
         alloc,
         checked,
-        table,
+        ground,
         &mut store,
         &mut origins,
         way,

@@ -1,12 +1,11 @@
 -- Passing over a tree is passing over its parts, and a certificate is one where its tree goes to the end.
 use Rattle.std.proofs.Common.{◌≡◌, ◌==◌, ℕ, List, Option, Some, None, Result, Ok, Err, Bool, true, false, refl, ap, ◌∙◌, length, if◌then◌else◌}
-use Rattle.tso_cert.specs.Certificates.{◌>>=◌, Branch, certificate_at, field, fork_at, front_at, magic_at, tree_at}
+use Rattle.tso_cert.specs.Certificates.{◌>>=◌, Branch, certificate_at, field, fork_at, front_at, tree_at}
 use Rattle.tso_cert.specs.Trees.{Tree, leaf, fork}
 use Rattle.tso_cert.specs.declared.fault.Fault.{Fault}
 use Rattle.tso_cert.specs.declared.fault.Fault.TheVariants.{K01}
 use Rattle.tso_code.specs.States.{state_at}
-use Rattle.tso_code.specs.Tables.{table_at}
-use Rattle.tso_foot.specs.declared.table.Table.{Table}
+use Rattle.tso_rec.specs.declared.basis.Basis.{Basis}
 use Rattle.tso_rec.specs.declared.record.Record.{Record}
 use Rattle.tso_skim.specs.Skips.{after, fault_in, fault_in_tree, without_tree}
 use Rattle.tso_state.specs.declared.state.State.{State}
@@ -54,26 +53,21 @@ same_fault true x = refl
 same_fault false x = refl
 
 -- nothing comes behind the tree
-abbrev ended : Table → Tree × ℕ × List ℕ → Result (Table × Tree) Fault
-ended t c = if length c.2 == 0 then Ok (t, c.0) else Err K01
+abbrev ended : Basis → Tree × ℕ × List ℕ → Result (Basis × Tree) Fault
+ended b c = if length c.2 == 0 then Ok (b, c.0) else Err K01
 
-behind_tree : (b : Branch) (t : Table) → fault_in (b >>= ended t) ≡ fault_in_tree (without_tree b)
-behind_tree (Ok x) t = same_fault (length x.2 == 0) (t, x.0)
-behind_tree (Err fault) t = refl
+behind_tree : (tree : Branch) (b : Basis) → fault_in (tree >>= ended b) ≡ fault_in_tree (without_tree tree)
+behind_tree (Ok x) b = same_fault (length x.2 == 0) (b, x.0)
+behind_tree (Err fault) b = refl
 
 -- behind the table comes the tree
-abbrev tree_behind : Table × List ℕ → Result (Table × Tree) Fault
-tree_behind t = tree_at 64 4194304 t.1 >>= ended t.0
+abbrev tree_behind : Basis × List ℕ → Result (Basis × Tree) Fault
+tree_behind b = tree_at b.0.grain 64 4194304 b.1 >>= ended b.0
 
--- a certificate is its front, and a tree to the end
-by_front : (magic : Result (List ℕ) Fault) → (magic >>= λ rest. (field (table_at rest) >>= tree_behind)) ≡ ((magic >>= λ rest. field (table_at rest)) >>= tree_behind)
-by_front (Ok rest) = refl
-by_front (Err fault) = refl
-
-pub behind_front : (bytes : List ℕ) (t : Table) (rest : List ℕ) → front_at bytes ≡ Ok (t, rest) → fault_in (certificate_at bytes) ≡ fault_in_tree (without_tree (tree_at 64 4194304 rest))
+pub behind_front : (bytes : List ℕ) (b : Basis) (rest : List ℕ) → front_at bytes ≡ Ok (b, rest) → fault_in (certificate_at bytes) ≡ fault_in_tree (without_tree (tree_at b.grain 64 4194304 rest))
 unfolding certificate_at
-behind_front bytes t rest front = ap fault_in (by_front (magic_at bytes)) ∙ rw front (behind_tree (tree_at 64 4194304 rest) t)
+behind_front bytes b rest front = ap (λ (r : Result (Basis × List ℕ) Fault). fault_in (r >>= tree_behind)) front ∙ behind_tree (tree_at b.grain 64 4194304 rest) b
 
 pub without_front : (bytes : List ℕ) (fault : Fault) → front_at bytes ≡ Err fault → fault_in (certificate_at bytes) ≡ Some fault
 unfolding certificate_at
-without_front bytes fault front = ap fault_in (by_front (magic_at bytes)) ∙ rw front refl
+without_front bytes fault front = ap (λ (r : Result (Basis × List ℕ) Fault). fault_in (r >>= tree_behind)) front

@@ -2,8 +2,9 @@
 
 use crate::end::skip_records;
 use std::alloc::Global;
-use tso_cert::read_table;
+use tso_cert::read_front;
 use tso_code::read_number;
+use tso_rec::Grain;
 
 // Fewer bytes are decided at once in any case.
 const LEAST: usize = 1_048_576;
@@ -26,14 +27,14 @@ fn first_leaf(bytes: &[u8]) -> &[u8] {
 }
 
 // Whether the records of a leaf have few bytes each.
-fn is_leaf_dense(bytes: &[u8]) -> bool {
+fn is_leaf_dense(grain: Grain, bytes: &[u8]) -> bool {
     let [0, behind @ ..] = bytes else {
         return false;
     };
     let Some((count, rest)) = read_number(behind) else {
         return false;
     };
-    match skip_records(count.min(64), rest) {
+    match skip_records(grain, count.min(64), rest) {
         Ok(after) => {
             let taken = rest.len().saturating_sub(after.len()) as u64;
             taken < count.min(64).saturating_mul(RECORD_BYTES)
@@ -47,10 +48,11 @@ pub fn is_dense(alloc: Global, bytes: &[u8]) -> bool {
     if bytes.len() < LEAST {
         return false;
     }
-    match read_table(alloc, bytes) {
-        Ok((table, rest)) => {
-            drop(table);
-            is_leaf_dense(first_leaf(rest))
+    match read_front(alloc, bytes) {
+        Ok((basis, rest)) => {
+            let grain = basis.grain;
+            drop(basis);
+            is_leaf_dense(grain, first_leaf(rest))
         }
         Err(_) => false,
     }

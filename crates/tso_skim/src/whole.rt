@@ -6,7 +6,8 @@ ghost use Rattle.tso_skim.specs.Skips.{fault_in, fault_in_tree, fault_of, fault_
 
 use crate::tree::{Halt, skip_tree};
 use std::alloc::{AllocError, Global};
-use tso_cert::{DecodeError, Fault, read_table};
+use tso_cert::{DecodeError, Fault, read_front};
+use tso_rec::Grain;
 
 /// What bytes are.
 #[derive(Clone, Copy, PartialEq, Eq)]
@@ -37,10 +38,10 @@ fn skimmed_of(halt: Halt) -> Skimmed
 }
 
 // What the bytes behind a table are, to their end.
-fn skim_tree(bytes: &[u8]) -> Skimmed
-    ensures { fault_told result ≡ fault_in_tree (without_tree (tree_at 64 4194304 bytes.now)) }
+fn skim_tree(grain: Grain, bytes: &[u8]) -> Skimmed
+    ensures { fault_told result ≡ fault_in_tree (without_tree (tree_at grain 64 4194304 bytes.now)) }
 {
-    match skip_tree(FORKS, RECORDS, bytes) {
+    match skip_tree(grain, FORKS, RECORDS, bytes) {
         Ok((_, rest)) => {
             if rest.is_empty() {
                 Skimmed::Whole
@@ -58,10 +59,11 @@ fn skim_tree(bytes: &[u8]) -> Skimmed
 pub fn skim(alloc: Global, bytes: &[u8]) -> Result<Skimmed, AllocError>
     ensures { IfOk result (λ skimmed. fault_told skimmed ≡ fault_in (certificate_at bytes.now)) }
 {
-    match read_table(alloc, bytes) {
-        Ok((table, rest)) => {
-            drop(table);
-            Ok(skim_tree(rest))
+    match read_front(alloc, bytes) {
+        Ok((basis, rest)) => {
+            let grain = basis.grain;
+            drop(basis);
+            Ok(skim_tree(grain, rest))
         }
         Err(DecodeError::Fault(Fault::K01)) => Ok(Skimmed::Broken),
         Err(DecodeError::Fault(Fault::K02)) => Ok(Skimmed::Beyond),

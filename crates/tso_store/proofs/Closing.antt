@@ -24,6 +24,10 @@ sheet_added c old new ks after ds es rs ts k s b sheet grows known running is fi
 pub still_known : (c : Client) (old new : Parts) (ds : List Known) → Grows old new → AreKnown c old.threads ds → AreKnown c new.threads ds
 still_known c old new ds grows known = known_grows c old.threads new.threads ds grows.threads known
 
+-- the same where no more is known of histories
+pub sheet_walked : (c : Client) (old new : Parts) (ks : List Key) (ds es : List Known) (rs : List Running) → IsSheet c old ks ds rs → Grows old new → AreKnown c new.threads es → IsSheet c new ks es rs
+sheet_walked c old new ks ds es rs sheet grows known = sheet_grows c old new ks ds es rs rs sheet grows known (running_grows old.histories new.histories rs grows.histories sheet.running)
+
 -- the same where nothing more is known than before
 pub sheet_stays : (c : Client) (old new : Parts) (ks : List Key) (ds : List Known) (rs : List Running) → IsSheet c old ks ds rs → Grows old new → IsSheet c new ks ds rs
 sheet_stays c old new ks ds rs sheet grows = sheet_grows c old new ks ds ds rs rs sheet grows (still_known c old new ds grows sheet.recalls) (running_grows old.histories new.histories rs grows.histories sheet.running)

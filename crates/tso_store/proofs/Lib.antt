@@ -7,3 +7,7 @@ pub mod Views
 pub mod Absences
 pub mod Histories
 pub mod Gatherings
+pub mod Beginnings
+pub mod Movements
+pub mod Arrivals
+pub mod Stopping

@@ -91,7 +91,7 @@ logged_length h i Same = refl
 logged_length h i (Began k) = length-set h i _
 logged_length h i (Answered a) = length-set h i _
 
-history_length : (h g : List (List Call)) (i : ℕ) (l : Log) → history_view g ≡ logged (history_view h) i l → length g ≡ length h
+pub history_length : (h g : List (List Call)) (i : ℕ) (l : Log) → history_view g ≡ logged (history_view h) i l → length g ≡ length h
 history_length h g i l e =
     sym (length-map g (map called_view)) ∙ ap (λ (v : List (List Called)). length v) e ∙ logged_length (history_view h) i l ∙ length-map h (map called_view)
 

@@ -5,3 +5,4 @@ pub mod Seeking
 pub mod Likes
 pub mod Lone
 pub mod Gathering
+pub mod Arriving

@@ -1,12 +1,15 @@
 //! Numbered states whose parts are kept once. Contracts see a client and the list of its states, plain values, all different.
 #![tactic(auto)]
 
+mod arrived;
+mod begun;
 mod fault;
 mod gathered;
 mod history_after;
 mod known;
 mod lone;
 mod lookup;
+mod moved;
 mod numbered;
 mod rising;
 mod sought;

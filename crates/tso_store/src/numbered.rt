@@ -5,11 +5,13 @@ ghost use Rattle.tso_parts.specs.declared.refused.Refused.TheVariants as reasons
 ghost use Rattle.tso_state.specs.Rising.{IsRising};
 ghost use Rattle.tso_keys.specs.Forms.{AreForms};
 ghost use Rattle.tso_keys.specs.Keys.{AreKept, FitsClient, part_count, states_at};
+ghost use Rattle.tso_store.specs.Arriving.{IsArrivalOrNone, IsStop};
 ghost use Rattle.tso_store.specs.Lone.{HasNoLoneAt, IsLoneAt, IsLoneCoreAt};
 ghost use Rattle.tso_keys.specs.Orders.{AreRowsOf};
 ghost use Rattle.tso_store.specs.Sheets.{CanStep, IsAdded, IsFound, IsSuccessorOrNone};
 ghost use Rattle.tso_store.specs.declared.fault.AddError.TheVariants as errors;
 
+use crate::arrived::{arrival_key, arrive_key};
 use crate::fault::AddError;
 use crate::known::{Known, learn_runs};
 use crate::lone::{Lone, lone_at, remembered_core};
@@ -19,6 +21,7 @@ use std::alloc::{AllocError, Global};
 use std::marker::Model;
 use tso_compact::StepKind;
 use tso_flow::Checked;
+use tso_foot::{ArrayTable, Table};
 use tso_keys::{
     Forms, Key, NO_KEY, Parts, Running, Standings, View, copy_of, find_key, find_view_key,
     fits_client, forms_of, key_at, key_of, key_of_view, key_or_none, learn_running, number_risen,
@@ -270,6 +273,83 @@ impl<'a> Store<'a> {
         };
         learn_running(&self.parts.histories, &mut self.running)?;
         let result = self.keys.add(next)?;
+        Ok(Some(result))
+    }
+
+    /// The number of the state in which the run from a state stops, and whether it is new; it is kept then. A run goes on, by the move of
+    /// the lowest free actor, while the state is well-formed and an actor is free.
+    ///
+    /// Errors: `Misfit` exactly where the state has not as many threads, or lists of calls, as the client has threads; `Memory`
+    /// where an allocation failed; `Full` where there are as many states, or parts of a kind, as numbers. The states stay.
+    pub fn arrive_state(
+        &mut self,
+        alloc: Global,
+        own: &ArrayTable,
+        table: &Table,
+        state: &State,
+    ) -> Result<(u32, bool), AddError>
+        ensures stops { IfOk result (IsStop self.old.client own.now table.now self.old.states self.new.states state.now) }
+        ensures err { OnErr result (self.new.states ≡ self.old.states) }
+        ensures full { result ≡ Err errors.Full → 4294967295 ≤ self.new.kept }
+        ensures misfit { (result ≡ Err errors.Misfit) ↔ (FitsClient self.old.client state.now → ⊥) }
+        ensures client { self.new.client ≡ self.old.client }
+    {
+        if !fits_client(&self.checked.client, state) {
+            return Err(AddError::Misfit);
+        }
+        let start = key_of(&mut self.parts, state)?;
+        let last = arrive_key(
+            alloc,
+            self.checked,
+            own,
+            table,
+            &mut self.parts,
+            &mut self.known,
+            &self.running,
+            &start,
+        )?;
+        let result = self.keys.add(last)?;
+        Ok(result)
+    }
+
+    /// The number of the state in which the run from the state after the actor's move from state `number` stops, and whether it is
+    /// new; it is kept then. `None` exactly where there is no such move, also where there is no such state.
+    ///
+    /// Errors: where there is such a state, and an allocation failed (`Memory`), or there are as many states, or parts of a kind, as
+    /// numbers (`Full`). The states stay.
+    pub fn arrive(
+        &mut self,
+        alloc: Global,
+        own: &ArrayTable,
+        table: &Table,
+        number: u32,
+        actor: Actor,
+    ) -> Result<Option<(u32, bool)>, Refused>
+        ensures arrival { IfOk result (IsArrivalOrNone self.old.client own.now table.now self.old.states self.new.states number actor) }
+        ensures err { OnErr result (self.new.states ≡ self.old.states) }
+        ensures there { OnErr result (number < length self.old.states) }
+        ensures full { result ≡ Err reasons.Full → 4294967295 ≤ self.new.kept }
+        ensures client { self.new.client ≡ self.old.client }
+    {
+        let Some(from) = key_at(&self.keys, number) else {
+            return Ok(None);
+        };
+        let Some(stop) = arrival_key(
+            alloc,
+            self.checked,
+            own,
+            table,
+            &mut self.parts,
+            &mut self.known,
+            &self.running,
+            &from,
+            actor,
+        )?
+        else {
+            return Ok(None);
+        };
+        learn_running(&self.parts.histories, &mut self.running)?;
+        let result = self.keys.add(stop)?;
         Ok(Some(result))
     }
 

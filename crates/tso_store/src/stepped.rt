@@ -50,8 +50,8 @@ fn next_memory(
     Ok(next)
 }
 
-// The number of the history with what the step of a thread writes into it.
-fn next_history(
+/// The number of the history with what the step of a thread writes into it.
+pub fn next_history(
     histories: &mut Catalog<History>,
     number: u32,
     thread: usize,

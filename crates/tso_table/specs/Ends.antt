@@ -4,6 +4,7 @@ use Rattle.std.specs.List.{AllZip}
 use Rattle.tso_choose.specs.declared.choice.Choice.{Choice}
 use Rattle.tso_compact.specs.Plans.{IsStep}
 use Rattle.tso_foot.specs.declared.table.Table.{Table}
+use Rattle.tso_rec.specs.Bases.{by_steps}
 use Rattle.tso_rec.specs.Conditions.{AreMet}
 use Rattle.tso_prog.specs.declared.client.Client.{Client}
 use Rattle.tso_rec.specs.declared.record.End.{End}
@@ -29,7 +30,7 @@ pub record IsNamed (c : Client) (s : State) (x : Choice) (n : Number) : Type 0 w
 -- the end meets all conditions of a record but that the states after its steps are kept, and that registers lie where the table says; each of
 -- these states has a number
 pub record IsEnd (c : Client) (t : Table) (s : State) (f : Filed) : Type 0 where
-  pub met : AreMet c t (Unit {0}) (Unit {0}) s f.end
+  pub met : AreMet c (by_steps t) (Unit {0}) (Unit {0}) s f.end
   pub named : AllZip (IsNamed c s) (moves_of f.end) f.numbers
 
 -- choice i of the end, and the number of its successor, which is of shard k

@@ -12,6 +12,7 @@ use tso_client::checked_of;
 use tso_flow::Checked;
 use tso_front::{Failure, Kind, Session};
 use tso_load::read_certificate;
+use tso_rec::Grain;
 use tso_survey::{Accepted, Calls, Decided, Finder, Finding, Shown};
 use tso_trace::{Trace, TraceFault};
 
@@ -111,20 +112,33 @@ fn counted_of(alloc: Global, checked: &Checked, cert: &Cert) -> Result<Shown, Al
     facts.shown(alloc)
 }
 
+// The same, where each state that is reached has a record.
+fn shown_in(
+    alloc: Global,
+    checked: &Checked,
+    grain: Grain,
+    cert: &Cert,
+) -> Result<Option<Shown>, AllocError> {
+    match grain {
+        Grain::Steps => Ok(Some(counted_of(alloc, checked, cert)?)),
+        Grain::Crossings => Ok(None),
+    }
+}
+
 // The same of the bytes of an accepted certificate, which can be read.
 fn shown_of(alloc: Global, text: &[u8], bytes: &[u8]) -> Result<Option<Shown>, Failure> {
     let checked = checked_of(alloc, text)?;
     let shown = match decode(alloc, bytes) {
-        Ok((table, cert)) => {
-            drop(table);
-            let shown = counted_of(alloc, &checked, &cert);
+        Ok((basis, cert)) => {
+            let shown = shown_in(alloc, &checked, basis.grain, &cert);
+            drop(basis);
             drop(cert);
             shown
         }
         Err(_) => Err(AllocError),
     };
     drop(checked);
-    Ok(Some(shown?))
+    Ok(shown?)
 }
 
 // What a certificate says of a text.

@@ -12,6 +12,7 @@ use Rattle.tso_compact.specs.declared.sort.StepKind.TheVariants as kinds
 use Rattle.tso_write.proofs.CuttingLemmas.{searched_well_formed}
 use Rattle.tso_write.specs.Cutting.{IsEndAt, IsLoneEnd, lone_reason, reasons_but}
 use Rattle.tso_foot.specs.declared.table.Table.{Table}
+use Rattle.tso_search.specs.declared.ground.Ground.TheVariants.{Steps}
 use Rattle.tso_indep.specs.Reasons.{kind_in}
 use Rattle.tso_indep.specs.declared.reason.Reason.{Reason}
 use Rattle.tso_indep.specs.declared.reason.Reason.TheVariants as reasons
@@ -102,9 +103,9 @@ lone_ended l n reason given choices same are is c t s first count =
     (record { set = set; is = core_chosen c t s l set first (one_core l.thread); all = all }, omega (arith, some))
 
 -- that of a worked state of which the store tells it
-pub lone_end_at : (d c : Client) (t : Table) (states : List State) (n count : ℕ) (l : Lone) (end : End) → d ≡ c → AreSearched c t states → count ≡ length (calls_of c) → IsLoneAt d states n l → IsLoneEnd l count end
-    → IsEndAt c t states n end
+pub lone_end_at : (d c : Client) (t : Table) (states : List State) (n count : ℕ) (l : Lone) (end : End) → d ≡ c → AreSearched c (Steps t) states → count ≡ length (calls_of c) → IsLoneAt d states n l → IsLoneEnd l count end
+    → IsEndAt c (Steps t) states n end
 lone_end_at d c t states n count l end same searched all at ended s here =
     let first : IsFirstLoneCore d s l = subst (λ x. IsFirstLoneCore d x l) (same_Some _ _ (sym at.at ∙ here)) at.first in
-    let sizes = (searched_well_formed c t states n s searched here).sizes in
+    let sizes = (searched_well_formed c (Steps t) states n s searched here).sizes in
     ended c t s (subst (λ x. IsFirstLoneCore x s l) same first) (sizes.threads ∙ sym (all ∙ calls_of-width c))

@@ -7,6 +7,7 @@ use Rattle.std.specs.Prelude.{option_map}
 use Rattle.tso_code.specs.Fields.{list}
 use Rattle.tso_code.specs.Numbers.{number}
 use Rattle.tso_code.specs.States.{call, state, thread}
+use Rattle.tso_rec.specs.declared.basis.Grain.{Grain}
 use Rattle.tso_write.specs.Spelled.{AreSpelled}
 use Rattle.tso_write.specs.Spelling.{IsEndedBehind, IsStateBehind}
 use Rattle.tso_rec.specs.Spelling.{ending}
@@ -63,11 +64,11 @@ state_behind p ks n k memories threads histories o a b e spelled at first second
     }
 
 -- and its end
-pub ended_behind : (states : List State) (n : ℕ) (end : End) (o a e : List ℕ) → IsStateBehind states n o a → e ≡ a ++ ending end → IsEndedBehind states n end o e
-ended_behind states n end o a e first second = record {
+pub ended_behind : (g : Grain) (states : List State) (n : ℕ) (end : End) (o a e : List ℕ) → IsStateBehind states n o a → e ≡ a ++ ending g end → IsEndedBehind g states n end o e
+ended_behind g states n end o a e first second = record {
   spelled = first.spelled;
   at = first.at;
-  is = second ∙ ap (λ (w : List ℕ). w ++ ending end) first.is ∙ append_assoc o (state first.spelled) (ending end);
+  is = second ∙ ap (λ (w : List ℕ). w ++ ending g end) first.is ∙ append_assoc o (state first.spelled) (ending g end);
 }
 
 -- spellings put behind others, and one more of them

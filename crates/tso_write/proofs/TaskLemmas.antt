@@ -1,7 +1,7 @@
 -- Trees of records that several threads cut by halves, put together.
 use Rattle.std.proofs.Common.{◌≡◌, ◌∙◌, ℕ, ◌/◌, ◌<◌, List, length, take, drop, get_or, Some, slice_get, refl, sym, ap, subst}
 use Rattle.tso_cert.specs.Trees.{Tree, fork}
-use Rattle.tso_foot.specs.declared.table.Table.{Table}
+use Rattle.tso_search.specs.declared.ground.Ground.{Ground}
 use Rattle.tso_prog.specs.declared.client.Client.{Client}
 use Rattle.tso_state.specs.declared.state.State.{State}
 use Rattle.tso_write.proofs.CuttingLemmas.{first_high, forked, numbers_high, numbers_low, rising_high, rising_low}
@@ -24,13 +24,13 @@ fork_of_halves whole left right one two s ready halves first second at =
     let P : Numbered → Type 0 = λ u. IsCutOf u one in
     let Q : Numbered → Type 0 = λ u. IsCutOf u two in
     let here : slice_get whole.states (get_or high 0 0) ≡ Some s = ap (λ (ns : List ℕ). slice_get whole.states (get_or ns 0 0)) (sym (back whole left right halves)) ∙ at in
-    forked whole.client whole.table whole.states whole.numbers low high h s one two refl refl halves.many refl ready.rising (subst P halves.left_is first) (subst Q halves.right_is second) here
+    forked whole.client whole.ground whole.states whole.numbers low high h s one two refl refl halves.many refl ready.rising (subst P halves.left_is first) (subst Q halves.right_is second) here
 
 -- numbers cut in two
-pub cut_in_two : (c : Client) (t : Table) (states : List State) (ns low high : List ℕ) → 64 < length ns → low ≡ take (length ns / 2) ns → high ≡ drop (length ns / 2) ns → CanBeCut (uncut c t states ns)
-    → AreHalvesCut (uncut c t states ns) (uncut c t states low) (uncut c t states high) × CanBeCut (uncut c t states low) × CanBeCut (uncut c t states high)
-cut_in_two c t states ns low high many front rest ready = (
-  record { many = many; left_is = ap (uncut c t states) front; right_is = ap (uncut c t states) rest },
+pub cut_in_two : (c : Client) (g : Ground) (states : List State) (ns low high : List ℕ) → 64 < length ns → low ≡ take (length ns / 2) ns → high ≡ drop (length ns / 2) ns → CanBeCut (uncut c g states ns)
+    → AreHalvesCut (uncut c g states ns) (uncut c g states low) (uncut c g states high) × CanBeCut (uncut c g states low) × CanBeCut (uncut c g states high)
+cut_in_two c g states ns low high many front rest ready = (
+  record { many = many; left_is = ap (uncut c g states) front; right_is = ap (uncut c g states) rest },
   record { searched = ready.searched; closed = ready.closed; numbers = numbers_low states ns low (length ns / 2) front ready.numbers; rising = rising_low states ns low (length ns / 2) front ready.rising },
   record { searched = ready.searched; closed = ready.closed; numbers = numbers_high states ns high (length ns / 2) rest ready.numbers; rising = rising_high states ns high (length ns / 2) rest ready.rising },
 )

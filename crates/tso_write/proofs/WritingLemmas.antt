@@ -3,18 +3,18 @@ use Rattle.std.proofs.Common.{◌≡◌, ◌∙◌, ℕ, List, [], ◌∷◌, �
 use Rattle.std.proofs.KnownBytes.{Appends-nil, Appends-trans}
 use Rattle.std.proofs.lemmas.List.{append-nil}
 use Rattle.std.specs.Io.KnownBytes.{Appends}
-use Rattle.tso_cert.specs.Certificates.{magic}
+use Rattle.tso_cert.specs.Certificates.{magic, table_of}
 use Rattle.tso_cert.specs.Trees.{fork, spelling_of}
 use Rattle.tso_code.specs.States.{state}
-use Rattle.tso_code.specs.Tables.{table}
 use Rattle.tso_write.proofs.CuttingLemmas.{tree_of_worked}
 use Rattle.tso_write.proofs.Sorting.{order_is_there}
 use Rattle.tso_write.proofs.TaskLemmas.{fork_of_halves}
-use Rattle.tso_write.specs.Spelling.{InLeft, InRight, IsPut, IsPutInPart, IsSpelledCut, IsStateBehind, Nothing, Whole}
+use Rattle.tso_write.specs.Spelling.{InLeft, InRight, IsFront, IsPut, IsPutInPart, IsSpelledCut, IsStateBehind, Nothing, Whole}
 use Rattle.tso_write.specs.Tasks.{AreHalvesCut, CanBeCut, Numbered, uncut}
 use Rattle.tso_write.specs.Worked.{AreWorkedOut, IsWritten, IsWrittenInPart}
 use Rattle.tso_write.specs.declared.worked.Worked.{Worked}
 use Rattle.tso_foot.specs.declared.table.Table.{Table}
+use Rattle.tso_search.specs.Grounds.{grain_of}
 use Rattle.tso_list.proofs.BeginningLemmas.{beginning_behind, beginning_of_none, beginning_of_part}
 use Rattle.tso_list.specs.Beginnings.{AppendsBeginning}
 use Rattle.tso_parts.specs.Numbers.{IsNumbered}
@@ -26,7 +26,7 @@ use Rattle.tso_keys.specs.Orders.{IsRising}
 -- ---- slabs
 
 pub slab_begun : (u : Numbered) (a b : Option (List ℕ)) (bytes slice : List ℕ) → slice ≡ bytes → IsSpelledCut u bytes → AppendsBeginning a b slice → IsPutInPart u a b
-slab_begun u a b bytes slice same is out = record { front = spelling_of is.tree; begun = Whole u is.tree is.cut; appended = subst (AppendsBeginning a b) (same ∙ is.spelled) out }
+slab_begun u a b bytes slice same is out = record { front = spelling_of (grain_of u.ground) is.tree; begun = Whole u is.tree is.cut; appended = subst (AppendsBeginning a b) (same ∙ is.spelled) out }
 
 pub slab_put : (u : Numbered) (a b : Option (List ℕ)) (bytes slice : List ℕ) → slice ≡ bytes → IsSpelledCut u bytes → Appends a b slice → IsPut u a b
 slab_put u a b bytes slice same is out = record { tree = is.tree; cut = is.cut; appended = subst (Appends a b) (same ∙ is.spelled) out }
@@ -58,16 +58,19 @@ module _ (u left right : Numbered) (halves : AreHalvesCut u left right) (a b : O
 
     module _ (first : IsPut left b c) where
       abbrev L : List ℕ
-      L = spelling_of first.tree
+      L = spelling_of (grain_of u.ground) first.tree
+
+      low : spelling_of (grain_of left.ground) first.tree ≡ L
+      low = ap (λ (x : Numbered). spelling_of (grain_of x.ground) first.tree) halves.left_is
 
       half_put : Appends a c (1 ∷ L)
-      half_put = Appends-trans a b c (1 ∷ []) L begun_put first.appended
+      half_put = Appends-trans a b c (1 ∷ []) L begun_put (subst (Appends b c) low first.appended)
 
       -- its left half, and no more
       pub part_before_state : IsPutInPart u a c
       part_before_state = record {
         front = 1 ∷ L;
-        begun = InLeft u left right L halves (Whole left first.tree first.cut);
+        begun = InLeft u left right L halves (subst (IsFront left) low (Whole left first.tree first.cut));
         appended = beginning_of_part a c c (1 ∷ L) (1 ∷ L) [] (sym (append-nil (1 ∷ L))) half_put;
       }
 
@@ -102,11 +105,15 @@ module _ (u left right : Numbered) (halves : AreHalvesCut u left right) (a b : O
 
           -- all of it
           pub put_fork : CanBeCut u → IsPut right d e → IsPut u a e
-          put_fork ready second = record {
-            tree = fork first.tree middle.spelled second.tree;
-            cut = fork_of_halves u left right first.tree second.tree middle.spelled ready halves first.cut second.cut middle.at;
-            appended = subst (Appends a e) (ap (λ (w : List ℕ). 1 ∷ w) (append_assoc L S (spelling_of second.tree))) (Appends-trans a d e (1 ∷ (L ++ S)) (spelling_of second.tree) state_put second.appended);
-          }
+          put_fork ready second =
+              let high : spelling_of (grain_of right.ground) second.tree ≡ spelling_of (grain_of u.ground) second.tree = ap (λ (x : Numbered). spelling_of (grain_of x.ground) second.tree) halves.right_is in
+              record {
+                tree = fork first.tree middle.spelled second.tree;
+                cut = fork_of_halves u left right first.tree second.tree middle.spelled ready halves first.cut second.cut middle.at;
+                appended =
+                    subst (Appends a e) (ap (λ (w : List ℕ). 1 ∷ w) (append_assoc L S (spelling_of (grain_of u.ground) second.tree)))
+                    (Appends-trans a d e (1 ∷ (L ++ S)) (spelling_of (grain_of u.ground) second.tree) state_put (subst (Appends d e) high second.appended));
+              }
 
 -- ---- the whole tree
 
@@ -117,34 +124,34 @@ part_of_nothing u a = record { front = []; begun = Nothing u; appended = beginni
 
 module _ (c : Client) (w : Worked) (t : Table) where
   abbrev all_of : List ℕ → Numbered
-  all_of ns = uncut c w.table w.store.states ns
+  all_of ns = uncut c w.ground w.store.states ns
 
-  pub written : (a b d : Option (List ℕ)) (front slice items ns : List ℕ) → AreWorkedOut c w → IsRising w.store.states items → IsNumbered w.store.states → CertificatesFit c → front ≡ magic ++ table t → slice ≡ front
+  pub written : (a b d : Option (List ℕ)) (front slice items ns : List ℕ) → AreWorkedOut c w → IsRising w.store.states items → IsNumbered w.store.states → CertificatesFit c → front ≡ magic (grain_of w.ground) ++ table_of (grain_of w.ground) t → slice ≡ front
       → ns ≡ items → Appends a b slice → IsPut (all_of ns) b d → IsWritten c w t a d
   written a b d front slice items ns out rising differ fit is same these first put = record {
     tree = put.tree;
     made = tree_of_worked c w ns put.tree out (subst (IsRising w.store.states) (sym these) rising) differ fit put.cut;
     appended =
-        subst (Appends a d) (append_assoc magic (table t) (spelling_of put.tree))
-        (Appends-trans a b d (magic ++ table t) (spelling_of put.tree) (subst (Appends a b) (same ∙ is) first) put.appended);
+        subst (Appends a d) (append_assoc (magic (grain_of w.ground)) (table_of (grain_of w.ground) t) (spelling_of (grain_of w.ground) put.tree))
+        (Appends-trans a b d (magic (grain_of w.ground) ++ table_of (grain_of w.ground) t) (spelling_of (grain_of w.ground) put.tree) (subst (Appends a b) (same ∙ is) first) put.appended);
   }
 
   pub written_none : (a : Option (List ℕ)) → IsWrittenInPart c w t a a
   written_none a =
       let (ns, rising) = order_is_there w.store.states in
-      record { numbers = ns; rising = rising; front = []; begun = Nothing (all_of ns); appended = beginning_of_none a (magic ++ (table t ++ [])) }
+      record { numbers = ns; rising = rising; front = []; begun = Nothing (all_of ns); appended = beginning_of_none a (magic (grain_of w.ground) ++ (table_of (grain_of w.ground) t ++ [])) }
 
-  pub written_front : (a b : Option (List ℕ)) (front slice items : List ℕ) → IsRising w.store.states items → front ≡ magic ++ table t → slice ≡ front → AppendsBeginning a b slice → IsWrittenInPart c w t a b
+  pub written_front : (a b : Option (List ℕ)) (front slice items : List ℕ) → IsRising w.store.states items → front ≡ magic (grain_of w.ground) ++ table_of (grain_of w.ground) t → slice ≡ front → AppendsBeginning a b slice → IsWrittenInPart c w t a b
   written_front a b front slice items rising is same out = record {
     numbers = items;
     rising = rising;
     front = [];
     begun = Nothing (all_of items);
     appended =
-        beginning_behind a a b (magic ++ (table t ++ [])) [] slice [] (sym (append_assoc magic (table t) []) ∙ ap (λ (l : List ℕ). l ++ []) (sym (same ∙ is))) (Appends-nil a) out;
+        beginning_behind a a b (magic (grain_of w.ground) ++ (table_of (grain_of w.ground) t ++ [])) [] slice [] (sym (append_assoc (magic (grain_of w.ground)) (table_of (grain_of w.ground) t) []) ∙ ap (λ (l : List ℕ). l ++ []) (sym (same ∙ is))) (Appends-nil a) out;
   }
 
-  pub written_part : (a b d : Option (List ℕ)) (front slice items ns : List ℕ) → IsRising w.store.states items → front ≡ magic ++ table t → slice ≡ front → ns ≡ items → Appends a b slice
+  pub written_part : (a b d : Option (List ℕ)) (front slice items ns : List ℕ) → IsRising w.store.states items → front ≡ magic (grain_of w.ground) ++ table_of (grain_of w.ground) t → slice ≡ front → ns ≡ items → Appends a b slice
       → IsPutInPart (all_of ns) b d → IsWrittenInPart c w t a d
   written_part a b d front slice items ns rising is same these out part = record {
     numbers = ns;
@@ -152,6 +159,6 @@ module _ (c : Client) (w : Worked) (t : Table) where
     front = part.front;
     begun = part.begun;
     appended =
-        beginning_behind a b d (magic ++ (table t ++ part.front)) slice part.front []
-        (sym (append_assoc magic (table t) part.front) ∙ ap (λ (l : List ℕ). l ++ part.front) (sym (same ∙ is)) ∙ ap (λ (l : List ℕ). slice ++ l) (sym (append-nil part.front))) out part.appended;
+        beginning_behind a b d (magic (grain_of w.ground) ++ (table_of (grain_of w.ground) t ++ part.front)) slice part.front []
+        (sym (append_assoc (magic (grain_of w.ground)) (table_of (grain_of w.ground) t) part.front) ∙ ap (λ (l : List ℕ). l ++ part.front) (sym (same ∙ is)) ∙ ap (λ (l : List ℕ). slice ++ l) (sym (append-nil part.front))) out part.appended;
   }

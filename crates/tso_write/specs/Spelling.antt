@@ -4,6 +4,8 @@ use Rattle.std.specs.List.{flat_map}
 use Rattle.std.specs.Prelude.{◌≡◌, ℕ, List, [], ◌∷◌, ◌++◌, get_or, Option, Some, slice_get, take}
 use Rattle.tso_cert.specs.Trees.{Tree, spelling_of}
 use Rattle.tso_code.specs.States.{state}
+use Rattle.tso_rec.specs.declared.basis.Grain.{Grain}
+use Rattle.tso_search.specs.Grounds.{grain_of}
 use Rattle.tso_write.specs.Cutting.{AreRecordsOf, IsRecordOf}
 use Rattle.tso_write.specs.Tasks.{AreHalvesCut, CanBeCut, IsCutOf, Numbered, uncut}
 use Rattle.tso_list.specs.Beginnings.{AppendsBeginning}
@@ -19,10 +21,10 @@ use Rattle.tso_state.specs.declared.state.State.{State}
 -- begins so, or whose left half is whole and whose right half begins so.
 pub data IsFront : Numbered → List ℕ → Type 0 where
   Nothing : (u : Numbered) → IsFront u []
-  Whole : (u : Numbered) (tree : Tree) → IsCutOf u tree → IsFront u (spelling_of tree)
+  Whole : (u : Numbered) (tree : Tree) → IsCutOf u tree → IsFront u (spelling_of (grain_of u.ground) tree)
   InLeft : (u left right : Numbered) (front : List ℕ) → AreHalvesCut u left right → IsFront left front → IsFront u (1 ∷ front)
   InRight : (u left right : Numbered) (tree : Tree) (s : State) (front : List ℕ) → AreHalvesCut u left right → IsCutOf left tree
-      → slice_get u.states (get_or right.numbers 0 0) ≡ Some s → IsFront right front → IsFront u (1 ∷ (spelling_of tree ++ (state s ++ front)))
+      → slice_get u.states (get_or right.numbers 0 0) ≡ Some s → IsFront right front → IsFront u (1 ∷ (spelling_of (grain_of u.ground) tree ++ (state s ++ front)))
 
 -- ---- bytes
 
@@ -30,13 +32,13 @@ pub data IsFront : Numbered → List ℕ → Type 0 where
 pub record IsSpelledBehind (u : Numbered) (old new : List ℕ) : Type 0 where
   pub tree : Tree
   pub cut : IsCutOf u tree
-  pub spelled : new ≡ old ++ spelling_of tree
+  pub spelled : new ≡ old ++ spelling_of (grain_of u.ground) tree
 
 -- these bytes are such a spelling
 pub record IsSpelledCut (u : Numbered) (bytes : List ℕ) : Type 0 where
   pub tree : Tree
   pub cut : IsCutOf u tree
-  pub spelled : bytes ≡ spelling_of tree
+  pub spelled : bytes ≡ spelling_of (grain_of u.ground) tree
 
 -- the spelling of the state with this number stands behind bytes
 pub record IsStateBehind (states : List State) (n : ℕ) (old new : List ℕ) : Type 0 where
@@ -45,22 +47,22 @@ pub record IsStateBehind (states : List State) (n : ℕ) (old new : List ℕ) : 
   pub is : new ≡ old ++ state spelled
 
 -- the spelling of the record of the state with this number and this end stands behind bytes
-pub record IsEndedBehind (states : List State) (n : ℕ) (e : End) (old new : List ℕ) : Type 0 where
+pub record IsEndedBehind (g : Grain) (states : List State) (n : ℕ) (e : End) (old new : List ℕ) : Type 0 where
   pub spelled : State
   pub at : slice_get states n ≡ Some spelled
-  pub is : new ≡ old ++ a_record (record { state = spelled; end = e })
+  pub is : new ≡ old ++ a_record g (record { state = spelled; end = e })
 
 -- the spelling of a valid record of the state with this number stands behind bytes
 pub record IsRecordBehind (u : Numbered) (n : ℕ) (old new : List ℕ) : Type 0 where
   pub spelled : Record
-  pub valid : IsRecordOf u.client u.table u.states n spelled
-  pub is : new ≡ old ++ a_record spelled
+  pub valid : IsRecordOf u.client u.ground u.states n spelled
+  pub is : new ≡ old ++ a_record (grain_of u.ground) spelled
 
 -- the spellings of the records of the first k of these states stand behind bytes
 pub record AreSpelledBehind (u : Numbered) (k : ℕ) (old new : List ℕ) : Type 0 where
   pub records : List Record
-  pub are : AreRecordsOf u.client u.table u.states (take k u.numbers) records
-  pub is : new ≡ old ++ flat_map a_record records
+  pub are : AreRecordsOf u.client u.ground u.states (take k u.numbers) records
+  pub is : new ≡ old ++ flat_map (a_record (grain_of u.ground)) records
 
 -- ---- writers
 
@@ -68,7 +70,7 @@ pub record AreSpelledBehind (u : Numbered) (k : ℕ) (old new : List ℕ) : Type
 pub record IsPut (u : Numbered) (old new : Option (List ℕ)) : Type 0 where
   pub tree : Tree
   pub cut : IsCutOf u tree
-  pub appended : Appends old new (spelling_of tree)
+  pub appended : Appends old new (spelling_of (grain_of u.ground) tree)
 
 -- they grow by a beginning of one, as far as it was made
 pub record IsPutInPart (u : Numbered) (old new : Option (List ℕ)) : Type 0 where
@@ -88,7 +90,7 @@ pub record CanBeSpelled (u : Numbered) (kept : Client) (spelled : List State) : 
 
 -- some of the states that threads spell for one another, without their numbers
 abbrev pub AreOf : Option Numbered → Numbered → Type 0
-AreOf source u = source ≡ Some (uncut u.client u.table u.states [])
+AreOf source u = source ≡ Some (uncut u.client u.ground u.states [])
 
 -- a slab of them
 pub record IsSlab (source : Option Numbered) (u : Numbered) (kept : Client) (spelled : List State) : Type 0 where

@@ -2,6 +2,7 @@
 ghost use Rattle.std.specs.List.{flat_map};
 ghost use Rattle.std.specs.Prelude.{◌≡◌, ◌<◌, ◌≤◌, ◌++◌, ℕ, List, IfOk, OnOk, Some, length, map, slice_get};
 ghost use Rattle.tso_code.specs.Numbers.{number as spelled_number};
+ghost use Rattle.tso_rec.specs.Spelling.{ending};
 ghost use Rattle.tso_write.specs.Spelling.{IsEndedBehind, IsStateBehind};
 ghost use Rattle.tso_prog.specs.declared.client.Client.{Client as ClientValue};
 ghost use Rattle.tso_keys.specs.Keys.{AreKept, states_at};
@@ -15,7 +16,7 @@ use tso_code::{Code, write_number};
 use tso_keys::{Key, Parts};
 use tso_list::Paths;
 use tso_parts::Pool;
-use tso_rec::End;
+use tso_rec::{End, Grain};
 use tso_store::Store;
 
 /// The spelling of each part of kept states, made once: that of a state is copied from here by the numbers of its parts, by as many
@@ -134,6 +135,19 @@ fn spelled_by<R: Threads + Sync, T: Code + Sync>(
     ensures { IfOk result (λ all. all ≡ map T.spell values.now) }
 {
     run_by(rt, &Unwritten { alloc, values }, workers)
+}
+
+// Puts the spelling of an end at the end: at a crossing that of its choices is one byte.
+fn put_end(grain: Grain, end: &End, out: &mut Vec<u8>) -> Result<(), AllocError>
+    ensures { OnOk result (out.new.items ≡ out.old.items ++ ending grain end.now) }
+{
+    match (grain, end) {
+        (Grain::Crossings, End::Choices(_)) => {
+            out.push(0)?;
+            Ok(())
+        }
+        _ => end.write(out),
+    }
 }
 
 // Puts the spelling with this number at the end, if there are so many.
@@ -270,12 +284,17 @@ impl<'a> Speller<'a> {
     /// Puts the spelling of the record of state `number` with this end at the end.
     ///
     /// Errors: where a growth was refused.
-    pub fn put_record(&self, number: u32, end: &End, out: &mut Vec<u8>) -> Result<(), AllocError>
+    pub fn put_record(
+        &self,
+        grain: Grain,
+        number: u32,
+        end: &End,
+        out: &mut Vec<u8>,
+    ) -> Result<(), AllocError>
         requires { number < length self.now }
-        ensures { OnOk result (IsEndedBehind self.now number end.now out.old.items out.new.items) }
+        ensures { OnOk result (IsEndedBehind grain self.now number end.now out.old.items out.new.items) }
     {
         self.put_state(number, out)?;
-        end.write(out)?;
-        Ok(())
+        put_end(grain, end, out)
     }
 }

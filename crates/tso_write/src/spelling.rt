@@ -5,7 +5,7 @@ ghost use Rattle.tso_write.specs.Spelling.{AreSpelledBehind, CanBeSpelled, IsRec
 ghost use Rattle.tso_write.specs.Cutting.{AreNumbers, AreRising};
 ghost use Rattle.tso_write.specs.Tasks.{AreHalvesCut, uncut};
 ghost use Rattle.tso_write.specs.Unspelled.{numbers_of};
-ghost use Rattle.tso_foot.specs.Closed.{IsClosed};
+ghost use Rattle.tso_search.specs.Grounds.{IsGround};
 ghost use Rattle.tso_search.specs.Searched.{AreSearched};
 
 use crate::cutting::{LEAF, end_at};
@@ -13,28 +13,28 @@ use crate::speller::Speller;
 use std::alloc::{AllocError, Global};
 use tso_code::write_number;
 use tso_flow::Checked;
-use tso_foot::Table;
+use tso_search::Ground;
 use tso_store::Store;
 
 // Puts the record of a state at the end.
 fn put_record(
     alloc: Global,
     checked: &Checked,
-    table: &Table,
+    ground: &Ground,
     store: &Store<'_>,
     speller: &Speller<'_>,
     number: u32,
     out: &mut Vec<u8>,
 ) -> Result<(), AllocError>
     requires client { store.now.client ≡ checked.now.client }
-    requires searched { AreSearched checked.now.client table.now store.now.states }
-    requires closed { IsClosed checked.now.client table.now }
+    requires searched { AreSearched checked.now.client ground.now store.now.states }
+    requires closed { IsGround checked.now.client ground.now }
     requires same { speller.now ≡ store.now.states }
     requires there { number < length store.now.states }
-    ensures { OnOk result (IsRecordBehind (uncut checked.now.client table.now store.now.states []) number out.old.items out.new.items) }
+    ensures { OnOk result (IsRecordBehind (uncut checked.now.client ground.now store.now.states []) number out.old.items out.new.items) }
 {
-    let end = end_at(alloc, checked, table, store, number)?;
-    speller.put_record(number, &end, out)?;
+    let end = end_at(alloc, checked, ground, store, number)?;
+    speller.put_record(ground.grain(), number, &end, out)?;
     Ok(())
 }
 
@@ -42,21 +42,21 @@ fn put_record(
 fn put_records(
     alloc: Global,
     checked: &Checked,
-    table: &Table,
+    ground: &Ground,
     store: &Store<'_>,
     speller: &Speller<'_>,
     numbers: &[u32],
     out: &mut Vec<u8>,
 ) -> Result<(), AllocError>
     requires client { store.now.client ≡ checked.now.client }
-    requires searched { AreSearched checked.now.client table.now store.now.states }
-    requires closed { IsClosed checked.now.client table.now }
+    requires searched { AreSearched checked.now.client ground.now store.now.states }
+    requires closed { IsGround checked.now.client ground.now }
     requires same { speller.now ≡ store.now.states }
     requires numbers { AreNumbers store.now.states numbers.now }
-    ensures { OnOk result (AreSpelledBehind (uncut checked.now.client table.now store.now.states numbers.now) (length numbers.now) out.old.items out.new.items) }
+    ensures { OnOk result (AreSpelledBehind (uncut checked.now.client ground.now store.now.states numbers.now) (length numbers.now) out.old.items out.new.items) }
 {
     for number in numbers {
-        put_record(alloc, checked, table, store, speller, *number, out)?;
+        put_record(alloc, checked, ground, store, speller, *number, out)?;
     }
     Ok(())
 }
@@ -65,23 +65,23 @@ fn put_records(
 fn put_leaf(
     alloc: Global,
     checked: &Checked,
-    table: &Table,
+    ground: &Ground,
     store: &Store<'_>,
     speller: &Speller<'_>,
     numbers: &[u32],
     out: &mut Vec<u8>,
 ) -> Result<(), AllocError>
     requires client { store.now.client ≡ checked.now.client }
-    requires searched { AreSearched checked.now.client table.now store.now.states }
-    requires closed { IsClosed checked.now.client table.now }
+    requires searched { AreSearched checked.now.client ground.now store.now.states }
+    requires closed { IsGround checked.now.client ground.now }
     requires same { speller.now ≡ store.now.states }
     requires numbers { AreNumbers store.now.states numbers.now }
     requires few { length numbers.now ≤ 64 }
-    ensures { OnOk result (IsSpelledBehind (uncut checked.now.client table.now store.now.states numbers.now) out.old.items out.new.items) }
+    ensures { OnOk result (IsSpelledBehind (uncut checked.now.client ground.now store.now.states numbers.now) out.old.items out.new.items) }
 {
     out.push(0)?;
     write_number(numbers.len() as u64, out)?;
-    put_records(alloc, checked, table, store, speller, numbers, out)?;
+    put_records(alloc, checked, ground, store, speller, numbers, out)?;
     Ok(())
 }
 
@@ -89,29 +89,29 @@ fn put_leaf(
 fn put_tree(
     alloc: Global,
     checked: &Checked,
-    table: &Table,
+    ground: &Ground,
     store: &Store<'_>,
     speller: &Speller<'_>,
     numbers: &[u32],
     out: &mut Vec<u8>,
 ) -> Result<(), AllocError>
     requires client { store.now.client ≡ checked.now.client }
-    requires searched { AreSearched checked.now.client table.now store.now.states }
-    requires closed { IsClosed checked.now.client table.now }
+    requires searched { AreSearched checked.now.client ground.now store.now.states }
+    requires closed { IsGround checked.now.client ground.now }
     requires same { speller.now ≡ store.now.states }
     requires numbers { AreNumbers store.now.states numbers.now }
     requires rising { AreRising store.now.states numbers.now }
-    ensures { OnOk result (IsSpelledBehind (uncut checked.now.client table.now store.now.states numbers.now) out.old.items out.new.items) }
+    ensures { OnOk result (IsSpelledBehind (uncut checked.now.client ground.now store.now.states numbers.now) out.old.items out.new.items) }
 {
     if numbers.len() <= LEAF {
-        put_leaf(alloc, checked, table, store, speller, numbers, out)?;
+        put_leaf(alloc, checked, ground, store, speller, numbers, out)?;
         return Ok(());
     }
     let (low, high) = numbers.split_at(numbers.len() / 2);
     out.push(1)?;
-    put_tree(alloc, checked, table, store, speller, low, out)?;
+    put_tree(alloc, checked, ground, store, speller, low, out)?;
     speller.put_state(high[0], out)?;
-    put_tree(alloc, checked, table, store, speller, high, out)?;
+    put_tree(alloc, checked, ground, store, speller, high, out)?;
     Ok(())
 }
 
@@ -119,21 +119,21 @@ fn put_tree(
 fn spelled(
     alloc: Global,
     checked: &Checked,
-    table: &Table,
+    ground: &Ground,
     store: &Store<'_>,
     speller: &Speller<'_>,
     numbers: &[u32],
 ) -> Result<Vec<u8>, AllocError>
     requires client { store.now.client ≡ checked.now.client }
-    requires searched { AreSearched checked.now.client table.now store.now.states }
-    requires closed { IsClosed checked.now.client table.now }
+    requires searched { AreSearched checked.now.client ground.now store.now.states }
+    requires closed { IsGround checked.now.client ground.now }
     requires same { speller.now ≡ store.now.states }
     requires numbers { AreNumbers store.now.states numbers.now }
     requires rising { AreRising store.now.states numbers.now }
-    ensures { IfOk result (λ bytes. IsSpelledCut (uncut checked.now.client table.now store.now.states numbers.now) bytes.items) }
+    ensures { IfOk result (λ bytes. IsSpelledCut (uncut checked.now.client ground.now store.now.states numbers.now) bytes.items) }
 {
     let mut out = Vec::with_capacity(alloc, speller.room_for(numbers))?;
-    put_tree(alloc, checked, table, store, speller, numbers, &mut out)?;
+    put_tree(alloc, checked, ground, store, speller, numbers, &mut out)?;
     Ok(out)
 }
 
@@ -152,7 +152,7 @@ fn state_bytes(alloc: Global, speller: &Speller<'_>, number: u32) -> Result<Vec<
 pub struct Unspelled<'a> {
     pub alloc: Global,
     pub checked: &'a Checked,
-    pub table: &'a Table,
+    pub ground: &'a Ground,
     pub store: &'a Store<'a>,
     pub speller: &'a Speller<'a>,
     pub numbers: &'a [u32],
@@ -172,7 +172,7 @@ impl<'a> Unspelled<'a> {
         let left = Unspelled {
             alloc: self.alloc,
             checked: self.checked,
-            table: self.table,
+            ground: self.ground,
             store: self.store,
             speller: self.speller,
             numbers: low,
@@ -180,7 +180,7 @@ impl<'a> Unspelled<'a> {
         let right = Unspelled {
             alloc: self.alloc,
             checked: self.checked,
-            table: self.table,
+            ground: self.ground,
             store: self.store,
             speller: self.speller,
             numbers: high,
@@ -198,7 +198,7 @@ impl<'a> Unspelled<'a> {
         let bytes = spelled(
             self.alloc,
             self.checked,
-            self.table,
+            self.ground,
             self.store,
             self.speller,
             self.numbers,

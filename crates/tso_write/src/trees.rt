@@ -33,7 +33,7 @@ pub fn tree_for<R: Threads + Sync>(
         rt,
         alloc,
         checked,
-        &worked.table,
+        &worked.ground,
         &worked.store,
         numbers.as_slice(),
         workers.count(),

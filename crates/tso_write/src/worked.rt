@@ -2,13 +2,13 @@
 
 ghost use Rattle.std.specs.Prelude.{◌≡◌, length};
 
-use tso_foot::Table;
+use tso_search::Ground;
 use tso_store::Store;
 
-/// The states that a search met, all of them worked, and the table of footprints that it went by.
+/// The states that a search met, all of them worked, and by what it went on from them.
 #[derive(Drop)]
 pub struct Worked<'c> {
-    pub table: Table,
+    pub ground: Ground,
     pub store: Store<'c>,
 }
 

@@ -1,9 +1,7 @@
 //! Worked states that are written as a certificate, before there is a tree of their records.
 
 ghost use Rattle.std.specs.Io.KnownBytes.{Appends};
-ghost use Rattle.std.specs.Prelude.{◌≡◌, ◌++◌, IfOk, OnErr, OnOk};
-ghost use Rattle.tso_cert.specs.Certificates.{magic};
-ghost use Rattle.tso_code.specs.Tables.{table as spelled_table};
+ghost use Rattle.std.specs.Prelude.{◌≡◌, OnErr, OnOk};
 ghost use Rattle.tso_write.specs.Spelling.{AreOf, CanBeSpelled, IsPut, IsPutInPart};
 ghost use Rattle.tso_write.specs.Tasks.{uncut};
 ghost use Rattle.tso_write.specs.Unspelled.{numbers_of};
@@ -25,8 +23,7 @@ use std::io::Write;
 use std::marker::Brand;
 use std::sync::{Condvar, Mutex, Wait};
 use std::thread::Threads;
-use tso_cert::{MAGIC, Workers, WriteError};
-use tso_code::Code;
+use tso_cert::{Workers, WriteError, front_of};
 use tso_flow::Checked;
 use tso_foot::Table;
 use tso_judge::certificates_fit;
@@ -37,15 +34,6 @@ const SLAB: usize = 1024;
 
 // As many one of several threads spells while those before them are written.
 const SHARED_SLAB: usize = 4096;
-
-// The front of a certificate, before its tree.
-fn front_of(alloc: Global, table: &Table) -> Result<Vec<u8>, AllocError>
-    ensures { IfOk result (λ front. front.items ≡ magic ++ spelled_table table.now) }
-{
-    let mut front = Vec::from_slice(alloc, &MAGIC)?;
-    table.write(&mut front)?;
-    Ok(front)
-}
 
 // Writes these bytes.
 fn put_bytes<W: Write>(bytes: &[u8], out: &mut W) -> Result<(), WriteError>
@@ -207,15 +195,15 @@ fn put_worked<R: Threads + Wait + Sync, W: Write>(
 ) -> Result<(), WriteError>
     requires worked { AreWorkedOut checked.now.client worked.now }
     requires rising { IsRising worked.now.store.states numbers.now }
-    ensures ok { OnOk result (IsPut (uncut checked.now.client worked.now.table worked.now.store.states numbers.now) (W.contents out.old) (W.contents out.new)) }
-    ensures err { OnErr result (IsPutInPart (uncut checked.now.client worked.now.table worked.now.store.states numbers.now) (W.contents out.old) (W.contents out.new)) }
+    ensures ok { OnOk result (IsPut (uncut checked.now.client worked.now.ground worked.now.store.states numbers.now) (W.contents out.old) (W.contents out.new)) }
+    ensures err { OnErr result (IsPutInPart (uncut checked.now.client worked.now.ground worked.now.store.states numbers.now) (W.contents out.old) (W.contents out.new)) }
 {
     worked.store.states_differ();
     let speller = Speller::new(rt, alloc, &worked.store, workers.count())?;
     let whole = Unspelled {
         alloc,
         checked,
-        table: &worked.table,
+        ground: &worked.ground,
         store: &worked.store,
         speller: &speller,
         numbers,
@@ -247,7 +235,7 @@ pub fn write<R: Threads + Wait + Sync, W: Write>(
 {
     worked.store.states_differ();
     certificates_fit(checked);
-    let front = front_of(alloc, table)?;
+    let front = front_of(alloc, worked.ground.grain(), table)?;
     let numbers = rising_by(rt, alloc, &worked.store, workers.count())?;
     put_bytes(front.as_slice(), out)?;
     let rising = numbers.as_slice();

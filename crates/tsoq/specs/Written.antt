@@ -11,10 +11,16 @@ use Rattle.tso_foot.specs.declared.table.Table.TheVariants as tables
 use Rattle.tso_front.specs.declared.failure.Failure.{Failure}
 use Rattle.tso_judge.specs.Valid.{IsValidCertificate, IsValidTree}
 use Rattle.tso_prog.specs.declared.client.Client.{Client}
+use Rattle.tso_rec.specs.Bases.{basis}
+use Rattle.tso_rec.specs.declared.basis.Grain.{Grain}
+use Rattle.tso_rec.specs.declared.basis.Grain.TheVariants as grains
 use Rattle.tso_replay.specs.declared.report.Report.{Report}
 use Rattle.tso_replay.specs.declared.report.Report.TheVariants.{Certified, Violated}
 use Rattle.tso_request.specs.declared.form.Form.{Form}
-use Rattle.tso_request.specs.declared.form.Form.TheVariants.{Arrays, Intervals}
+use Rattle.tso_request.specs.declared.form.Form.TheVariants.{Arrays, Intervals, Crossings}
+use Rattle.tso_search.specs.Grounds.{grain_of}
+use Rattle.tso_search.specs.declared.ground.Ground.{Ground}
+use Rattle.tso_search.specs.declared.ground.Ground.TheVariants as grounds
 use Rattle.tso_trace.specs.Grammar.{trace_text}
 use Rattle.tso_trace.specs.declared.trace.Trace.{Trace}
 use Rattle.tsoq.specs.Reports.{IsOfRecords}
@@ -50,20 +56,33 @@ IsTableOf Arrays (tables.Arrays t) = Unit {0}
 IsTableOf Arrays (tables.Intervals t) = ⊥
 IsTableOf Intervals (tables.Arrays t) = ⊥
 IsTableOf Intervals (tables.Intervals t) = Unit {0}
+IsTableOf Crossings (tables.Arrays t) = ⊥
+IsTableOf Crossings (tables.Intervals t) = Unit {0}
+
+-- how far apart the records of such a certificate lie
+abbrev pub grain_of_form : Form → Grain
+grain_of_form Arrays = grains.Steps
+grain_of_form Intervals = grains.Steps
+grain_of_form Crossings = grains.Crossings
+
+-- the form in which what a search found is written with the table of the search
+abbrev pub own_form : Ground → Form
+own_form (grounds.Steps t) = Arrays
+own_form (grounds.Crossings own t) = Crossings
 
 -- a table of this form and a tree that are valid for the client, within the limits, with each number in its range: their spelling is a valid
 -- certificate of it
 pub record IsWritable (form : Form) (c : Client) (t : Table) (tree : Tree) : Type 0 where
   pub formed : IsTableOf form t
-  pub valid : IsValidTree c t tree
-  pub fits : Fits t tree
+  pub valid : IsValidTree c (basis (grain_of_form form) t) tree
+  pub fits : Fits (basis (grain_of_form form) t) tree
   pub within : IsWithinLimits tree
 
 -- the bytes spell the tree with such a table
 pub record IsSpelledWith (form : Form) (c : Client) (tree : Tree) (bytes : List ℕ) : Type 0 where
   pub table : Table
   pub writable : IsWritable form c table tree
-  pub spelled : bytes ≡ certificate table tree
+  pub spelled : bytes ≡ certificate (basis (grain_of_form form) table) tree
 
 -- a file, if there is one, has taken such bytes, and no others
 abbrev pub HasTakenTree : Form → Client → Tree → Option Taken → Type 0
@@ -76,7 +95,7 @@ HasTakenTree form c tree (Some taken) = IsSpelledWith form c tree taken.which.nu
 pub record IsSpelledOf (c : Client) (w : Worked) (t : Table) (bytes : List ℕ) : Type 0 where
   pub tree : Tree
   pub made : IsTreeOf c w tree
-  pub spelled : bytes ≡ certificate t tree
+  pub spelled : bytes ≡ certificate (basis (grain_of w.ground) t) tree
 
 -- each such tree can be written with this table, one of this form
 abbrev pub IsTableFor : Form → Client → Worked → Table → Type 0
@@ -98,20 +117,21 @@ pub record HasTakenFrom (form : Form) (c : Client) (w : Worked) (o : Option Take
 -- tree, and no others
 pub record IsAllGood (form : Form) (c : Client) (r : Report) (o : Option Taken) : Type 0 where
   pub limit : ℕ
-  pub table : Table
+  pub ground : Ground
   pub tree : Tree
-  pub good : IsCertificate c limit table tree
+  pub good : IsCertificate c limit ground tree
   pub records : IsOfRecords (record_count tree) r
   pub taken : HasTakenTree form c tree o
 
 -- ---- files of certificates
 
--- the text denotes a client of which these bytes are a valid certificate, with a table of this form
+-- the text denotes a client of which these bytes are a valid certificate of this form
 pub record AreCertificate (form : Form) (text bytes : List ℕ) : Type 0 where
   pub searched : Client
   pub denotes : DenotesChecked text searched
   pub valid : IsValidCertificate searched bytes
-  pub formed : IsTableOf form valid.table
+  pub formed : IsTableOf form valid.basis.table
+  pub grain : valid.basis.grain ≡ grain_of_form form
 
 abbrev pub IsCertificateOf : Form → List ℕ → Option Taken → Type 0
 IsCertificateOf form text None = Unit {0}

@@ -6,7 +6,7 @@ use std::sync::Wait;
 use std::thread::Threads;
 use tso_fences::{Wrong, fences};
 use tso_front::{Failure, Session};
-use tso_request::FenceSearch;
+use tso_request::{FenceSearch, Form};
 
 // Says in words why a run of a client is not good with the text as it stands.
 fn tell_wrong<R: Threads + Wait + Sync, S: Session>(
@@ -43,6 +43,7 @@ pub fn run_fences<R: Threads + Wait + Sync, S: Session>(
         limit: asked.limit,
         folder: None,
         counts: false,
+        form: Form::Crossings,
     };
     let fenced = fences(rt, &searcher, session, text, &asked.fences)?;
     if let (true, Some(wrong)) = (verbose, &fenced.wrong) {

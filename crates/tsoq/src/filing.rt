@@ -4,6 +4,7 @@ ghost use Rattle.std.specs.Io.Buffered.{writer_buffer, writer_inner};
 ghost use Rattle.std.specs.Prelude.{◌≡◌, ◌++◌, IfOk};
 ghost use Rattle.tso_cert.specs.Certificates.{certificate};
 ghost use Rattle.tso_cert.specs.Trees.{tree_of};
+ghost use Rattle.tso_rec.specs.Bases.{by_steps};
 ghost use Rattle.tso_write.specs.Worked.{AreWorkedOut};
 ghost use Rattle.tso_trace.specs.Grammar.{trace_text};
 ghost use Rattle.tsoq.specs.Written.{IsSpelledOf};
@@ -19,6 +20,7 @@ use tso_flow::Checked;
 use tso_foot::Table;
 use tso_front::{Draft, Failure, Files, Opened, cannot_write};
 use tso_list::write_bytes;
+use tso_rec::Grain;
 use tso_trace::Trace;
 use tso_write::Worked;
 
@@ -41,10 +43,10 @@ fn put_bytes<W: Write + Drop>(
     cert: &Cert,
     out: W,
 ) -> Result<Taken, WriteError>
-    ensures { IfOk result (λ taken. taken.which.numbers ≡ certificate table.now (tree_of cert.now)) }
+    ensures { IfOk result (λ taken. taken.which.numbers ≡ certificate (by_steps table.now) (tree_of cert.now)) }
 {
     let mut out = Counted::new(out);
-    tso_cert::write(alloc, table, cert, &mut out)?;
+    tso_cert::write(alloc, Grain::Steps, table, cert, &mut out)?;
     match out.flush() {
         Ok(()) => Ok(out.taken()),
         Err(error) => Err(WriteError::Io(error)),
@@ -111,7 +113,7 @@ fn put_certificate<W: Write + Drop>(
     table: &Table,
     cert: &Cert,
 ) -> Result<Taken, Failure>
-    ensures { IfOk result (λ taken. taken.which.numbers ≡ certificate table.now (tree_of cert.now)) }
+    ensures { IfOk result (λ taken. taken.which.numbers ≡ certificate (by_steps table.now) (tree_of cert.now)) }
 {
     match put_bytes(alloc, table, cert, file) {
         Ok(taken) => Ok(taken),
@@ -181,7 +183,7 @@ pub fn file_certificate<F: Files>(
     table: &Table,
     cert: &Cert,
 ) -> Result<Taken, Failure>
-    ensures { IfOk result (λ taken. taken.which.numbers ≡ certificate table.now (tree_of cert.now)) }
+    ensures { IfOk result (λ taken. taken.which.numbers ≡ certificate (by_steps table.now) (tree_of cert.now)) }
 {
     let Opened { draft, file } = Draft::open(alloc, files, path)?;
     let written = put_certificate(alloc, &draft, file, table, cert);

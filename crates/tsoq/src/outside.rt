@@ -124,7 +124,7 @@ fn record_outside(table: &Table, cert: &Cert, number: u64) -> Result<Option<Outs
 /// Errors: where a growth was refused.
 pub fn outside_at(alloc: Global, cert: &[u8], number: u64) -> Result<Option<Outside>, AllocError> {
     match decode(alloc, cert) {
-        Ok((table, cert)) => record_outside(&table, &cert, number),
+        Ok((basis, cert)) => record_outside(&basis.table, &cert, number),
         Err(_) => Ok(None),
     }
 }

@@ -14,6 +14,7 @@ use tso_front::{Failure, STREAM, Session, Variant, fault_of};
 use tso_judge::Code;
 use tso_machine::{Label, LabelKind, calls_of};
 use tso_prog::{Client, Fault};
+use tso_rec::Grain;
 use tso_replay::{Texts, tell_cause};
 use tso_request::{Asked, MOST_STATES, StateLimit};
 use tso_say::{Page, put_hidden, put_meaning, put_program, put_trace};
@@ -238,7 +239,15 @@ fn tell_searched<R: Threads + Wait + Sync, S: Session>(
     let Some(one) = Workers::new(1) else {
         return;
     };
-    let outcome = explore(rt, session.alloc(), checked, one, limit.count(), &NoWatch);
+    let outcome = explore(
+        rt,
+        session.alloc(),
+        checked,
+        Grain::Steps,
+        one,
+        limit.count(),
+        &NoWatch,
+    );
     tell_outcome(session, &outcome);
     drop(outcome);
 }

@@ -5,18 +5,21 @@ ghost use Rattle.std.specs.Thread.{IsSync};
 ghost use Rattle.tso_cert.specs.Trees.{record_count, tree_of};
 ghost use Rattle.tso_client.specs.Headline.{DenotesChecked, EachRunIsGood};
 
+use crate::verify::grain_of_form;
 use std::alloc::Global;
 use std::sync::Wait;
 use std::sync::atomic::{AtomicUsize, Ordering};
 use std::thread;
 use std::thread::Threads;
-use tso_cert::{Cert, NoWatch, Workers, encode};
+use tso_cert::{Cert, NoWatch, Workers, build_intervals, encode};
 use tso_client::checked_of;
 use tso_explore::{Outcome, explore};
 use tso_flow::Checked;
 use tso_foot::Table;
 use tso_front::Failure;
-use tso_request::StateLimit;
+use tso_rec::Grain;
+use tso_request::{Form, StateLimit};
+use tso_search::Ground;
 use tso_survey::{Accepted, Decided, Finding, Shown};
 use tso_trace::Trace;
 use tso_verdict::Facts;
@@ -35,6 +38,7 @@ pub struct Round<'a> {
     pub writes: bool,
     /// Whether it is counted what the records of certificates show.
     pub counts: bool,
+    pub form: Form,
 }
 
 /// What is made of what is found of a client.
@@ -45,6 +49,8 @@ pub struct Wanted {
     pub writes: bool,
     /// Whether it is counted what the records of a certificate show.
     pub counts: bool,
+    /// Which kind of certificate is searched for.
+    pub form: Form,
 }
 
 /// What is found of the client with this number.
@@ -54,18 +60,30 @@ pub struct Done {
     pub finding: Finding,
 }
 
+// A certificate with a table of intervals that hold all registers of its records.
+fn with_intervals(alloc: Global, checked: &Checked, cert: &Cert) -> Result<Vec<u8>, Failure> {
+    let table = Table::Intervals(build_intervals(alloc, checked, cert)?);
+    let bytes = encode(alloc, Grain::Steps, &table, cert);
+    drop(table);
+    Ok(bytes?)
+}
+
 // The bytes of a certificate, if they are to be written.
 fn spelled(
     alloc: Global,
-    table: &Table,
+    checked: &Checked,
+    ground: &Ground,
     cert: &Cert,
-    writes: bool,
+    wanted: Wanted,
 ) -> Result<Option<Vec<u8>>, Failure> {
-    if writes {
-        Ok(Some(encode(alloc, table, cert)?))
-    } else {
-        Ok(None)
+    if !wanted.writes {
+        return Ok(None);
     }
+    let bytes = match wanted.form {
+        Form::Intervals => with_intervals(alloc, checked, cert)?,
+        Form::Arrays | Form::Crossings => encode(alloc, ground.grain(), ground.table(), cert)?,
+    };
+    Ok(Some(bytes))
 }
 
 // What the records of a certificate show, if that is counted.
@@ -87,12 +105,12 @@ fn shown(
 fn made_of(
     alloc: Global,
     checked: &Checked,
-    table: &Table,
+    ground: &Ground,
     cert: &Cert,
     wanted: Wanted,
 ) -> Result<(Option<Vec<u8>>, Option<Shown>), Failure> {
     let shown = shown(alloc, checked, cert, wanted.counts)?;
-    match spelled(alloc, table, cert, wanted.writes) {
+    match spelled(alloc, checked, ground, cert, wanted) {
         Ok(bytes) => Ok((bytes, shown)),
         Err(failure) => {
             drop(shown);
@@ -106,7 +124,7 @@ fn certified(
     alloc: Global,
     text: &[u8],
     checked: Checked,
-    table: &Table,
+    ground: &Ground,
     cert: &Cert,
     wanted: Wanted,
 ) -> Result<Finding, Failure>
@@ -114,7 +132,7 @@ fn certified(
     requires good { EachRunIsGood checked.client }
     requires few { record_count (tree_of cert.now) ≤ 4194304 }
 {
-    let (bytes, shown) = match made_of(alloc, &checked, table, cert, wanted) {
+    let (bytes, shown) = match made_of(alloc, &checked, ground, cert, wanted) {
         Ok(made) => made,
         Err(failure) => {
             drop(checked);
@@ -187,11 +205,19 @@ pub fn found_of<R: Threads + Wait + Sync>(
     wanted: Wanted,
 ) -> Result<Finding, Failure> {
     let checked = checked_of(alloc, text)?;
-    match explore(rt, alloc, &checked, alone(), wanted.limit.count(), &NoWatch) {
-        Outcome::Certificate(table, cert) => {
-            let found = certified(alloc, text, checked, &table, &cert, wanted);
+    match explore(
+        rt,
+        alloc,
+        &checked,
+        grain_of_form(wanted.form),
+        alone(),
+        wanted.limit.count(),
+        &NoWatch,
+    ) {
+        Outcome::Certificate(ground, cert) => {
+            let found = certified(alloc, text, checked, &ground, &cert, wanted);
             drop(cert);
-            drop(table);
+            drop(ground);
             found
         }
         Outcome::Trace(trace) => {
@@ -217,6 +243,7 @@ fn work<R: Threads + Wait + Sync>(rt: &R, round: &Round<'_>) -> Result<Vec<Done>
         limit: round.limit,
         writes: round.writes,
         counts: round.counts,
+        form: round.form,
     };
     let mut done = Vec::new(round.alloc);
     for _ in 0..round.numbers.len() {

@@ -8,7 +8,7 @@ use std::sync::atomic::AtomicUsize;
 use std::thread::Threads;
 use tso_cert::Workers;
 use tso_front::{Failure, Session};
-use tso_request::{StateLimit, Survey};
+use tso_request::{Form, StateLimit, Survey};
 use tso_survey::{Calls, Conclusion, Finder, Finding, listed, survey};
 use tso_verdict::Collector;
 
@@ -24,6 +24,7 @@ pub struct Searcher<'a> {
     pub folder: Option<&'a str>,
     /// Whether it is counted what the records of certificates show.
     pub counts: bool,
+    pub form: Form,
 }
 
 // Puts what is found of the clients of these numbers, of which each that has nothing yet has one, where it belongs.
@@ -103,6 +104,7 @@ impl<'a> Searcher<'a> {
             limit: self.limit,
             writes: self.folder.is_some(),
             counts: self.counts,
+            form: self.form,
         };
         work_by(rt, &round, self.workers.count())
     }
@@ -153,6 +155,7 @@ fn surveyed<R: Threads + Wait + Sync, S: Session>(
                 limit: asked.limit,
                 folder: asked.asking.out,
                 counts: asked.asking.counts,
+                form: asked.form,
             };
             survey(rt, &searcher, session, base, &asked.asking)
         }

@@ -7,7 +7,9 @@ ghost use Rattle.tso_replay.specs.Statuses.{status_of_search};
 ghost use Rattle.tso_trace.specs.Grammar.{trace_text};
 ghost use Rattle.tso_trace.specs.Runs.{first_fault, violation_of};
 ghost use Rattle.tsoq.specs.Reports.{IsOfLabels, IsOfRecords, IsReport, IsTold};
-ghost use Rattle.tsoq.specs.Written.{HasTaken, HasTakenFrom, HasTakenTree, IsAllGood, IsAsked, IsAskedFor, IsFiled, IsSpelledFrom, IsSpelledWith, IsTableFor, IsWritable, bytes_of, count_of};
+ghost use Rattle.tsoq.specs.Written.{HasTaken, HasTakenFrom, HasTakenTree, IsAllGood, IsAsked, IsAskedFor, IsFiled, IsSpelledFrom, IsSpelledWith, IsTableFor, IsWritable, bytes_of, count_of, grain_of_form, own_form};
+ghost use Rattle.tso_rec.specs.declared.basis.Grain.TheVariants as grains;
+ghost use Rattle.tso_search.specs.Grounds.{grain_of};
 
 use crate::counted::Taken;
 use crate::filing::{file_certificate, file_trace, file_worked};
@@ -21,8 +23,10 @@ use tso_explore::{Finding, find};
 use tso_flow::Checked;
 use tso_foot::Table;
 use tso_front::{Failure, Files};
+use tso_rec::Grain;
 use tso_replay::{Listener, Progress, Report};
 use tso_request::{Form, Search};
+use tso_search::Ground;
 use tso_trace::Trace;
 use tso_verdict::{Facts, told};
 use tso_write::{Worked, has_tree, intervals_for, tree_for};
@@ -74,6 +78,16 @@ fn count_of(taken: &Option<Taken>) -> Option<u64>
     match taken {
         Some(taken) => Some(taken.bytes()),
         None => None,
+    }
+}
+
+/// How far apart the records of such a certificate lie.
+pub fn grain_of_form(form: Form) -> Grain
+    ensures { result ≡ grain_of_form form }
+{
+    match form {
+        Form::Arrays | Form::Intervals => Grain::Steps,
+        Form::Crossings => Grain::Crossings,
     }
 }
 
@@ -135,12 +149,14 @@ fn file_in_form<F: Files>(
     table: &Table,
     cert: &Cert,
 ) -> Result<Taken, Failure>
-    requires { IsWritable Form.Arrays checked.now.client table.now (tree_of cert.now) }
+    requires steps { grain_of_form form ≡ grains.Steps }
+    requires writable { IsWritable Form.Arrays checked.now.client table.now (tree_of cert.now) }
     ensures { IfOk result (λ taken. IsSpelledWith form checked.now.client (tree_of cert.now) taken.which.numbers) }
 {
     match form {
         Form::Arrays => file_searched(alloc, files, path, checked, table, cert),
         Form::Intervals => file_anew(alloc, files, path, checked, table, cert),
+        Form::Crossings => unreachable!(),
     }
 }
 
@@ -154,7 +170,8 @@ fn write_certificate<F: Files>(
     table: &Table,
     cert: &Cert,
 ) -> Result<Option<Taken>, Failure>
-    requires { IsWritable Form.Arrays checked.now.client table.now (tree_of cert.now) }
+    requires steps { grain_of_form form ≡ grains.Steps }
+    requires writable { IsWritable Form.Arrays checked.now.client table.now (tree_of cert.now) }
     ensures taken { IfOk result (HasTakenTree form checked.now.client (tree_of cert.now)) }
     ensures asked { IfOk result (λ taken. IsAsked (is_some path.entry) taken None) }
 {
@@ -175,6 +192,7 @@ fn certified<F: Files>(
     table: &Table,
     cert: &Cert,
 ) -> Result<Certification, Failure>
+    requires steps { grain_of_form form ≡ grains.Steps }
     requires writable { IsWritable Form.Arrays checked.now.client table.now (tree_of cert.now) }
     requires few { record_count (tree_of cert.now) ≤ 4194304 }
     ensures records { IfOk result (λ made. IsOfRecords (record_count (tree_of cert.now)) made.report) }
@@ -268,6 +286,7 @@ fn certified_last<F: Files>(
     table: &Table,
     cert: Cert,
 ) -> Result<Certification, Failure>
+    requires steps { grain_of_form form ≡ grains.Steps }
     requires writable { IsWritable Form.Arrays checked.now.client table.now (tree_of cert) }
     requires few { record_count (tree_of cert) ≤ 4194304 }
     ensures records { IfOk result (λ made. IsOfRecords (record_count (tree_of cert)) made.report) }
@@ -293,6 +312,7 @@ fn intervals_with(
     worked: &Worked<'_>,
 ) -> Result<Table, AllocError>
     requires worked { AreWorkedOut checked.now.client worked.now }
+    requires steps { own_form worked.now.ground ≡ Form.Arrays }
     ensures { IfOk result (IsTableFor Form.Intervals checked.now.client worked.now) }
 {
     let intervals = intervals_for(alloc, checked, worked)?;
@@ -310,9 +330,9 @@ fn worked_searched<R: Threads + Wait + Sync, F: Files>(
     workers: Workers,
 ) -> Result<Taken, Failure>
     requires worked { AreWorkedOut checked.now.client worked.now }
-    ensures { IfOk result (λ taken. IsSpelledFrom Form.Arrays checked.now.client worked.now taken.which.numbers) }
+    ensures { IfOk result (λ taken. IsSpelledFrom (own_form worked.now.ground) checked.now.client worked.now taken.which.numbers) }
 {
-    let table = &worked.table;
+    let table = worked.ground.table();
     let taken = file_worked(rt, alloc, files, path, checked, worked, table, workers)?;
     Ok(taken)
 }
@@ -328,6 +348,7 @@ fn worked_anew<R: Threads + Wait + Sync, F: Files>(
     workers: Workers,
 ) -> Result<Taken, Failure>
     requires worked { AreWorkedOut checked.now.client worked.now }
+    requires steps { own_form worked.now.ground ≡ Form.Arrays }
     ensures { IfOk result (λ taken. IsSpelledFrom Form.Intervals checked.now.client worked.now taken.which.numbers) }
 {
     let anew = intervals_with(alloc, checked, worked)?;
@@ -347,10 +368,13 @@ fn worked_in_form<R: Threads + Wait + Sync, F: Files>(
     workers: Workers,
 ) -> Result<Taken, Failure>
     requires worked { AreWorkedOut checked.now.client worked.now }
+    requires grain { grain_of worked.now.ground ≡ grain_of_form form }
     ensures { IfOk result (λ taken. IsSpelledFrom form checked.now.client worked.now taken.which.numbers) }
 {
     match form {
-        Form::Arrays => worked_searched(rt, alloc, files, path, checked, worked, workers),
+        Form::Arrays | Form::Crossings => {
+            worked_searched(rt, alloc, files, path, checked, worked, workers)
+        }
         Form::Intervals => worked_anew(rt, alloc, files, path, checked, worked, workers),
     }
 }
@@ -365,6 +389,7 @@ fn write_worked<R: Threads + Wait + Sync, F: Files>(
     worked: &Worked<'_>,
 ) -> Result<Option<Taken>, Failure>
     requires worked { AreWorkedOut checked.now.client worked.now }
+    requires grain { grain_of worked.now.ground ≡ grain_of_form search.now.form }
     ensures taken { IfOk result (HasTakenFrom search.now.form checked.now.client worked.now) }
     ensures asked { IfOk result (λ taken. IsAsked (is_some search.now.cert) taken None) }
 {
@@ -395,6 +420,7 @@ fn certified_worked<R: Threads + Wait + Sync, F: Files>(
     worked: &Worked<'_>,
 ) -> Result<Certification, Failure>
     requires worked { AreWorkedOut checked.now.client worked.now }
+    requires grain { grain_of worked.now.ground ≡ grain_of_form search.now.form }
     ensures good { IfOk result (λ made. IsAllGood search.now.form checked.now.client made.report made.taken) }
     ensures asked { IfOk result (λ made. IsAsked (is_some search.now.cert) made.taken None) }
     ensures counted { IfOk result (λ made. bytes_of made.report ≡ count_of made.taken) }
@@ -411,7 +437,7 @@ fn certified_worked<R: Threads + Wait + Sync, F: Files>(
     })
 }
 
-// The same with a tree of the records, and what they show in words.
+// The same by steps, with a tree of the records, and what they show in words.
 fn certified_told<R: Threads + Wait + Sync, F: Files>(
     rt: &R,
     alloc: Global,
@@ -421,13 +447,15 @@ fn certified_told<R: Threads + Wait + Sync, F: Files>(
     worked: &Worked<'_>,
 ) -> Result<Certification, Failure>
     requires worked { AreWorkedOut checked.now.client worked.now }
+    requires steps { own_form worked.now.ground ≡ Form.Arrays }
+    requires grain { grain_of worked.now.ground ≡ grain_of_form search.now.form }
     ensures good { IfOk result (λ made. IsAllGood search.now.form checked.now.client made.report made.taken) }
     ensures asked { IfOk result (λ made. IsAsked (is_some search.now.cert) made.taken None) }
     ensures counted { IfOk result (λ made. bytes_of made.report ≡ count_of made.taken) }
 {
     let cert = tree_for(rt, alloc, checked, worked, search.workers)?;
     let said = said_of(alloc, checked, &cert);
-    let table = &worked.table;
+    let table = worked.ground.table();
     let made = certified_last(alloc, files, search.cert, search.form, checked, table, cert)?;
     let Certification {
         report,
@@ -441,7 +469,7 @@ fn certified_told<R: Threads + Wait + Sync, F: Files>(
     })
 }
 
-// With a tree of the records only where words are asked for.
+// With a tree of the records only where words are asked for, by steps: crossings are not counted for words.
 fn certified_by<R: Threads + Wait + Sync, F: Files>(
     rt: &R,
     alloc: Global,
@@ -452,14 +480,15 @@ fn certified_by<R: Threads + Wait + Sync, F: Files>(
     verbose: bool,
 ) -> Result<Certification, Failure>
     requires worked { AreWorkedOut checked.now.client worked.now }
+    requires grain { grain_of worked.now.ground ≡ grain_of_form search.now.form }
     ensures good { IfOk result (λ made. IsAllGood search.now.form checked.now.client made.report made.taken) }
     ensures asked { IfOk result (λ made. IsAsked (is_some search.now.cert) made.taken None) }
     ensures counted { IfOk result (λ made. bytes_of made.report ≡ count_of made.taken) }
 {
-    if verbose {
-        return certified_told(rt, alloc, files, search, checked, worked);
+    match &worked.ground {
+        Ground::Steps(_) if verbose => { certified_told(rt, alloc, files, search, checked, worked) }
+        _ => certified_worked(rt, alloc, files, search, checked, worked),
     }
-    certified_worked(rt, alloc, files, search, checked, worked)
 }
 
 // What worked states take in memory is left to the system, as in `certified_last`.
@@ -473,6 +502,7 @@ fn certified_all<R: Threads + Wait + Sync, F: Files>(
     verbose: bool,
 ) -> Result<Certification, Failure>
     requires worked { AreWorkedOut checked.now.client worked }
+    requires grain { grain_of worked.ground ≡ grain_of_form search.now.form }
     ensures good { IfOk result (λ made. IsAllGood search.now.form checked.now.client made.report made.taken) }
     ensures asked { IfOk result (λ made. IsAsked (is_some search.now.cert) made.taken None) }
     ensures counted { IfOk result (λ made. bytes_of made.report ≡ count_of made.taken) }
@@ -507,6 +537,7 @@ pub fn verify<R: Threads + Wait + Sync, F: Files, L: Listener + Sync>(
         rt,
         alloc,
         &checked,
+        grain_of_form(search.form),
         search.workers,
         search.limit.count(),
         watch,

@@ -10,7 +10,7 @@ returns-in-Ok g c =
     let bytes = c.args.bytes.now in
     let tree = tree_of c.in-Ok.tree in
     let found = c.in-Ok.ensures.found in
-    if_ok (IsTreeVerdict client c.in-Ok.table tree) (IsVerdict client bytes) c.decide_tree_with.result (whole client bytes c.in-Ok.table tree found.0 found.1) c.decide_tree_with.ensures
+    if_ok (IsTreeVerdict client c.in-Ok.basis tree) (IsVerdict client bytes) c.decide_with_least_by-found.result (whole client bytes c.in-Ok.basis tree found.0 found.1) c.decide_with_least_by-found.ensures
 
 pub returns-in-Err : goal.returns-in-Err
 returns-in-Err g c =
@@ -19,5 +19,5 @@ returns-in-Err g c =
     let found = c.in-Err.ensures in
     if_ok (IsOfFault c.in-Err.error) (IsVerdict client bytes) c.undecoded.result (of_fault client bytes c.in-Err.error found.exact found.passed found.beyond) c.undecoded.ensures
 
-pub decide_tree_with-requires-clause-few : goal.decide_tree_with-requires-clause-few
-decide_tree_with-requires-clause-few g c = λ k within. c.in-Ok.ensures.found.1.1
+pub decide_with_least_by-found-requires-clause-few : goal.decide_with_least_by-found-requires-clause-few
+decide_with_least_by-found-requires-clause-few g c = λ k within. c.in-Ok.ensures.found.1.1

@@ -14,11 +14,11 @@ returns-in_ok-found-in-None g c =
     let count = record_count (tree_of w.tree.now) in
     let all : 0 + count ≡ count = omega arith in
     let whole = rw c.in-None.is at c.in_ok-code.ensures in
-    c.verdict_of.ensures w.checked.now.client w.table.now (tree_of w.tree.now) whole (subst (λ n. IsSpanJudged (part_span w 0 n) c.in_ok-found-in-None.found) all c.in_ok-found-in-None.ensures)
+    c.verdict_of.ensures w.checked.now.client w.basis.now (tree_of w.tree.now) whole (subst (λ n. IsSpanJudged (part_span w 0 n) c.in_ok-found-in-None.found) all c.in_ok-found-in-None.ensures)
 
 pub judge_with-requires-clause-ready : goal.judge_with-requires-clause-ready
 judge_with-requires-clause-ready g c =
     let most = c.requires.few in
     let tree = tree_of c.args.whole.now.tree.now in
     let whole = rw c.in-None.is at c.in_ok-code.ensures in
-    λ k within. (whole.ordered, omega (arith, most), from_all (records_of tree))
+    λ k within. (c.requires.least, whole.ordered, omega (arith, most), from_all (records_of tree))

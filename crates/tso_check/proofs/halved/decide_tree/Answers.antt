@@ -8,4 +8,4 @@ returns-in-Some c = rw c.rejected.ensures (rw c.in-Some.is at c.in_ok-code.ensur
 pub returns-in_ok-found-in-None : goal.returns-in_ok-found-in-None
 returns-in_ok-found-in-None c =
     let w = c.args.whole.now in
-    c.verdict_of.ensures w.checked.now.client w.table.now (tree_of w.tree.now) (rw c.in-None.is at c.in_ok-code.ensures) (whole_judged w.checked.now.client w.table.now (tree_of w.tree.now) c.in_ok-found-in-None.found c.in_ok-found-in-None.ensures)
+    c.verdict_of.ensures w.checked.now.client w.basis.now (tree_of w.tree.now) (rw c.in-None.is at c.in_ok-code.ensures) (whole_judged w.checked.now.client w.basis.now (tree_of w.tree.now) c.in_ok-found-in-None.found c.in_ok-found-in-None.ensures)

@@ -4,4 +4,4 @@ use Rattle.tso_check.proofs.WalkLemmas.{AreValidTo}
 use Rattle.tso_check.proofs.halved.judge_leaf.Given as goal
 
 abbrev pub invariant-loop-k : goal.invariant-loop-k
-invariant-loop-k g l = AreValidTo l.whole.checked.now.client l.whole.table.now (tree_states (tree_of l.whole.tree.now)) l.records l.k
+invariant-loop-k g l = AreValidTo l.whole.checked.now.client l.whole.basis.now (tree_states (tree_of l.whole.tree.now)) l.records l.k

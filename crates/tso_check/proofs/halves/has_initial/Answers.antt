@@ -1,14 +1,13 @@
-use Rattle.std.proofs.Common.{refl}
-use Rattle.std.proofs.lemmas.Bool.{false≢true}
 use Rattle.tso_cert.specs.Lookup.{tree_states}
 use Rattle.tso_cert.specs.Trees.{tree_of}
-use Rattle.tso_check.proofs.VerdictLemmas.{initial_there}
+use Rattle.tso_check.proofs.VerdictLemmas.{if_initial}
 use Rattle.tso_check.proofs.halves.has_initial.Goals as goal
 
-pub returns-then-not-has : goal.returns-then-not-has
-returns-then-not-has c =
-    let states = tree_states (tree_of c.args.cert.now) in
-    (λ e. absurd (false≢true e), λ h. absurd (false≢true (c.if-not-has.ensures.1 (initial_there c.args.checked.now.client states c.in_ok-initial.initial c.in_ok-initial.ensures.first h))))
+pub returns-in-Steps : goal.returns-in-Steps
+returns-in-Steps c = rw c.in-Steps.is c.contains_initial.ensures
 
-pub returns : goal.returns
-returns c = (λ e. record { initial = c.in_ok-initial.initial; first = c.in_ok-initial.ensures.first; there = c.if-not-has.ensures.0 refl }, λ h. refl)
+pub returns-in_ok-initial-in-Crossings : goal.returns-in_ok-initial-in-Crossings
+returns-in_ok-initial-in-Crossings c =
+    let w = c.args.whole.now in
+    let initial = c.in_ok-initial-in-Crossings.initial in
+    rw c.in-Crossings.is (if_initial w.checked.now.client w.own.now w.basis.now.table (tree_states (tree_of w.tree.now)) initial c.is_met_from.result c.requires.least c.in_ok-initial-in-Crossings.ensures.first c.is_met_from.ensures)

@@ -3,10 +3,11 @@ use Rattle.std.proofs.lemmas.Bool.{false≢true}
 use Rattle.tso_check.proofs.AloneLemmas.{sure_met}
 use Rattle.tso_check.proofs.numbered.judge_view.Goals as goal
 use Rattle.tso_judge.proofs.JudgeLemmas.{not_well_formed}
+use Rattle.tso_rec.specs.Bases.{by_steps}
 
 pub returns-then-not-is_well_formed_given : goal.returns-then-not-is_well_formed_given
 returns-then-not-is_well_formed_given c =
-    not_well_formed c.args.checked.now.client c.args.table.now (Unit {0}) (Unit {0}) c.args.view.now c.args.end.now (λ h. false≢true (c.if-not-is_well_formed_given.ensures.1 h))
+    not_well_formed c.args.checked.now.client (by_steps c.args.table.now) (Unit {0}) (Unit {0}) c.args.view.now c.args.end.now (λ h. false≢true (c.if-not-is_well_formed_given.ensures.1 h))
 
 pub returns : goal.returns
 returns c =

@@ -1,6 +1,7 @@
 use Rattle.std.proofs.Common.{◌∙◌, arith}
 use Rattle.tso_cert.proofs.TreeCode.{certificate_take}
 use Rattle.tso_check.proofs.StoredLemmas.{shape_counts, stored_of}
+use Rattle.tso_rec.specs.Bases.{by_steps}
 use Rattle.tso_check.proofs.upgrading.upgraded.Goals as goal
 
 pub stored_upgraded-requires-clause-stored : goal.stored_upgraded-requires-clause-stored
@@ -18,7 +19,7 @@ pub returns-in_ok-stored_upgraded-in-Some : goal.returns-in_ok-stored_upgraded-i
 returns-in_ok-stored_upgraded-in-Some c =
     let scanned = c.in-Some.scanned in
     let is = rw c.in-Some.is at c.requires.scanned in
-    let found = certificate_take c.args.bytes.now (scanned.table, is.tree) is.reads in
+    let found = certificate_take c.args.bytes.now (by_steps scanned.table, is.tree) is.reads in
     record {
       tree = is.tree;
       within = found.1;

@@ -1,4 +1,4 @@
-use Rattle.tso_search.specs.Searched.{AreFollowed}
+use Rattle.tso_search.specs.BySteps.{AreFollowed}
 use Rattle.tso_explore.proofs.closing.are_followed.Given as goal
 
 abbrev pub invariant-loop-k : goal.invariant-loop-k

@@ -1,4 +1,4 @@
-use Rattle.tso_search.specs.Searched.{AreWorkedBetween}
+use Rattle.tso_search.specs.BySteps.{AreWorkedBetween}
 use Rattle.tso_explore.proofs.closing.are_worked_between.Given as goal
 
 abbrev pub invariant-loop-number : goal.invariant-loop-number

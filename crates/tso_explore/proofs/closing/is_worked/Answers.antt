@@ -1,7 +1,7 @@
 use Rattle.std.proofs.Common.{subst, sym}
 use Rattle.tso_choose.specs.Choosing.{IsChoice}
 use Rattle.tso_search.proofs.SearchLemmas.{closed_end, closed_moves, ok_as}
-use Rattle.tso_search.specs.Searched.{AreFollowed}
+use Rattle.tso_search.specs.BySteps.{AreFollowed}
 use Rattle.tso_explore.proofs.closing.is_worked.Goals as goal
 
 pub chosen-set-requires : goal.chosen-set-requires
@@ -16,5 +16,5 @@ returns-then-set-eq0 c =
 pub returns : goal.returns
 returns c = λ is.
     let client = c.args.checked.now.client in
-    closed_moves client c.args.table.now c.args.store.now.states c.args.number c.chosen-set.result c.in-Some.view c.requires.begun (sym c.in-Some.ensures.state) c.chosen-set.ensures c.if-set-eq0.false
+    closed_moves client c.args.table.now c.args.store.now.states c.args.number c.chosen-set.result c.in-Some.view c.requires.begun.met (sym c.in-Some.ensures.state) c.chosen-set.ensures c.if-set-eq0.false
     (subst (λ d. AreFollowed d c.args.store.now.states c.args.store.now.states c.args.number c.chosen-set.result 10) c.requires.client (c.are_followed.ensures is))

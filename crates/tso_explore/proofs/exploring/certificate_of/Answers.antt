@@ -4,4 +4,4 @@ use Rattle.tso_explore.proofs.exploring.certificate_of.Goals as goal
 
 pub returns-in-Ok : goal.returns-in-Ok
 returns-in-Ok g c =
-    wider c.args.checked.now.client _ c.args.limit c.args.worked.table (trees.tree_of c.in-Ok.cert) c.requires.few c.in-Ok.ensures.good
+    wider c.args.checked.now.client _ c.args.limit c.args.worked.ground (trees.tree_of c.in-Ok.cert) c.requires.few c.in-Ok.ensures.good

@@ -6,4 +6,4 @@ pub returns-then-len-limit : goal.returns-then-len-limit
 returns-then-len-limit g c =
     let client = c.args.checked.now.client in
     let states = c.in_ok-made.made.1.states in
-    more_than client c.args.limit states [] (begun_first client states c.in_ok-made.ensures.states) c.states_differ.ensures (omega (arith, c.len.ensures, c.if-len-limit.true))
+    more_than client c.in_ok-made.made.0 c.args.limit states [] (begun_first client c.in_ok-made.made.0 c.args.checked.now.no_fault states c.in_ok-made.ensures.states) c.states_differ.ensures (omega (arith, c.len.ensures, c.if-len-limit.true))

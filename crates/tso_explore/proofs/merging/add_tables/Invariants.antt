@@ -1,5 +1,5 @@
 use Rattle.std.proofs.Common.{◌≡◌}
-use Rattle.tso_search.specs.Searched.{HasBegun}
+use Rattle.tso_search.specs.BySteps.{HasBegun}
 use Rattle.tso_explore.proofs.merging.add_tables.Given as goal
 
 abbrev pub invariant-loop-table : goal.invariant-loop-table

@@ -1,6 +1,6 @@
 use Rattle.std.proofs.Common.{◌≡◌}
 use Rattle.tso_regions.specs.Regions.{AreSound}
-use Rattle.tso_search.specs.Searched.{AreDone}
+use Rattle.tso_search.specs.BySteps.{AreDone}
 use Rattle.tso_regions.proofs.region.explore.Given as goal
 
 abbrev pub invariant-loop-turn : goal.invariant-loop-turn

@@ -1,14 +1,15 @@
-use Rattle.std.proofs.Common.{◌≡◌, ◌≤◌, ◌+◌, ◌*◌}
+use Rattle.std.proofs.Common.{◌≡◌, ◌+◌, ◌*◌}
 use Rattle.tso_parts.specs.Numbers.{Extends}
+use Rattle.tso_search.specs.Grounds.{HasRoom}
 use Rattle.tso_search.specs.Searched.{IsHunting}
 use Rattle.tso_search.proofs.hunting.hunt.Given as goal
 
 abbrev pub invariant-looks : goal.invariant-looks
 invariant-looks l = record {
   client : l.store.client ≡ l.checked.client;
-  hunting : IsHunting l.checked.client l.table l.limit l.store.states l.origins.items l.marks;
+  hunting : IsHunting l.checked.client l.ground l.limit l.store.states l.origins.items l.marks;
   stays : Extends l.initial.store.states l.store.states;
-  room : l.store.kept + 40 * l.left ≤ l.initial.store.kept + 41943040;
+  room : HasRoom l.ground (l.store.kept + 40 * l.left) (l.initial.store.kept + 41943040);
 }
 
 abbrev pub decreases-looks : goal.decreases-looks

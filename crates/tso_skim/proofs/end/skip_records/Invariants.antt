@@ -5,4 +5,4 @@ use Rattle.tso_skim.specs.Skips.{after}
 use Rattle.tso_skim.proofs.end.skip_records.Given as goal
 
 abbrev pub invariant-loop : goal.invariant-loop
-invariant-loop l = after (items_at record_at (l.count - l.counter) l.rest) ≡ after (items_at record_at l.count l.bytes)
+invariant-loop l = after (items_at (record_at l.grain) (l.count - l.counter) l.rest) ≡ after (items_at (record_at l.grain) l.count l.bytes)

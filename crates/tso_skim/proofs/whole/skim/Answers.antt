@@ -5,7 +5,7 @@ use Rattle.tso_skim.proofs.TreeLemmas.{behind_front, without_front}
 use Rattle.tso_skim.proofs.whole.skim.Goals as goal
 
 pub returns-in-Ok : goal.returns-in-Ok
-returns-in-Ok c = c.skim_tree.ensures ∙ sym (behind_front c.args.bytes.now c.in-Ok.table c.in-Ok.rest.now c.in-Ok.ensures)
+returns-in-Ok c = c.skim_tree.ensures ∙ sym (behind_front c.args.bytes.now c.in-Ok.basis c.in-Ok.rest.now c.in-Ok.ensures)
 
 pub returns-in-Err-Fault-K01 : goal.returns-in-Err-Fault-K01
 returns-in-Err-Fault-K01 c =

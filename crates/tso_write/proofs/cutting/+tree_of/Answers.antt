@@ -28,5 +28,5 @@ tree_of-requires-2 t c =
 pub returns : goal.returns
 returns t c =
     rw (c.in_ok-left-2.ensures.ok, c.in_ok-right-2.ensures.ok)
-    (forked c.args.checked.now.client c.args.table.now c.args.store.now.states c.args.numbers.now c.split_at.result.0.now c.split_at.result.1.now (length c.args.numbers.now / 2) c.in_ok-middle.middle (trees.tree_of c.in_ok-left.left) (trees.tree_of c.in_ok-right.right)
+    (forked c.args.checked.now.client c.args.ground.now c.args.store.now.states c.args.numbers.now c.split_at.result.0.now c.split_at.result.1.now (length c.args.numbers.now / 2) c.in_ok-middle.middle (trees.tree_of c.in_ok-left.left) (trees.tree_of c.in_ok-right.right)
     c.split_at.ensures.front c.split_at.ensures.back (omega arith) refl c.requires.rising c.in_ok-left.ensures c.in_ok-right.ensures c.in_ok-middle.ensures)

@@ -31,7 +31,7 @@ put_tree-requires-2 t c =
 pub returns : goal.returns
 returns t c =
     let client = c.args.checked.now.client in
-    let table = c.args.table.now in
+    let table = c.args.ground.now in
     let states = c.args.store.now.states in
     let ns = c.args.numbers.now in
     let low = c.split_at.result.0.now in

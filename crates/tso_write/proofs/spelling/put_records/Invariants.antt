@@ -3,4 +3,4 @@ use Rattle.tso_write.specs.Tasks.{uncut}
 use Rattle.tso_write.proofs.spelling.put_records.Given as goal
 
 abbrev pub invariant-loop-number : goal.invariant-loop-number
-invariant-loop-number l = AreSpelledBehind (uncut l.checked.client l.table l.store.states l.numbers) l.number-index l.fn.out.items l.out.items
+invariant-loop-number l = AreSpelledBehind (uncut l.checked.client l.ground l.store.states l.numbers) l.number-index l.fn.out.items l.out.items

@@ -18,5 +18,5 @@ pub returns : goal.returns
 returns g c =
     let client = c.args.checked.now.client in
     let w = c.args.worked.now in
-    let cut = subst (λ ns. IsCut client w.table w.store.states ns (trees.tree_of c.in_ok-cert.cert)) c.as_slice.ensures.value c.in_ok-cert.ensures in
+    let cut = subst (λ ns. IsCut client w.ground w.store.states ns (trees.tree_of c.in_ok-cert.cert)) c.as_slice.ensures.value c.in_ok-cert.ensures in
     tree_of_worked client w c.in_ok-numbers.numbers.items (trees.tree_of c.in_ok-cert.cert) c.requires.worked c.in_ok-numbers.ensures c.states_differ.ensures c.certificates_fit.ensures cut

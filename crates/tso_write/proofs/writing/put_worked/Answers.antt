@@ -7,7 +7,7 @@ use Rattle.tso_write.proofs.writing.put_worked.Goals as goal
 pub returns-in_err-speller-clause-err : goal.returns-in_err-speller-clause-err
 returns-in_err-speller-clause-err g c =
     let w = c.args.worked.now in
-    on_err _ (part_of_nothing (uncut c.args.checked.now.client w.table w.store.states c.args.numbers.now) _)
+    on_err _ (part_of_nothing (uncut c.args.checked.now.client w.ground w.store.states c.args.numbers.now) _)
 
 pub put_tree-requires-clause-ready : goal.put_tree-requires-clause-ready
 put_tree-requires-clause-ready g c = λ k within.

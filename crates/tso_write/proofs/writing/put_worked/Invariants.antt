@@ -3,4 +3,4 @@ use Rattle.tso_write.specs.Tasks.{uncut}
 use Rattle.tso_write.proofs.writing.put_worked.Given as goal
 
 abbrev pub ghosts-put_tree : goal.ghosts-put_tree
-ghosts-put_tree g a = record { source = Some (uncut a.whole.now.checked.now.client a.whole.now.table.now a.whole.now.store.now.states []) }
+ghosts-put_tree g a = record { source = Some (uncut a.whole.now.checked.now.client a.whole.now.ground.now a.whole.now.store.now.states []) }

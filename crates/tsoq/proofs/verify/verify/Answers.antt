@@ -4,7 +4,7 @@ use Rattle.tsoq.proofs.verify.verify.Goals as goal
 pub returns-in_ok-made-in-Worked-clause-report : goal.returns-in_ok-made-in-Worked-clause-report
 returns-in_ok-made-in-Worked-clause-report g c =
     let good = c.in_ok-made-in-Worked.ensures.good in
-    all_good c.args.program.now c.in_ok-checked.checked.client good.limit good.table good.tree c.in_ok-made-in-Worked.made.report c.in_ok-checked.ensures.denoted good.good good.records
+    all_good c.args.program.now c.in_ok-checked.checked.client good.limit good.ground good.tree c.in_ok-made-in-Worked.made.report c.in_ok-checked.ensures.denoted good.good good.records
 
 pub returns-in_ok-made-in-Worked-clause-trace : goal.returns-in_ok-made-in-Worked-clause-trace
 returns-in_ok-made-in-Worked-clause-trace g c = told_certified c.in_ok-made-in-Worked.made.report _ c.in_ok-made-in-Worked.ensures.good.records

@@ -24,10 +24,10 @@ returns-in-Fork g c =
     let both : counted p.part.now ≡ counted one + counted two = ap counted c.in-Fork.is ∙ (λ i. counted (sym left i) + counted (sym right i)) in
     let lists : listed p.part.now ≡ listed one ++ listed two = ap listed c.in-Fork.is ∙ (λ i. listed (sym left i) ++ listed (sym right i)) in
     let count : c.len.result ≡ counted one = c.len.ensures ∙ ap counted (c.deref.ensures ∙ sym left) in
-    let few = c.requires.1 in
-    let from = subst (AreFrom all p.start) lists c.requires.2 in
+    let few = c.requires.2 in
+    let from = subst (AreFrom all p.start) lists c.requires.3 in
     let long = count_is (tree_of one) in (
-      cut p.whole.checked.now.client p.whole.table.now all p.start (counted p.part.now) (counted one) (counted two) c.len.result both count,
-      (c.requires.0, omega (arith, both, few), from_left all (listed one) (listed two) p.start from),
-      (c.requires.0, omega (arith, both, count, few), from_right all (listed one) (listed two) p.start c.len.result (count ∙ sym long) from),
+      cut p.whole.checked.now.client p.whole.basis.now all p.start (counted p.part.now) (counted one) (counted two) c.len.result both count,
+      (c.requires.0, c.requires.1, omega (arith, both, few), from_left all (listed one) (listed two) p.start from),
+      (c.requires.0, c.requires.1, omega (arith, both, count, few), from_right all (listed one) (listed two) p.start c.len.result (count ∙ sym long) from),
     )

@@ -14,4 +14,4 @@ returns g c =
     let part = tree_of p.part.now in
     let count = count_is part in
     if_ok (AreJudgedIn w (records_of part) p.start) (IsSpanJudged (part_span w p.start (p.start + record_count part))) c.judge_part.result
-    (λ found judged. part_judged w.checked.now.client w.table.now all (records_of part) p.start (p.start + record_count part) found c.requires.2 (omega (arith, count)) judged) c.judge_part.ensures
+    (λ found judged. part_judged w.checked.now.client w.basis.now all (records_of part) p.start (p.start + record_count part) found c.requires.3 (omega (arith, count)) judged) c.judge_part.ensures
