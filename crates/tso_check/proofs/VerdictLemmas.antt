@@ -27,7 +27,7 @@ use Rattle.tso_rec.specs.declared.basis.Basis.{Basis}
 use Rattle.tso_prog.specs.declared.client.Client.{Client}
 use Rattle.tso_state.specs.Views.{state_of}
 use Rattle.tso_state.specs.declared.state.State.{State}
-use Rattle.tso_store.proofs.Views.{same_state}
+use Rattle.tso_confluence.proofs.Views.{same_state}
 
 -- the initial state is one
 pub initial_there : (c : Client) (states : List State) (s : State) → state_of s ≡ initial_of c → ContainsInitial c states → Contains states s

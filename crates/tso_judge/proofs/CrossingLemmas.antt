@@ -34,7 +34,7 @@ use Rattle.tso_state.specs.declared.actor.Actor.{Actor}
 use Rattle.tso_state.specs.declared.actor.Actor.TheVariants.{Exec, Drain}
 use Rattle.tso_state.specs.WellFormed.{IsWellFormed}
 use Rattle.tso_state.specs.declared.state.State.{State}
-use Rattle.tso_store.proofs.Views.{same_state}
+use Rattle.tso_confluence.proofs.Views.{same_state}
 
 -- ---- a thread has a move exactly where it has a step
 

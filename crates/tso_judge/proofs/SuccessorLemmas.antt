@@ -11,7 +11,7 @@ use Rattle.tso_prog.specs.declared.client.Client.{Client}
 use Rattle.tso_state.specs.Views.{state_of}
 use Rattle.tso_state.specs.declared.actor.Actor.{Actor}
 use Rattle.tso_state.specs.declared.state.State.{State}
-use Rattle.tso_store.proofs.Views.{same_state}
+use Rattle.tso_confluence.proofs.Views.{same_state}
 
 -- the one state after a step is kept or not
 pub kept_after : (c : Client) (states : List State) (s after : State) (a : Actor) (r : Bool) → IsStep c s a after → (IsTrue r ↔ Contains states after) → IsTrue r ↔ IsKeptAfter c states s a

@@ -122,8 +122,10 @@ fn is_free_actor<S: Viewed>(
     }
 }
 
-// The free actor of a thread with the lowest number, if one is free: the core comes before the buffer.
-fn lowest_of<S: Viewed>(
+/// The free actor of a thread with the lowest number, if one is free: the core comes before the buffer.
+///
+/// Errors: out of memory, while it follows openings.
+pub fn lowest_of<S: Viewed>(
     alloc: Global,
     checked: &Checked,
     own: &ArrayTable,

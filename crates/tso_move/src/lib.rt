@@ -13,7 +13,7 @@ mod own;
 mod parts;
 mod runs;
 
-pub use free::{is_free, lowest_free};
+pub use free::{is_free, lowest_free, lowest_of};
 pub use laws::{crossed_runs_are_good, free_is_the_models, initial_is_apart, moves_cost};
 pub use moves::late_move;
 pub use openings::{Sight, opening};

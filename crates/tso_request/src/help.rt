@@ -93,7 +93,7 @@ threads and N calls, of which at most P threads push and C pop, each push with a
 differ in the order of threads alone are one, and one whose threads' calls begin those of a larger one is not
 searched: where all runs of the larger one are good, so are all of its. With --coverage it counts what the records of
 all certificates show together, which proves nothing: lines that were never met, and where calls were cut. Without
---form it searches crossings, as with --form 3, unless certificates are counted or written to a folder.
+--form it searches crossings, as with --form 3, unless certificates are written to a folder.
 
 Example:
   tsoq survey queues/vyukov_weak.tso --threads 3 --calls 4

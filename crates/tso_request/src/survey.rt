@@ -6,12 +6,9 @@ use crate::limit::StateLimit;
 use clap::{Arg, ArgMatches, Command};
 use std::alloc::{AllocError, Global};
 use tso_cert::Workers;
-use tso_front::{Failure, misused, refuse_given};
+use tso_front::{Failure, refuse_given};
 use tso_survey::{Asking, asking_arguments, asking_of};
 use tso_verdict::{workers_argument, workers_of};
-
-const COUNTED: &str =
-    "--coverage counts the records of certificates of steps: --form 1 or 2, and not 3\n";
 
 /// What a survey asks about, by how many workers, and how many states a search may meet.
 #[derive(Clone, Copy)]
@@ -22,7 +19,7 @@ pub struct Survey<'a> {
     pub form: Form,
 }
 
-// What the words say of the form: crossings, where they say nothing and no certificate is kept or counted.
+// What the words say of the form: crossings, where they say nothing and no certificate is kept.
 fn survey_form(
     alloc: Global,
     asking: &Asking<'_>,
@@ -35,9 +32,8 @@ fn survey_form(
         refuse_given(alloc, matches, &["form"], "--collect")?;
     }
     match form_of(matches) {
-        Some(Form::Crossings) if asking.counts => Err(misused(alloc, COUNTED)),
         Some(form) => Ok(form),
-        None if asking.counts || asking.out.is_some() => Ok(Form::Arrays),
+        None if asking.out.is_some() => Ok(Form::Arrays),
         None => Ok(Form::Crossings),
     }
 }

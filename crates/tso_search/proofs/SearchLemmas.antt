@@ -18,12 +18,13 @@ use Rattle.tso_choose.specs.declared.choice.Choice.{Choice}
 use Rattle.tso_choose.proofs.ChoosingLemmas.{at_number}
 use Rattle.tso_choose.proofs.NeedLemmas.{nobody}
 use Rattle.tso_compact.proofs.PathLemmas.{initial_is_plausible, paths_stay, strictly}
+use Rattle.tso_confluence.specs.Stops.{HasOneStop}
 use Rattle.tso_compact.specs.Laws.{AreOnPaths, IsPlausible, initial_of}
 use Rattle.tso_compact.specs.declared.sort.StepKind.{StepKind}
 use Rattle.tso_compact.specs.Plans.{HasStep, IsStep, kind_of_move}
 use Rattle.tso_search.specs.Goodness.{AllGood, AllGoodBelow, IsGood}
 use Rattle.tso_search.specs.Marking.{IsMarkedToo, is_marked}
-use Rattle.tso_search.specs.Grounds.{AllAreKept, AreToFollow, CanGo, Goes, HasRoom, IsFirst, IsLed, IsMetBehind, IsNext, IsNextOrNone, Leads}
+use Rattle.tso_search.specs.Grounds.{AllAreKept, AreOneStop, AreToFollow, CanGo, Goes, HasClosed, HasRoom, IsFirst, IsGround, IsLed, IsMetBehind, IsNext, IsNextOrNone, Leads}
 use Rattle.tso_search.specs.Reached.{AllMet, IsBadAt, IsMet, IsOrigin}
 use Rattle.tso_search.specs.Searched.{AreDone, AreFollowed, AreSearched, GoesOn, HasBegun, HasMore, IsBegun, IsFollowed, IsSearched, IsGoodAt, IsDone, IsHunting, IsStarted, IsStop, IsStopAt, IsWorked, IsWorkedAt}
 use Rattle.tso_search.specs.declared.stop.Stop.{Stop}
@@ -64,7 +65,7 @@ use Rattle.tso_state.specs.WellFormed.{IsWellFormed, word_count}
 use Rattle.tso_state.specs.declared.actor.Actor.{Actor}
 use Rattle.tso_state.specs.declared.actor.Actor.TheVariants.{Exec, Drain}
 use Rattle.tso_state.specs.declared.state.State.{State}
-use Rattle.tso_store.specs.Arriving.{IsArrivalOrNone}
+use Rattle.tso_store.specs.Arriving.{HasOneStopAt, IsArrivalOrNone}
 use Rattle.tso_store.specs.Sheets.{IsKeptSuccessor, IsSuccessor, IsSuccessorOrNone, Sheet}
 
 -- ---- results
@@ -145,6 +146,22 @@ pub met_first : (c : Client) → HasNoFault c → (g : Ground) (s : State) → I
 met_first c sound (grounds.Steps table) s e = met_initial c s e
 met_first c sound (grounds.Crossings own table) s is = met_run c sound own table is.initial s (met_initial c is.initial is.initial_is) is.run
 
+pub ground_is_closed : (c : Client) (g : Ground) → IsGround c g → HasClosed c g
+ground_is_closed c (grounds.Steps t) is = tt
+ground_is_closed c (grounds.Crossings own t) is = record { closed_own = is.own.closed; closed = is.closed }
+
+-- where tables are closed, a state that is met has one stop, whichever free actors go first
+pub one_stop_of : (c : Client) (own : ArrayTable) (t : Table) (s : State) → HasClosed c (grounds.Crossings own t) → IsMet c s → HasOneStop c own t s
+one_stop_of c own t s closed met = record { closed_own = closed.closed_own; closed = closed.closed; reached = met.reached; plausible = met.plausible }
+
+pub first_has_one_stop : (c d : Client) (own : ArrayTable) (t : Table) (s : State) → d ≡ c → HasClosed c (grounds.Crossings own t) → state_of s ≡ initial_of c → HasOneStop d own t s
+first_has_one_stop c d own t s same closed e = subst (λ (x : Client). HasOneStop x own t s) (sym same) (one_stop_of c own t s closed (met_initial c s e))
+
+pub one_stop_at : (c d : Client) (g : Ground) (states : List State) (origins : List Origin) (n : ℕ) → d ≡ c → IsBegun c g states origins → AreOneStop d g states n
+one_stop_at c d (grounds.Steps t) states origins n same begun = tt
+one_stop_at c d (grounds.Crossings own t) states origins n same begun =
+    subst (λ (x : Client). HasOneStopAt x own t states n) (sym same) (λ s at. one_stop_of c own t s begun.closed (begun.met n s at))
+
 origin_stays : (c : Client) (g : Ground) (old new : List State) (n : ℕ) (o : Origin) → Extends old new → IsOrigin c g old n o → IsOrigin c g new n o
 origin_stays c g old new n o stays is = record {
   earlier = is.earlier;
@@ -159,6 +176,7 @@ origin_stays c g old new n o stays is = record {
 pub begun_on : (c : Client) (g : Ground) → HasNoFault c → (states : List State) (origins : List Origin) (from to : State) (o : Origin) → IsBegun c g states origins
     → slice_get states o.from ≡ Some from → Leads c g from o.actor to → IsBegun c g (states ++ to ∷ []) (origins ++ o ∷ [])
 begun_on c g sound states origins from to o begun at leads = record {
+  closed = begun.closed;
   initial = begun.initial;
   initial_at = old_item states to begun.initial 0 begun.initial_at;
   initial_is = begun.initial_is;
@@ -372,6 +390,7 @@ searched_moves c g limit old new origins origins' number set searched good on in
 -- the state alone with which a search begins
 pub begun_first : (c : Client) (g : Ground) → HasNoFault c → (states : List State) → IsStarted c g states → IsBegun c g states []
 begun_first c g sound states started = subst (λ (xs : List State). IsBegun c g xs []) (sym started.only) (record {
+  closed = started.closed;
   initial = started.initial;
   initial_at = refl;
   initial_is = started.initial_is;

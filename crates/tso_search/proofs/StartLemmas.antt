@@ -8,7 +8,7 @@ use Rattle.tso_search.proofs.SearchLemmas.{begun_first, done_none, on_both}
 use Rattle.tso_search.specs.Goodness.{AllGood, IsGood}
 use Rattle.tso_search.specs.Reached.{IsBad, IsBadAt}
 use Rattle.tso_search.specs.Searched.{GoesOn, IsBegun, IsHunting, IsStarted}
-use Rattle.tso_search.specs.Grounds.{IsFirst}
+use Rattle.tso_search.specs.Grounds.{HasClosed, IsFirst}
 use Rattle.tso_search.specs.declared.ground.Ground.{Ground}
 use Rattle.tso_search.specs.declared.origin.Origin.{Origin}
 use Rattle.tso_state.specs.declared.state.State.{State}
@@ -53,8 +53,8 @@ when_true false P Q is e = let clash : false ≡ true = e in absurd (cc)
 -- ---- the first state
 
 -- the one that is added to an empty store
-pub started_with : (c : Client) (g : Ground) (old new : List State) (s : State) (r : ℕ × Bool) → old ≡ [] → IsFirst c g s → IsAdded old new s r → IsStarted c g new
-started_with c g old new s r none first added = record { initial = s; only = by r none added; initial_is = first }
+pub started_with : (c : Client) (g : Ground) (old new : List State) (s : State) (r : ℕ × Bool) → HasClosed c g → old ≡ [] → IsFirst c g s → IsAdded old new s r → IsStarted c g new
+started_with c g old new s r closed none first added = record { closed = closed; initial = s; only = by r none added; initial_is = first }
   where
     by : (r : ℕ × Bool) → old ≡ [] → IsAdded old new s r → new ≡ s ∷ []
     by (n, true) none added = added.kept ∙ ap (λ (xs : List State). xs ++ s ∷ []) none

@@ -50,7 +50,7 @@ use Rattle.tso_state.specs.Actors.{actor_of}
 use Rattle.tso_state.specs.Views.{running_procedure, state_of, thread_view}
 use Rattle.tso_state.specs.declared.actor.Actor.{Actor}
 use Rattle.tso_state.specs.declared.state.State.{State}
-use Rattle.tso_store.proofs.Views.{same_state}
+use Rattle.tso_confluence.proofs.Views.{same_state}
 use Rattle.tso_trace.proofs.LawLemmas.{no_fault}
 use Rattle.tso_trace.specs.Runs.{IsErrorTrace, IsGoodRun, IsTraceFault, queue_of}
 use Rattle.tso_trace.specs.declared.fault.TraceFault.{TraceFault}

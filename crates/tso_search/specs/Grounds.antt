@@ -10,6 +10,7 @@ use Rattle.tso_compact.specs.Plans.{HasStep, IsStep}
 use Rattle.tso_foot.specs.Closed.{IsClosed, IsLeastClosed}
 use Rattle.tso_foot.specs.declared.table.ArrayTable.{ArrayTable}
 use Rattle.tso_foot.specs.declared.table.Table.{Table}
+use Rattle.tso_foot.specs.declared.table.Table.TheVariants.{Arrays}
 use Rattle.tso_judge.specs.Certified.{HasTable}
 use Rattle.tso_move.specs.Crossed.{IsMetAfter}
 use Rattle.tso_move.specs.Runs.{HasMove, IsMove, IsRun}
@@ -24,6 +25,7 @@ use Rattle.tso_search.specs.declared.ground.Ground.TheVariants.{Steps, Crossings
 use Rattle.tso_state.specs.Views.{state_of}
 use Rattle.tso_state.specs.declared.actor.Actor.{Actor}
 use Rattle.tso_state.specs.declared.state.State.{State}
+use Rattle.tso_store.specs.Arriving.{HasOneStopAt}
 use Rattle.tso_store.specs.Sheets.{IsAdded}
 
 -- ---- its table and its grain
@@ -44,6 +46,21 @@ basis_of g = basis (grain_of g) (table_of g)
 abbrev pub OwnIsLeast : Client → Ground → Type 0
 OwnIsLeast c (Steps t) = Unit {0}
 OwnIsLeast c (Crossings own t) = IsLeast c own
+
+-- the table of arrays that tells what is a thread's own is closed, and so is the table of footprints
+pub record AreClosed (c : Client) (own : ArrayTable) (t : Table) : Type 0 where
+  pub closed_own : IsClosed c (Arrays own)
+  pub closed : IsClosed c t
+
+-- the tables that tell which actors are free are closed
+abbrev pub HasClosed : Client → Ground → Type 0
+HasClosed c (Steps t) = Unit {0}
+HasClosed c (Crossings own t) = AreClosed c own t
+
+-- by crossings, state number n, if there is one, has one stop, whichever free actors go first
+abbrev pub AreOneStop : Client → Ground → List State → ℕ → Type 0
+AreOneStop c (Steps t) states n = Unit {0}
+AreOneStop c (Crossings own t) states n = HasOneStopAt c own t states n
 
 -- ---- where actors lead
 

@@ -3,7 +3,7 @@ use Rattle.std.specs.Prelude.{◌≡◌, ◌+◌, ◌<◌, ◌≤◌, ℕ, Bool,
 use Rattle.tso_choose.specs.Closures.{has_bit}
 use Rattle.tso_choose.specs.Sets.{actor_at}
 use Rattle.tso_search.specs.Goodness.{AllGood, IsGood}
-use Rattle.tso_search.specs.Grounds.{AllAreKept, IsFirst, IsMetBehind}
+use Rattle.tso_search.specs.Grounds.{AllAreKept, HasClosed, IsFirst, IsMetBehind}
 use Rattle.tso_search.specs.Marking.{is_marked}
 use Rattle.tso_search.specs.Reached.{AllMet, AreOrigins, IsBadAt, IsReached}
 use Rattle.tso_search.specs.declared.ground.Ground.{Ground}
@@ -26,6 +26,7 @@ pub record IsWorked (c : Client) (g : Ground) (states : List State) (s : State) 
 
 -- the first of so many states is where a search begins, and all are met, each but the first from an earlier one
 pub record IsBegun (c : Client) (g : Ground) (states : List State) (sources : List Origin) : Type 0 where
+  pub closed : HasClosed c g
   pub initial : State
   pub initial_at : slice_get states 0 ≡ Some initial
   pub initial_is : IsFirst c g initial
@@ -79,6 +80,7 @@ IsStopAt c states n stops.Memory = Unit {0}
 
 -- the state with which a search begins alone
 pub record IsStarted (c : Client) (g : Ground) (states : List State) : Type 0 where
+  pub closed : HasClosed c g
   pub initial : State
   pub only : states ≡ initial ∷ []
   pub initial_is : IsFirst c g initial

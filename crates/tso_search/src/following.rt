@@ -2,11 +2,11 @@
 
 ghost use Rattle.std.specs.Prelude.{◌≡◌, ◌+◌, ◌<◌, ◌≤◌, ◌++◌, ◌∷◌, [], IfErr, IfOk, IfSome, MatchBool, OnOk, length};
 ghost use Rattle.tso_search.specs.Goodness.{AllGood, AllGoodBelow};
-ghost use Rattle.tso_search.specs.Grounds.{HasRoom, IsLed, IsNextOrNone};
+ghost use Rattle.tso_search.specs.Grounds.{AreOneStop, HasRoom, IsLed, IsNextOrNone};
 ghost use Rattle.tso_search.specs.Reached.{IsBadAt};
 ghost use Rattle.tso_search.specs.Searched.{AreFollowed, GoesOn, IsBegun, IsFollowed, IsGoodAt, IsStop, IsStopAt};
 ghost use Rattle.tso_search.specs.declared.stop.Stop.TheVariants as stops;
-ghost use Rattle.tso_store.specs.Arriving.{IsArrivalOrNone};
+ghost use Rattle.tso_store.specs.Arriving.{HasOneStopAt, IsArrivalOrNone};
 ghost use Rattle.tso_store.specs.Sheets.{IsSuccessorOrNone};
 
 use crate::ground::Ground;
@@ -51,6 +51,7 @@ fn arrival(
     number: u32,
     actor: Actor,
 ) -> Result<Option<(u32, bool)>, Stop>
+    requires { HasOneStopAt store.old.client own.now table.now store.old.states number }
     ensures arrival { IfOk result (IsArrivalOrNone store.old.client own.now table.now store.old.states store.new.states number actor) }
     ensures err { IfErr result (λ stop. stop ≡ stops.Memory) }
     ensures client { store.new.client ≡ store.old.client }
@@ -69,7 +70,8 @@ fn next_of(
     number: u32,
     actor: Actor,
 ) -> Result<Option<(u32, bool)>, Stop>
-    requires { HasRoom ground.now store.old.kept 4294967290 }
+    requires room { HasRoom ground.now store.old.kept 4294967290 }
+    requires one_stop { AreOneStop store.old.client ground.now store.old.states number }
     ensures next { IfOk result (IsNextOrNone store.old.client ground.now store.old.states store.new.states number actor) }
     ensures err { IfErr result (λ stop. stop ≡ stops.Memory) }
     ensures room { HasRoom ground.now store.new.kept (store.old.kept + 4) }

@@ -1,6 +1,7 @@
 //! Traces with few calls.
 
 ghost use Rattle.std.specs.Prelude.{◌≡◌, ◌≤◌, IfOk, IfSome, length};
+ghost use Rattle.tso_search.specs.Grounds.{HasClosed};
 ghost use Rattle.tso_search.specs.Shortening.{IsShorter, IsTraceOf};
 
 use crate::ground::Ground;
@@ -81,7 +82,8 @@ fn fewer(
     most: &[usize],
     thread: usize,
 ) -> Result<Option<Vec<usize>>, AllocError>
-    requires { IsTraceOf checked.now.client shortest.old.trace }
+    requires closed { HasClosed checked.now.client ground.now }
+    requires trace { IsTraceOf checked.now.client shortest.old.trace }
     ensures { IsShorter checked.now.client shortest.old.trace shortest.new.trace }
 {
     let Some(fewer) = one_less(alloc, most, thread)? else {
@@ -108,7 +110,8 @@ fn take_away(
     most: &mut Vec<usize>,
     thread: usize,
 ) -> Result<(), AllocError>
-    requires { IsTraceOf checked.now.client shortest.old.trace }
+    requires closed { HasClosed checked.now.client ground.now }
+    requires trace { IsTraceOf checked.now.client shortest.old.trace }
     ensures { IsShorter checked.now.client shortest.old.trace shortest.new.trace }
 {
     for _ in 0..16 {
@@ -128,7 +131,8 @@ fn fewest(
     shortest: &mut Shortest,
     threads: usize,
 ) -> Result<Vec<usize>, AllocError>
-    requires { IsTraceOf checked.now.client shortest.old.trace }
+    requires closed { HasClosed checked.now.client ground.now }
+    requires trace { IsTraceOf checked.now.client shortest.old.trace }
     ensures { IsShorter checked.now.client shortest.old.trace shortest.new.trace }
 {
     let mut most = begun(alloc, shortest.trace.labels.as_slice(), threads)?;
@@ -187,7 +191,8 @@ fn search_choice(
     counts: &[usize],
     states: usize,
 ) -> Result<bool, AllocError>
-    requires { IsTraceOf checked.now.client shortest.old.trace }
+    requires closed { HasClosed checked.now.client ground.now }
+    requires trace { IsTraceOf checked.now.client shortest.old.trace }
     ensures { IsShorter checked.now.client shortest.old.trace shortest.new.trace }
 {
     match found_within(alloc, checked, ground, Way::Breadth, counts, states)? {
@@ -209,7 +214,8 @@ fn search_number(
     total: usize,
     choice: u32,
 ) -> Result<bool, AllocError>
-    requires { IsTraceOf checked.now.client shortest.old.trace }
+    requires closed { HasClosed checked.now.client ground.now }
+    requires trace { IsTraceOf checked.now.client shortest.old.trace }
     ensures { IsShorter checked.now.client shortest.old.trace shortest.new.trace }
 {
     let counts = chosen_counts(alloc, &checked.client, choice, threads)?;
@@ -230,7 +236,8 @@ fn search_choices(
     threads: usize,
     total: usize,
 ) -> Result<bool, AllocError>
-    requires { IsTraceOf checked.now.client shortest.old.trace }
+    requires closed { HasClosed checked.now.client ground.now }
+    requires trace { IsTraceOf checked.now.client shortest.old.trace }
     ensures { IsShorter checked.now.client shortest.old.trace shortest.new.trace }
 {
     let mut is_found = false;
@@ -249,7 +256,8 @@ fn search_few(
     threads: usize,
     most: usize,
 ) -> Result<bool, AllocError>
-    requires { IsTraceOf checked.now.client shortest.old.trace }
+    requires closed { HasClosed checked.now.client ground.now }
+    requires trace { IsTraceOf checked.now.client shortest.old.trace }
     ensures { IsShorter checked.now.client shortest.old.trace shortest.new.trace }
 {
     for total in 0..most {
@@ -276,7 +284,8 @@ fn lessen_with(
     shortest: &mut Shortest,
     threads: usize,
 ) -> Result<(), AllocError>
-    requires { IsTraceOf checked.now.client shortest.old.trace }
+    requires closed { HasClosed checked.now.client ground.now }
+    requires trace { IsTraceOf checked.now.client shortest.old.trace }
     ensures { IsShorter checked.now.client shortest.old.trace shortest.new.trace }
 {
     let counts = fewest(alloc, checked, ground, shortest, threads)?;

@@ -1,7 +1,7 @@
 //! Searches of a part of a client's runs: those in which no thread begins more than so many calls.
 
 ghost use Rattle.std.specs.Prelude.{◌≡◌, ◌+◌, ◌<◌, ◌≤◌, [], IfErr, IfOk, IfSome, OnOk, length};
-ghost use Rattle.tso_search.specs.Grounds.{HasRoom};
+ghost use Rattle.tso_search.specs.Grounds.{HasClosed, HasRoom};
 ghost use Rattle.tso_search.specs.Reached.{AllMet};
 ghost use Rattle.tso_search.specs.Searched.{IsHunting, IsStarted, IsStop};
 ghost use Rattle.tso_search.specs.Shortening.{IsTraceOf};
@@ -280,6 +280,7 @@ pub fn found_within(
     most: &[usize],
     states: usize,
 ) -> Result<Option<Trace>, AllocError>
+    requires { HasClosed checked.now.client ground.now }
     ensures { IfOk result (λ found. IfSome found (IsTraceOf checked.now.client)) }
 {
     let mut store = started(alloc, checked, ground)?;

@@ -3,7 +3,7 @@
 ghost use Rattle.std.specs.Prelude.{◌≡◌, ◌≤◌, IfOk, MatchBool};
 ghost use Rattle.tso_foot.specs.declared.table.Table.{Table as TableValue};
 ghost use Rattle.tso_search.specs.Goodness.{AllGood};
-ghost use Rattle.tso_search.specs.Grounds.{HasRoom};
+ghost use Rattle.tso_search.specs.Grounds.{HasClosed, HasRoom};
 ghost use Rattle.tso_search.specs.Reached.{IsBadAt};
 ghost use Rattle.tso_search.specs.Searched.{IsStarted};
 ghost use Rattle.tso_search.specs.declared.ground.Ground.TheVariants as grounds;
@@ -45,6 +45,7 @@ fn at_first_stop<'a>(
     own: &ArrayTable,
     table: &Table,
 ) -> Result<Store<'a>, AllocError>
+    requires { HasClosed checked.now.client (grounds.Crossings own.now table.now) }
     ensures client { IfOk result (λ store. store.client ≡ checked.now.client) }
     ensures states { IfOk result (λ store. IsStarted checked.now.client (grounds.Crossings own.now table.now) store.states) }
 {
@@ -70,6 +71,7 @@ pub fn started<'a>(
     checked: &'a Checked,
     ground: &Ground,
 ) -> Result<Store<'a>, AllocError>
+    requires { HasClosed checked.now.client ground.now }
     ensures client { IfOk result (λ store. store.client ≡ checked.now.client) }
     ensures states { IfOk result (λ store. IsStarted checked.now.client ground.now store.states) }
     ensures room { IfOk result (λ store. HasRoom ground.now store.kept 8) }

@@ -32,7 +32,7 @@ use Rattle.tso_store.proofs.Performed.{after_view, left_drained}
 use Rattle.tso_keys.proofs.Rows.{row_has}
 use Rattle.tso_keys.proofs.StateLemmas.{same_key, state_got, there_key}
 use Rattle.tso_store.proofs.Sheeted.{can_step, cannot}
-use Rattle.tso_store.proofs.Views.{same_history, same_state}
+use Rattle.tso_confluence.proofs.Views.{same_history, same_state}
 
 -- ---- steps have one state each
 

@@ -3,7 +3,6 @@ pub mod Performed
 pub mod Alone
 pub mod Sheeted
 pub mod Closing
-pub mod Views
 pub mod Absences
 pub mod Histories
 pub mod Gatherings

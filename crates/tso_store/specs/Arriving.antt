@@ -1,5 +1,6 @@
 -- Moves of kept states, and where runs of free actors' moves stop.
 use Rattle.std.specs.Prelude.{◌≡◌, ℕ, Bool, List, Option, Some, None, slice_get}
+use Rattle.tso_confluence.specs.Stops.{HasOneStop}
 use Rattle.tso_crossing.specs.Moves.{opening}
 use Rattle.tso_flow.specs.Calls.{kind_of}
 use Rattle.tso_foot.specs.declared.table.ArrayTable.{ArrayTable}
@@ -13,13 +14,12 @@ use Rattle.tso_machine.specs.declared.kinds.ActionKind.{ActionKind}
 use Rattle.tso_machine.specs.declared.kinds.ActionKind.TheVariants.{Cut}
 use Rattle.tso_model.specs.States.{Buffer}
 use Rattle.tso_model.specs.Steps.{perform}
-use Rattle.tso_move.specs.Free.{IsLowestFree}
+use Rattle.tso_move.specs.Free.{HasNoFree, IsFree}
 use Rattle.tso_move.specs.Parts.{opened_in, opened_kinds, own_buffer}
-use Rattle.tso_move.specs.Runs.{HasMove, IsMove, IsNext, IsRun, StopsAt}
+use Rattle.tso_move.specs.Runs.{HasMove, IsMove, IsRun}
 use Rattle.tso_prog.specs.Views.{call_view}
 use Rattle.tso_prog.specs.declared.client.Client.{Client}
 use Rattle.tso_state.specs.Views.{state_of}
-use Rattle.tso_state.specs.WellFormed.{IsWellFormed}
 use Rattle.tso_state.specs.declared.actor.Actor.{Actor}
 use Rattle.tso_state.specs.declared.state.Core.TheVariants.{Running}
 use Rattle.tso_state.specs.declared.state.State.{State}
@@ -71,22 +71,16 @@ IsMoveKey c own old k a new (Some next) = IsMoveOf c own old k a new next
 
 -- ---- runs
 
--- the state is well-formed, and the actor is its lowest free one
-pub record IsFreeAt (c : Client) (own : ArrayTable) (t : Table) (s : State) (a : Actor) : Type 0 where
-  pub well_formed : IsWellFormed c s
-  pub free : IsLowestFree c own t s a
-
--- the new key is that of the next state of a run
+-- the new key is that of the state after a free actor's move
 pub record IsNextOf (c : Client) (own : ArrayTable) (t : Table) (old : Parts) (k : Key) (new : Parts) (next : Key) : Type 0 where
-  pub state : State
-  pub next_is : IsNext c own t (state_at old k) state
-  pub key : IsKeyOf new next state
-  pub fits : FitsClient c state
+  pub actor : Actor
+  pub free : IsFree c own t (state_at old k) actor
+  pub moved : IsMoveOf c own old k actor new next
 
--- the new key, if the run goes on
-abbrev pub IsNextKey : Client → ArrayTable → Table → Parts → Key → Parts → Option Key → Type 0
-IsNextKey c own t old k new None = StopsAt c own t (state_at old k)
-IsNextKey c own t old k new (Some next) = IsNextOf c own t old k new next
+-- the new key, and the thread that is asked first when the run goes on, if an actor is free
+abbrev pub IsNextKey : Client → ArrayTable → Table → Parts → Key → Parts → Option (Key × ℕ) → Type 0
+IsNextKey c own t old k new None = HasNoFree c own t (state_at old k)
+IsNextKey c own t old k new (Some next) = IsNextOf c own t old k new next.0
 
 -- the new key is that of the state in which the run from a state stops
 pub record IsStopOf (c : Client) (own : ArrayTable) (t : Table) (s : State) (new : Parts) (stop : Key) : Type 0 where
@@ -107,6 +101,10 @@ IsArrivalKey c own t old k a new None = HasMove c own (state_at old k) a → ⊥
 IsArrivalKey c own t old k a new (Some stop) = IsArrivalOf c own t old k a new stop
 
 -- ---- numbered states
+
+-- state number n, if there is one, has one stop, whichever free actors go first
+abbrev pub HasOneStopAt : Client → ArrayTable → Table → List State → ℕ → Type 0
+HasOneStopAt c own t states n = (s : State) → slice_get states n ≡ Some s → HasOneStop c own t s
 
 -- the actor has a move from state number n
 pub record CanMove (c : Client) (own : ArrayTable) (states : List State) (n : ℕ) (a : Actor) : Type 0 where

@@ -1,11 +1,12 @@
 //! A client and its states, each once, by number.
 ghost use Rattle.std.specs.Prelude.{◌≡◌, ◌↔◌, ◌+◌, ◌<◌, ◌≤◌, ◌^◌, List, [], length, Some, None, Err, IfOk, OnErr, OnOk, IfSome, MatchOption, slice_get};
+ghost use Rattle.tso_confluence.specs.Stops.{HasOneStop};
 ghost use Rattle.tso_parts.specs.Numbers.{IsNumbered, IsNowhere};
 ghost use Rattle.tso_parts.specs.declared.refused.Refused.TheVariants as reasons;
 ghost use Rattle.tso_state.specs.Rising.{IsRising};
 ghost use Rattle.tso_keys.specs.Forms.{AreForms};
 ghost use Rattle.tso_keys.specs.Keys.{AreKept, FitsClient, part_count, states_at};
-ghost use Rattle.tso_store.specs.Arriving.{IsArrivalOrNone, IsStop};
+ghost use Rattle.tso_store.specs.Arriving.{HasOneStopAt, IsArrivalOrNone, IsStop};
 ghost use Rattle.tso_store.specs.Lone.{HasNoLoneAt, IsLoneAt, IsLoneCoreAt};
 ghost use Rattle.tso_keys.specs.Orders.{AreRowsOf};
 ghost use Rattle.tso_store.specs.Sheets.{CanStep, IsAdded, IsFound, IsSuccessorOrNone};
@@ -276,8 +277,8 @@ impl<'a> Store<'a> {
         Ok(Some(result))
     }
 
-    /// The number of the state in which the run from a state stops, and whether it is new; it is kept then. A run goes on, by the move of
-    /// the lowest free actor, while the state is well-formed and an actor is free.
+    /// The number of the state in which the run from a state stops, and whether it is new; it is kept then. A run goes on while an actor
+    /// is free; it makes no difference which one goes first.
     ///
     /// Errors: `Misfit` exactly where the state has not as many threads, or lists of calls, as the client has threads; `Memory`
     /// where an allocation failed; `Full` where there are as many states, or parts of a kind, as numbers. The states stay.
@@ -288,6 +289,7 @@ impl<'a> Store<'a> {
         table: &Table,
         state: &State,
     ) -> Result<(u32, bool), AddError>
+        requires one_stop { HasOneStop self.old.client own.now table.now state.now }
         ensures stops { IfOk result (IsStop self.old.client own.now table.now self.old.states self.new.states state.now) }
         ensures err { OnErr result (self.new.states ≡ self.old.states) }
         ensures full { result ≡ Err errors.Full → 4294967295 ≤ self.new.kept }
@@ -307,6 +309,7 @@ impl<'a> Store<'a> {
             &mut self.known,
             &self.running,
             &start,
+            0,
         )?;
         let result = self.keys.add(last)?;
         Ok(result)
@@ -325,6 +328,7 @@ impl<'a> Store<'a> {
         number: u32,
         actor: Actor,
     ) -> Result<Option<(u32, bool)>, Refused>
+        requires one_stop { HasOneStopAt self.old.client own.now table.now self.old.states number }
         ensures arrival { IfOk result (IsArrivalOrNone self.old.client own.now table.now self.old.states self.new.states number actor) }
         ensures err { OnErr result (self.new.states ≡ self.old.states) }
         ensures there { OnErr result (number < length self.old.states) }

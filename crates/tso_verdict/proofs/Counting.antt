@@ -18,7 +18,7 @@ use Rattle.tso_rec.specs.Records.{ends_of}
 use Rattle.tso_rec.specs.declared.record.End.{End}
 use Rattle.tso_state.specs.declared.state.State.{State}
 
-take_more : {X : Type 0} (xs : List X) (n : ℕ) (x : X) → slice_get xs n ≡ Some x → take (n + 1) xs ≡ take n xs ++ x ∷ []
+pub take_more : {X : Type 0} (xs : List X) (n : ℕ) (x : X) → slice_get xs n ≡ Some x → take (n + 1) xs ≡ take n xs ++ x ∷ []
 take_more xs n x at =
     let lt = slice_get_within xs n x at in
     ap (λ k. take k xs) (let e : n + 1 ≡ suc n = omega arith in e) ∙ take-suc xs n x lt ∙ ap (λ z. take n xs ++ z ∷ []) (get_or_from_slice_get xs n x x at)
@@ -32,7 +32,7 @@ goes_on : {X A : Type 0} (f : A → X → A) (a : A) (xs : List X) (n : ℕ) (x 
 goes_on f a xs n x so_far more at was by = by ∙ ap (λ m. f m x) was ∙ sym (one_more f a xs n x at)
 
 -- a fold over two lists
-both : {X A : Type 0} (f : A → X → A) (a : A) (xs ys : List X) (middle end : A) → middle ≡ fold f a xs → end ≡ fold f middle ys → end ≡ fold f a (xs ++ ys)
+pub both : {X A : Type 0} (f : A → X → A) (a : A) (xs ys : List X) (middle end : A) → middle ≡ fold f a xs → end ≡ fold f middle ys → end ≡ fold f a (xs ++ ys)
 both f a xs ys middle end first second = second ∙ ap (λ m. fold f m ys) first ∙ sym (fold-append f a xs ys)
 
 pub one_record_more : (c : Client) (before : Coverage) (states : List State) (ends : List End) (n : ℕ) (s : State) (e : End) (so_far noted more : Coverage)
@@ -51,7 +51,7 @@ one_record_more c before states ends n s e so_far noted more w at_state at_end p
 }
 
 -- the records of two lists one after the other
-counted_in_turn : (c : Client) (before middle after : Coverage) (states more_states : List State) (ends more_ends : List End)
+pub counted_in_turn : (c : Client) (before middle after : Coverage) (states more_states : List State) (ends more_ends : List End)
     → AreCounted c before states ends middle → AreCounted c middle more_states more_ends after → AreCounted c before (states ++ more_states) (ends ++ more_ends) after
 counted_in_turn c before middle after states more_states ends more_ends v w = record {
   of_push = both (state_noted c procedures.Push) before.push.marks states more_states middle.push.marks after.push.marks v.of_push w.of_push;

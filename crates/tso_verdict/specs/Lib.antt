@@ -1,3 +1,4 @@
+pub mod Between
 pub mod Calls
 pub mod Counted
 pub mod Levels

@@ -12,7 +12,7 @@ use tso_client::checked_of;
 use tso_flow::Checked;
 use tso_front::{Failure, Kind, Session};
 use tso_load::read_certificate;
-use tso_rec::Grain;
+use tso_rec::Basis;
 use tso_survey::{Accepted, Calls, Decided, Finder, Finding, Shown};
 use tso_trace::{Trace, TraceFault};
 
@@ -106,31 +106,23 @@ fn verified_text(alloc: Global, text: &[u8]) -> Result<Accepted, Failure>
     Ok(Accepted::verified(copy, checked))
 }
 
-// What the records of a certificate of a client show.
-fn counted_of(alloc: Global, checked: &Checked, cert: &Cert) -> Result<Shown, AllocError> {
-    let facts = Facts::counted(alloc, &checked.client, cert)?;
+// What a certificate of a client shows.
+fn counted_of(
+    alloc: Global,
+    checked: &Checked,
+    basis: &Basis,
+    cert: &Cert,
+) -> Result<Shown, AllocError> {
+    let facts = Facts::counted(alloc, checked, basis.grain, &basis.table, cert)?;
     facts.shown(alloc)
 }
 
-// The same, where each state that is reached has a record.
-fn shown_in(
-    alloc: Global,
-    checked: &Checked,
-    grain: Grain,
-    cert: &Cert,
-) -> Result<Option<Shown>, AllocError> {
-    match grain {
-        Grain::Steps => Ok(Some(counted_of(alloc, checked, cert)?)),
-        Grain::Crossings => Ok(None),
-    }
-}
-
 // The same of the bytes of an accepted certificate, which can be read.
-fn shown_of(alloc: Global, text: &[u8], bytes: &[u8]) -> Result<Option<Shown>, Failure> {
+fn shown_of(alloc: Global, text: &[u8], bytes: &[u8]) -> Result<Shown, Failure> {
     let checked = checked_of(alloc, text)?;
     let shown = match decode(alloc, bytes) {
         Ok((basis, cert)) => {
-            let shown = shown_in(alloc, &checked, basis.grain, &cert);
+            let shown = counted_of(alloc, &checked, &basis, &cert);
             drop(basis);
             drop(cert);
             shown
@@ -195,7 +187,7 @@ impl<'a> Collector<'a> {
         let decided = by_certificate(rt, alloc, text, cert, self.workers)?;
         let mut finding = Finding::plain(decided);
         if let (true, Decided::Accepted { .. }) = (self.counts, &finding.decided) {
-            finding.shown = shown_of(alloc, text, cert)?;
+            finding.shown = Some(shown_of(alloc, text, cert)?);
         }
         Ok(finding)
     }

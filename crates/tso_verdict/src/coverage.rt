@@ -184,6 +184,17 @@ impl Coverage {
         ensures most { self.new.most_items ≡ self.old.most_items }
     {
         self.records = self.records.saturating_add(1);
+        self.note_passed(client, state);
+    }
+
+    /// Notes a state that has a record, or lies between records.
+    pub fn note_passed(&mut self, client: &Client, state: &State)
+        ensures push { self.new.push.marks ≡ state_noted client.now procedures.Push self.old.push.marks state.now }
+        ensures pop { self.new.pop.marks ≡ state_noted client.now procedures.Pop self.old.pop.marks state.now }
+        ensures push_refused { self.new.refused.push ≡ refused_noted procedures.Push self.old.refused.push state.now }
+        ensures pop_refused { self.new.refused.pop ≡ refused_noted procedures.Pop self.old.refused.pop state.now }
+        ensures most { self.new.most_items ≡ self.old.most_items }
+    {
         let history = state.history.threads();
         self.note_threads(client, state, state.threads.as_slice(), history);
         note_calls(&mut self.threads, history);

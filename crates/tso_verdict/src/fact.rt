@@ -1,23 +1,23 @@
 //! What is said of a certificate's records.
 
 ghost use Rattle.std.specs.Prelude.{◌≡◌, IfOk};
-ghost use Rattle.tso_cert.specs.Lookup.{tree_states};
-ghost use Rattle.tso_cert.specs.Trees.{records_of, tree_of};
-ghost use Rattle.tso_verdict.specs.Calls.{refused_in};
-ghost use Rattle.tso_verdict.specs.Levels.{most_in};
-ghost use Rattle.tso_flow.specs.declared.location.ProcedureKind.TheVariants as procedures;
-ghost use Rattle.tso_rec.specs.Records.{ends_of};
+ghost use Rattle.tso_cert.specs.Trees.{tree_of};
+ghost use Rattle.tso_verdict.specs.Counted.{IsToldIn};
 
+use crate::between::counted_in;
 use crate::call::{Reach, Reached};
-use crate::coverage::{Coverage, Refused, counted};
+use crate::coverage::{Coverage, Refused};
 use crate::mark::{Mark, Marks};
 use std::alloc::{AllocError, Global};
 use std::fmt;
 use tso_cert::Cert;
+use tso_flow::Checked;
+use tso_foot::Table;
 use tso_line::CallKind;
 use tso_list::Seq;
 use tso_machine::calls_of;
 use tso_prog::{Array, Client, Procedure};
+use tso_rec::Grain;
 use tso_survey::{LineShown, Shown};
 
 /// An instruction by its line, with what records show of it.
@@ -59,6 +59,8 @@ impl fmt::Display for ReachedCall {
 /// What is said of a certificate's records.
 #[derive(Drop)]
 pub struct Facts {
+    /// Of crossings the states between records are counted too.
+    pub grain: Grain,
     pub records: u64,
     /// How many records have an order of the calls.
     pub ends: u64,
@@ -177,14 +179,21 @@ fn lines_shown(alloc: Global, lines: &[LineMark]) -> Result<Vec<LineShown>, Allo
 }
 
 impl Facts {
-    /// What was counted of a client's records.
+    /// What was counted of a certificate of this grain of a client.
     ///
     /// Errors: where a growth was refused.
-    pub fn of(alloc: Global, client: &Client, coverage: &Coverage) -> Result<Facts, AllocError>
+    pub fn of(
+        alloc: Global,
+        client: &Client,
+        grain: Grain,
+        coverage: &Coverage,
+    ) -> Result<Facts, AllocError>
+        ensures grain { IfOk result (λ facts. facts.grain ≡ grain) }
         ensures refused { IfOk result (λ facts. facts.refused ≡ coverage.now.refused) }
         ensures most { IfOk result (λ facts. facts.most_items ≡ coverage.now.most_items) }
     {
         Ok(Facts {
+            grain,
             records: coverage.records,
             ends: coverage.ends,
             lines: lines_of(alloc, client, coverage)?,
@@ -195,16 +204,20 @@ impl Facts {
         })
     }
 
-    /// What the records of a certificate show.
+    /// What a certificate of this grain shows, whose table this is.
     ///
     /// Errors: where a growth was refused.
-    pub fn counted(alloc: Global, client: &Client, cert: &Cert) -> Result<Facts, AllocError>
-        ensures push { IfOk result (λ facts. facts.refused.push ≡ refused_in procedures.Push (tree_states (tree_of cert.now))) }
-        ensures pop { IfOk result (λ facts. facts.refused.pop ≡ refused_in procedures.Pop (tree_states (tree_of cert.now))) }
-        ensures most { IfOk result (λ facts. facts.most_items ≡ most_in (ends_of (records_of (tree_of cert.now)))) }
+    pub fn counted(
+        alloc: Global,
+        checked: &Checked,
+        grain: Grain,
+        table: &Table,
+        cert: &Cert,
+    ) -> Result<Facts, AllocError>
+        ensures { IfOk result (IsToldIn checked.now.client grain table.now (tree_of cert.now)) }
     {
-        let coverage = counted(alloc, client, cert)?;
-        Facts::of(alloc, client, &coverage)
+        let coverage = counted_in(alloc, checked, grain, table, cert)?;
+        Facts::of(alloc, &checked.client, grain, &coverage)
     }
 
     /// The same as a survey adds it up over clients: without how far this client's calls come.
@@ -212,6 +225,7 @@ impl Facts {
     /// Errors: where an allocation failed.
     pub fn shown(self, alloc: Global) -> Result<Shown, AllocError> {
         let Facts {
+            grain: _grain,
             records,
             ends: _ends,
             lines,

@@ -4,6 +4,7 @@
 #![tactic(auto)]
 
 mod alone;
+mod between;
 mod call;
 mod checking;
 mod collecting;
@@ -18,6 +19,7 @@ mod source;
 mod talk;
 
 pub use alone::{run_check, run_check_process};
+pub use between::{counted_between, counted_in};
 pub use call::Reach;
 pub use checking::{
     ABOUT, CERT, Check, check_arguments, check_bytes, check_of, put_verdict, verdict_on,

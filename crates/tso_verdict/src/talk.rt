@@ -4,6 +4,7 @@ use crate::call::Reach;
 use crate::fact::{Facts, LineMark, ReachedCall};
 use crate::mark::Mark;
 use std::alloc::{AllocError, Global};
+use tso_rec::Grain;
 
 // Adds a word behind those before it, the first of them behind `head`.
 fn put_item(text: &mut String, head: &str, is_first: bool, item: String) -> Result<(), AllocError> {
@@ -74,12 +75,27 @@ fn rounds(names: &[String]) -> &'static str {
     }
 }
 
+// Over what was counted.
+fn counted_over(alloc: Global, facts: &Facts) -> Result<String, AllocError> {
+    let records = facts.records;
+    match facts.grain {
+        Grain::Steps => {
+            format!(in alloc; "Counted over the {records} records, and not proved:\n")
+        }
+        Grain::Crossings => {
+            format!(in alloc;
+                "Counted over the {records} records and the states between them, and not proved:\n"
+            )
+        }
+    }
+}
+
 /// The facts in words.
 ///
 /// Errors: where a growth was refused.
 pub fn told(alloc: Global, facts: &Facts) -> Result<String, AllocError> {
-    let (records, most) = (facts.records, facts.most_items);
-    let mut text = format!(in alloc; "Counted over the {records} records, and not proved:\n")?;
+    let most = facts.most_items;
+    let mut text = counted_over(alloc, facts)?;
     put_lines(
         alloc,
         &mut text,

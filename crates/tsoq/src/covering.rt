@@ -8,38 +8,25 @@ use crate::people::tell_outside;
 use std::alloc::Global;
 use std::sync::Wait;
 use std::thread::Threads;
-use tso_cert::{Cert, decode};
+use tso_cert::decode;
 use tso_check::Verdict;
 use tso_client::checked_of;
 use tso_flow::Checked;
 use tso_front::{Failure, Session, misused};
 use tso_load::read_certificate;
-use tso_rec::Grain;
 use tso_request::Covering;
 use tso_verdict::{Check, Facts, facts_object, listed, marked, put_verdict, told, verdict_on};
 
-// What lies between its records is not counted.
-const CROSSINGS: &str =
-    "CERT is one of crossings: coverage counts the records of certificates that begin with TSOC\n";
-
 const PLAIN: &str = "--json has the marks of all lines, and goes without --source\n";
-
-// What the records of a tree of this client show, where each state that is reached has one.
-fn facts_in(alloc: Global, checked: &Checked, grain: Grain, cert: &Cert) -> Result<Facts, Failure> {
-    match grain {
-        Grain::Steps => Ok(Facts::counted(alloc, &checked.client, cert)?),
-        Grain::Crossings => Err(misused(alloc, CROSSINGS)),
-    }
-}
 
 // What the records of a certificate of this client show.
 fn facts_with(alloc: Global, checked: &Checked, cert: &[u8]) -> Result<Facts, Failure> {
     match decode(alloc, cert) {
         Ok((basis, cert)) => {
-            let facts = facts_in(alloc, checked, basis.grain, &cert);
+            let facts = Facts::counted(alloc, checked, basis.grain, &basis.table, &cert);
             drop(basis);
             drop(cert);
-            facts
+            Ok(facts?)
         }
         Err(_) => Err(Failure::Memory),
     }

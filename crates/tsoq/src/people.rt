@@ -16,7 +16,7 @@ use tso_machine::{Label, LabelKind, calls_of};
 use tso_prog::{Client, Fault};
 use tso_rec::Grain;
 use tso_replay::{Texts, tell_cause};
-use tso_request::{Asked, MOST_STATES, StateLimit};
+use tso_request::{Asked, Form, MOST_STATES, StateLimit};
 use tso_say::{Page, put_hidden, put_meaning, put_program, put_trace};
 use tso_survey::{Undecided, Why};
 use tso_trace::{TraceFault, labels_of};
@@ -24,6 +24,10 @@ use tso_trace::{TraceFault, labels_of};
 // What may be wrong where a certificate or a trace does not fit the client.
 const OTHER_CLIENT: &str =
     "Was it made with `--client`, `--before` or `--mode`? Then it is of that client, and not of the text's own: give the same words here.\n";
+
+// What may help where states are not crossings.
+const CROSSINGS: &str =
+    "`--form 3` meets far fewer states of the same client: those at which no actor may go alone.\n";
 
 // The files of a command: the program, and the other one.
 #[derive(Clone, Copy)]
@@ -197,12 +201,26 @@ pub fn tell<S: Session>(session: &mut S, asked: &Asked<'_>, texts: &Texts, failu
     }
 }
 
+// That crossings are fewer, where the search of this form met each state.
+fn put_form(page: &mut Page, form: Form) -> Result<(), AllocError> {
+    match form {
+        Form::Arrays | Form::Intervals => page.say(CROSSINGS),
+        Form::Crossings => Ok(()),
+    }
+}
+
 // That so many states were met, and what may help.
-fn put_limit(alloc: Global, page: &mut Page, limit: StateLimit) -> Result<(), AllocError> {
+fn put_limit(
+    alloc: Global,
+    page: &mut Page,
+    limit: StateLimit,
+    form: Form,
+) -> Result<(), AllocError> {
     let states = limit.count();
     page.say(format!(in alloc;
         "{states} states were met and more can be reached. In those that were met nothing wrong was found.\n"
     )?.as_str())?;
+    put_form(page, form)?;
     page.say(
         "Fewer calls or threads have fewer states, and so have a shorter ring, smaller bounds, and calls in a prologue.\n",
     )?;
@@ -214,10 +232,10 @@ fn put_limit(alloc: Global, page: &mut Page, limit: StateLimit) -> Result<(), Al
     Ok(())
 }
 
-/// Says in words that a search met as many states as it may, and what may help.
-pub fn tell_limit<S: Session>(session: &mut S, limit: StateLimit) {
+/// Says in words that a search of this form met as many states as it may, and what may help.
+pub fn tell_limit<S: Session>(session: &mut S, limit: StateLimit, form: Form) {
     let mut page = Page::new(session.alloc());
-    if put_limit(session.alloc(), &mut page, limit).is_ok() {
+    if put_limit(session.alloc(), &mut page, limit, form).is_ok() {
         session.note(&page.bytes);
     }
 }
@@ -336,8 +354,14 @@ fn undecided_line(alloc: Global, client: &Undecided) -> Result<String, AllocErro
     }
 }
 
-// What may help where more states can be reached than a search may meet.
-fn put_more_states(alloc: Global, page: &mut Page, limit: StateLimit) -> Result<(), AllocError> {
+// What may help where more states can be reached than a search of this form may meet.
+fn put_more_states(
+    alloc: Global,
+    page: &mut Page,
+    limit: StateLimit,
+    form: Form,
+) -> Result<(), AllocError> {
+    put_form(page, form)?;
     if u64::from(limit.count()) < MOST_STATES {
         return page.say(format!(in alloc;
             "`--states N` allows more states, {MOST_STATES} at most, of some 300 bytes of memory each.\n"
@@ -354,12 +378,13 @@ fn put_help(
     page: &mut Page,
     undecided: &[Undecided],
     limit: StateLimit,
+    form: Form,
 ) -> Result<(), AllocError> {
     if undecided
         .iter()
         .any(|client| matches!(client.why, Why::Limit))
     {
-        put_more_states(alloc, page, limit)?;
+        put_more_states(alloc, page, limit, form)?;
     }
     if undecided
         .iter()
@@ -384,17 +409,23 @@ fn put_undecided(
     page: &mut Page,
     undecided: &[Undecided],
     limit: StateLimit,
+    form: Form,
 ) -> Result<(), AllocError> {
     for client in undecided {
         page.say(undecided_line(alloc, client)?.as_str())?;
     }
-    put_help(alloc, page, undecided, limit)
+    put_help(alloc, page, undecided, limit, form)
 }
 
 /// Says in words of which clients of a survey nothing follows, and what may help.
-pub fn tell_undecided<S: Session>(session: &mut S, undecided: &[Undecided], limit: StateLimit) {
+pub fn tell_undecided<S: Session>(
+    session: &mut S,
+    undecided: &[Undecided],
+    limit: StateLimit,
+    form: Form,
+) {
     let mut page = Page::new(session.alloc());
-    if put_undecided(session.alloc(), &mut page, undecided, limit).is_ok() {
+    if put_undecided(session.alloc(), &mut page, undecided, limit, form).is_ok() {
         session.note(&page.bytes);
     }
 }

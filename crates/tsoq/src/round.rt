@@ -90,13 +90,14 @@ fn spelled(
 fn shown(
     alloc: Global,
     checked: &Checked,
+    ground: &Ground,
     cert: &Cert,
     counts: bool,
 ) -> Result<Option<Shown>, Failure> {
     if !counts {
         return Ok(None);
     }
-    let facts = Facts::counted(alloc, &checked.client, cert)?;
+    let facts = Facts::counted(alloc, checked, ground.grain(), ground.table(), cert)?;
     let shown = facts.shown(alloc)?;
     Ok(Some(shown))
 }
@@ -109,7 +110,7 @@ fn made_of(
     cert: &Cert,
     wanted: Wanted,
 ) -> Result<(Option<Vec<u8>>, Option<Shown>), Failure> {
-    let shown = shown(alloc, checked, cert, wanted.counts)?;
+    let shown = shown(alloc, checked, ground, cert, wanted.counts)?;
     match spelled(alloc, checked, ground, cert, wanted) {
         Ok(bytes) => Ok((bytes, shown)),
         Err(failure) => {

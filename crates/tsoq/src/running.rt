@@ -216,7 +216,7 @@ fn end_at_limit<S: Session, L: Listener>(
         put_stats(session, watch, Sizes::met(states), begun)?;
     }
     if verbose {
-        tell_limit(session, asked.limit);
+        tell_limit(session, asked.limit, asked.form);
     }
     Ok(status)
 }

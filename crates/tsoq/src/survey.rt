@@ -176,7 +176,7 @@ fn tell_conclusion<R: Threads + Wait + Sync, S: Session>(
         let variant = violated.calls.variant(mode);
         tell_variant(rt, session, base, asked.limit, program, variant);
     }
-    tell_undecided(session, &conclusion.undecided, asked.limit);
+    tell_undecided(session, &conclusion.undecided, asked.limit, asked.form);
 }
 
 /// Surveys the clients of a program text: by what lies in a folder, where that is asked for, and else by searches. Where it is to

@@ -299,9 +299,9 @@ fn certified_last<F: Files>(
     made
 }
 
-// What the records of a certificate show, in words; none where memory is wanting.
-fn said_of(alloc: Global, checked: &Checked, cert: &Cert) -> Option<String> {
-    let facts = Facts::counted(alloc, &checked.client, cert).ok()?;
+// What a certificate shows, in words; none where memory is wanting.
+fn said_of(alloc: Global, checked: &Checked, ground: &Ground, cert: &Cert) -> Option<String> {
+    let facts = Facts::counted(alloc, checked, ground.grain(), ground.table(), cert).ok()?;
     told(alloc, &facts).ok()
 }
 
@@ -454,7 +454,7 @@ fn certified_told<R: Threads + Wait + Sync, F: Files>(
     ensures counted { IfOk result (λ made. bytes_of made.report ≡ count_of made.taken) }
 {
     let cert = tree_for(rt, alloc, checked, worked, search.workers)?;
-    let said = said_of(alloc, checked, &cert);
+    let said = said_of(alloc, checked, &worked.ground, &cert);
     let table = worked.ground.table();
     let made = certified_last(alloc, files, search.cert, search.form, checked, table, cert)?;
     let Certification {
@@ -469,7 +469,51 @@ fn certified_told<R: Threads + Wait + Sync, F: Files>(
     })
 }
 
-// With a tree of the records only where words are asked for, by steps: crossings are not counted for words.
+// What the tree of worked states shows, in words; none where memory is wanting. The tree is left to the system, as in `certified_last`.
+fn said_by<R: Threads + Wait + Sync>(
+    rt: &R,
+    alloc: Global,
+    checked: &Checked,
+    worked: &Worked<'_>,
+    workers: Workers,
+) -> Option<String>
+    requires worked { AreWorkedOut checked.now.client worked.now }
+{
+    let cert = tree_for(rt, alloc, checked, worked, workers).ok()?;
+    let said = said_of(alloc, checked, &worked.ground, &cert);
+    mem::forget(cert);
+    said
+}
+
+// The same by crossings: they are written, and then told.
+fn certified_crossed<R: Threads + Wait + Sync, F: Files>(
+    rt: &R,
+    alloc: Global,
+    files: &mut F,
+    search: &Search<'_>,
+    checked: &Checked,
+    worked: &Worked<'_>,
+) -> Result<Certification, Failure>
+    requires worked { AreWorkedOut checked.now.client worked.now }
+    requires grain { grain_of worked.now.ground ≡ grain_of_form search.now.form }
+    ensures good { IfOk result (λ made. IsAllGood search.now.form checked.now.client made.report made.taken) }
+    ensures asked { IfOk result (λ made. IsAsked (is_some search.now.cert) made.taken None) }
+    ensures counted { IfOk result (λ made. bytes_of made.report ≡ count_of made.taken) }
+{
+    let made = certified_worked(rt, alloc, files, search, checked, worked)?;
+    let Certification {
+        report,
+        taken,
+        said: _none,
+    } = made;
+    Ok(Certification {
+        report,
+        taken,
+        said: said_by(rt, alloc, checked, worked, search.workers),
+    })
+}
+
+// With a tree of the records only where words are asked for.
 fn certified_by<R: Threads + Wait + Sync, F: Files>(
     rt: &R,
     alloc: Global,
@@ -487,6 +531,9 @@ fn certified_by<R: Threads + Wait + Sync, F: Files>(
 {
     match &worked.ground {
         Ground::Steps(_) if verbose => { certified_told(rt, alloc, files, search, checked, worked) }
+        Ground::Crossings(_, _) if verbose => {
+            certified_crossed(rt, alloc, files, search, checked, worked)
+        }
         _ => certified_worked(rt, alloc, files, search, checked, worked),
     }
 }

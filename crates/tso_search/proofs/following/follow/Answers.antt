@@ -1,7 +1,10 @@
 use Rattle.std.proofs.Common.{◌∙◌, arith, sym, subst}
-use Rattle.tso_search.proofs.SearchLemmas.{IsNew, IsNewState, err_only, good_as, good_below, good_with, more_than, new_goes_on, new_is_later, new_is_next, new_is_within, new_state, stepped_new, stepped_nowhere, stepped_old, stop_at}
+use Rattle.tso_search.proofs.SearchLemmas.{IsNew, IsNewState, err_only, good_as, good_below, good_with, more_than, new_goes_on, new_is_later, new_is_next, new_is_within, new_state, one_stop_at, stepped_new, stepped_nowhere, stepped_old, stop_at}
 use Rattle.tso_search.specs.Searched.{IsStop}
 use Rattle.tso_search.proofs.following.follow.Goals as goal
+
+pub next_of-requires-clause-one_stop : goal.next_of-requires-clause-one_stop
+next_of-requires-clause-one_stop c = one_stop_at c.args.checked.now.client c.args.store.now.client c.args.ground.now c.args.store.now.states c.args.origins.now.items c.args.number c.requires.client c.requires.begun
 
 pub returns-in_default-clause-good : goal.returns-in_default-clause-good
 returns-in_default-clause-good c =

@@ -1,5 +1,5 @@
 use Rattle.tso_keys.proofs.Procedures.{running_grows}
-use Rattle.tso_store.proofs.Arrivals.{arrived, moved_kept}
+use Rattle.tso_store.proofs.Arrivals.{arrived, moved_kept, moved_stops}
 use Rattle.tso_store.proofs.Movements.{grows_on}
 use Rattle.tso_store.specs.Arriving.{IsMoveOf}
 use Rattle.tso_store.proofs.arrived.arrival_key.Goals as goal
@@ -8,6 +8,11 @@ pub arrive_key-requires-clause-kept : goal.arrive_key-requires-clause-kept
 arrive_key-requires-clause-kept c =
     let by : IsMoveOf c.args.checked.now.client c.args.own.now c.args.parts.now c.args.key.now c.args.actor c.move_key.new.parts c.in-Some.after = rw c.in-Some.is at c.in_ok-after.ensures.moves in
     moved_kept c.args.checked.now.client c.args.own.now c.args.parts.now c.move_key.new.parts c.args.key.now c.in-Some.after c.args.actor (c.move_key.ensures.grows.small c.requires.small) by
+
+pub arrive_key-requires-clause-one_stop : goal.arrive_key-requires-clause-one_stop
+arrive_key-requires-clause-one_stop c =
+    let by : IsMoveOf c.args.checked.now.client c.args.own.now c.args.parts.now c.args.key.now c.args.actor c.move_key.new.parts c.in-Some.after = rw c.in-Some.is at c.in_ok-after.ensures.moves in
+    moved_stops c.args.checked.now.client c.args.checked.now.no_fault c.args.own.now c.args.table.now c.args.parts.now c.move_key.new.parts c.args.key.now c.in-Some.after c.args.actor (c.move_key.ensures.grows.small c.requires.small) c.requires.one_stop by
 
 pub arrive_key-requires-clause-small : goal.arrive_key-requires-clause-small
 arrive_key-requires-clause-small c = c.move_key.ensures.grows.small c.requires.small

@@ -1,5 +1,5 @@
 use Rattle.tso_keys.proofs.Procedures.{running_grows}
-use Rattle.tso_move.specs.Runs.{StopsAt}
+use Rattle.tso_move.specs.Free.{HasNoFree}
 use Rattle.tso_keys.specs.Keys.{state_at}
 use Rattle.tso_store.proofs.Arrivals.{costs_less, goes_on, starts, stops_on}
 use Rattle.tso_store.proofs.Movements.{grows_on}
@@ -8,7 +8,7 @@ use Rattle.tso_store.proofs.arrived.arrive_key.Goals as goal
 
 pub run-init : goal.run-init
 run-init c = record {
-  way = starts c.args.checked.now.client c.args.own.now c.args.table.now c.args.parts.now c.args.key.now c.requires.kept;
+  way = starts c.args.checked.now.client c.args.own.now c.args.table.now c.args.parts.now c.args.key.now c.requires.kept c.requires.one_stop;
   known = c.requires.known;
 }
 
@@ -23,21 +23,21 @@ next_key-requires-clause-running c = running_grows c.args.parts.now.histories c.
 
 pub run-smaller : goal.run-smaller
 run-smaller c =
-    let by : IsNextOf c.args.checked.now.client c.args.own.now c.args.table.now c.run.parts c.run.last c.next_key.new.parts c.in-Some.next = rw c.in-Some.is at c.in_ok-next.ensures.next in
-    costs_less c.args.checked.now.client c.args.own.now c.args.table.now c.run.parts c.next_key.new.parts c.run.last (c.run.invariant.way.grows.small c.requires.small) c.next_key.ensures.grows c.in-Some.next by
+    let by : IsNextOf c.args.checked.now.client c.args.own.now c.args.table.now c.run.parts c.run.last c.next_key.new.parts c.in-Some.next.0 = rw c.in-Some.is at c.in_ok-next.ensures.next in
+    costs_less c.args.checked.now.client c.args.checked.now.no_fault c.args.own.now c.args.table.now c.run.parts c.next_key.new.parts c.run.last (c.run.invariant.way.grows.small c.requires.small) c.next_key.ensures.grows c.args.parts.now c.args.key.now c.in-Some.next.0 c.run.invariant.way by
 
 pub run-preserved : goal.run-preserved
 run-preserved c =
-    let by : IsNextOf c.args.checked.now.client c.args.own.now c.args.table.now c.run.parts c.run.last c.next_key.new.parts c.in-Some.next = rw c.in-Some.is at c.in_ok-next.ensures.next in
+    let by : IsNextOf c.args.checked.now.client c.args.own.now c.args.table.now c.run.parts c.run.last c.next_key.new.parts c.in-Some.next.0 = rw c.in-Some.is at c.in_ok-next.ensures.next in
     record {
-      way = goes_on c.args.checked.now.client c.args.own.now c.args.table.now c.run.parts c.next_key.new.parts c.run.last (c.run.invariant.way.grows.small c.requires.small) c.next_key.ensures.grows c.args.parts.now c.args.key.now c.in-Some.next c.run.invariant.way by;
+      way = goes_on c.args.checked.now.client c.args.checked.now.no_fault c.args.own.now c.args.table.now c.run.parts c.next_key.new.parts c.run.last (c.run.invariant.way.grows.small c.requires.small) c.next_key.ensures.grows c.args.parts.now c.args.key.now c.in-Some.next.0 c.run.invariant.way by;
       known = c.next_key.ensures.known;
     }
 
 pub returns-in-None-clause-stops : goal.returns-in-None-clause-stops
 returns-in-None-clause-stops c =
-    let stops : StopsAt c.args.checked.now.client c.args.own.now c.args.table.now (state_at c.run.parts c.run.last) = rw c.in-None.is at c.in_ok-next.ensures.next in
-    stops_on c.args.checked.now.client c.args.own.now c.args.table.now c.run.parts c.next_key.new.parts c.run.last (c.run.invariant.way.grows.small c.requires.small) c.next_key.ensures.grows c.args.parts.now c.args.key.now c.run.invariant.way stops
+    let stops : HasNoFree c.args.checked.now.client c.args.own.now c.args.table.now (state_at c.run.parts c.run.last) = rw c.in-None.is at c.in_ok-next.ensures.next in
+    stops_on c.args.checked.now.client c.args.checked.now.no_fault c.args.own.now c.args.table.now c.run.parts c.next_key.new.parts c.run.last (c.run.invariant.way.grows.small c.requires.small) c.next_key.ensures.grows c.args.parts.now c.args.key.now c.run.invariant.way stops
 
 pub returns-in-None-clause-grows : goal.returns-in-None-clause-grows
 returns-in-None-clause-grows c = grows_on c.args.parts.now c.run.parts c.next_key.new.parts c.run.invariant.way.grows c.next_key.ensures.grows

@@ -1,11 +1,17 @@
 use Rattle.std.proofs.Common.{ap, ◌∙◌, sym}
-use Rattle.tso_keys.specs.Keys.{states_at}
+use Rattle.tso_keys.specs.Keys.{state_at, states_at}
 use Rattle.tso_parts.proofs.Outcomes.{on_err}
 use Rattle.tso_store.proofs.Closing.{sheet_added, sheet_grows}
 use Rattle.tso_keys.proofs.Procedures.{running_grows}
-use Rattle.tso_keys.proofs.StateLemmas.{states_stay}
+use Rattle.tso_keys.proofs.StateLemmas.{state_got, states_stay}
+use Rattle.tso_store.specs.Arriving.{HasOneStopAt}
 use Rattle.tso_store.proofs.Stopping.{arrival, is_there, no_move_arrival}
 use Rattle.tso_store.proofs.numbered.Store.arrive.Goals as goal
+
+pub arrival_key-requires-clause-one_stop : goal.arrival_key-requires-clause-one_stop
+arrival_key-requires-clause-one_stop c =
+    let one : HasOneStopAt c.self.inside.checked.now.client c.args.own.now c.args.table.now (states_at c.self.inside.parts c.self.inside.keys) c.args.number = rw (← c.self.view_is) at c.requires.one_stop in
+    one (state_at c.self.inside.parts c.in-Some.from) (state_got c.self.inside.parts c.self.inside.keys c.args.number c.in-Some.from (sym c.in-Some.ensures))
 
 pub invariant_of-self : goal.invariant_of-self
 invariant_of-self c = sheet_grows c.self.inside.checked.now.client c.self.inside.parts c.arrival_key.new.parts c.self.inside.keys c.self.inside.known c.arrival_key.new.known c.self.inside.running c.self.inside.running c.self.invariant c.arrival_key.ensures.grows c.arrival_key.ensures.known (running_grows c.self.inside.parts.histories c.arrival_key.new.parts.histories c.self.inside.running c.arrival_key.ensures.grows.histories c.self.invariant.running)

@@ -1,6 +1,7 @@
-use Rattle.std.proofs.Common.{ap, ◌∙◌}
+use Rattle.std.proofs.Common.{ap, ◌∙◌, sym, subst}
+use Rattle.tso_confluence.specs.Stops.{HasOneStop}
 use Rattle.tso_keys.proofs.Procedures.{running_grows}
-use Rattle.tso_keys.proofs.StateLemmas.{kept_of, states_stay}
+use Rattle.tso_keys.proofs.StateLemmas.{kept_of, key_state, states_stay}
 use Rattle.tso_keys.specs.Keys.{states_at}
 use Rattle.tso_parts.proofs.Outcomes.{on_err}
 use Rattle.tso_store.proofs.Closing.{sheet_added, sheet_stays, sheet_walked, still_known}
@@ -18,6 +19,11 @@ pub arrive_key-requires-clause-kept : goal.arrive_key-requires-clause-kept
 arrive_key-requires-clause-kept c =
     let fits = c.fits_client.ensures.fits.0 (search (c.if-not-fits_client.false)) in
     kept_of c.self.inside.checked.now.client c.key_of.new.parts c.in_ok-start.start c.args.state.now (c.key_of.ensures.grows.small c.self.invariant.small) c.in_ok-start.ensures.key fits
+
+pub arrive_key-requires-clause-one_stop : goal.arrive_key-requires-clause-one_stop
+arrive_key-requires-clause-one_stop c =
+    let one : HasOneStop c.self.inside.checked.now.client c.args.own.now c.args.table.now c.args.state.now = rw (← c.self.view_is) at c.requires.one_stop in
+    subst (HasOneStop c.self.inside.checked.now.client c.args.own.now c.args.table.now) (sym (key_state c.key_of.new.parts c.in_ok-start.start c.args.state.now (c.key_of.ensures.grows.small c.self.invariant.small) c.in_ok-start.ensures.key)) one
 
 pub arrive_key-requires-clause-small : goal.arrive_key-requires-clause-small
 arrive_key-requires-clause-small c = c.key_of.ensures.grows.small c.self.invariant.small
